@@ -1,0 +1,5 @@
+//! Laws of the integers that the geometry cites: products and their signs, identities, divisors.
+//!
+//! The laws stand in `proofs/`, each once: `Ring` (identities over the integers, by differences of naturals), `Signs`
+//! (signs of products and sums) and `Divisors` (greatest common divisors, lowest terms).
+#![tactic(auto)]
