@@ -1,0 +1,26 @@
+//! Laws of plans: what follows from the definitions of plans, their acceptance, refusals and edits, for every plan.
+//!
+//! A law is a function without parameters and with an empty body, whose contract states it.
+//!
+//! | law | what it says |
+//! |---|---|
+//! | [`adding_an_item`] | an item is refused exactly where the plan with it would not be sound |
+//!
+//! Proofs of code cite the laws by the lemmas in `proofs/`, which state them kind by kind.
+#![tactic(auto)]
+
+ghost use Rattle.std.specs.Prelude.{◌≡◌, ◌&&◌, List, is_none};
+ghost use Rattle.plane_spec.specs.declared.Point.{Point};
+ghost use Rattle.plan_spec.specs.declared.kinds.Item.{Item};
+ghost use Rattle.plan_spec.specs.declared.kinds.Item.TheVariants.{Outer};
+ghost use Rattle.plan_spec.specs.Plan.{Plan, empty_plan, with_item};
+ghost use Rattle.plan_spec.specs.Accepted.{is_sound};
+ghost use Rattle.plan_spec.specs.Refusals.{why_not_item};
+ghost use Rattle.plan_laws.specs.Order.{may_follow};
+
+/// An item may follow and leaves a sound plan exactly where the plan is sound and nothing refuses the item. The outer
+/// polygon by itself is a sound plan exactly where nothing refuses it on the empty plan.
+pub fn adding_an_item()
+    ensures item { (p : Plan) (i : Item) → (may_follow p i && is_sound (with_item p i)) ≡ (is_sound p && is_none (why_not_item p i)) }
+    ensures outer { (points : List Point) → is_sound (with_item empty_plan (Outer points)) ≡ is_none (why_not_item empty_plan (Outer points)) }
+{}
