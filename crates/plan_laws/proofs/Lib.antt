@@ -2,3 +2,4 @@ pub mod Tests
 pub mod Lists
 pub mod Pairs
 pub mod Adding
+pub mod Checking
