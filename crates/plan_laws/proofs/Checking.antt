@@ -16,7 +16,7 @@ use Rattle.plan_spec.specs.Accepted.{is_outer, is_grid, are_in_order, is_sound, 
 use Rattle.plan_spec.specs.Refusals.{why_not_item, why_not_grid, why_not_outer, why_not_obstacle, why_not_screen, why_not_route, refused_at, checked_from, checked}
 use Rattle.plan_laws.specs.Order.{may_follow}
 use Rattle.plan_laws.proofs.Tests.{and_true}
-use Rattle.plan_laws.proofs.Adding.Causes.{sound_has_outer}
+use Rattle.plan_laws.proofs.Adding.Causes.{outer_test_drops}
 use Rattle.plan_laws.proofs.Adding.Items.{sound_with_item}
 use Rattle.plan_laws.proofs.Adding.Outers.{sound_with_outer}
 
@@ -97,7 +97,7 @@ ok_with_outer number p = ap is_ok (checked_at_end number p) ∙ step (has_outer 
 pub accepted_from : (number : ℕ) (p : Plan) (items : List Item)
     → (may_all_follow p items && is_sound (with_items p items)) ≡ (is_sound p && is_ok (checked_from number p items))
 unfolding may_all_follow with_items
-accepted_from number p [] = sym (ap (λ t. is_sound p && t) (ok_with_outer number p) ∙ (simp and_true at (sound_has_outer p true)))
+accepted_from number p [] = sym (ap (λ t. is_sound p && t) (ok_with_outer number p) ∙ (simp and_true at (outer_test_drops p true)))
 accepted_from number p (i ∷ items) =
     and_assoc (may_follow p i) (may_all_follow (with_item p i) items) (is_sound (with_items (with_item p i) items))
     ∙ ap (λ t. may_follow p i && t) (accepted_from (number + 1) (with_item p i) items)

@@ -72,9 +72,9 @@ polygon_has_points p = step p.outer
     step (x ∷ points) = refl
 
 -- a sound plan has an outer polygon
-pub sound_has_outer : (p : Plan) (t : Bool) → (is_sound p && (has_outer p && t)) ≡ (is_sound p && t)
+pub outer_test_drops : (p : Plan) (t : Bool) → (is_sound p && (has_outer p && t)) ≡ (is_sound p && t)
 unfolding is_sound
-sound_has_outer p t = step (is_polygon p.outer) _ _ (has_outer p) t (polygon_has_points p)
+outer_test_drops p t = step (is_polygon p.outer) _ _ (has_outer p) t (polygon_has_points p)
   where
     step : (a g r h t : Bool) → (h && a) ≡ a → (((a && g) && r) && (h && t)) ≡ (((a && g) && r) && t)
     step true g r true t e = refl
@@ -83,7 +83,7 @@ sound_has_outer p t = step (is_polygon p.outer) _ _ (has_outer p) t (polygon_has
 
 -- and isn't one where there is none
 pub no_outer_no_sound : (p : Plan) (t : Bool) → (is_sound p && (not (has_outer p) && t)) ≡ false
-no_outer_no_sound p t = step (is_sound p) (has_outer p) t (sound_has_outer p)
+no_outer_no_sound p t = step (is_sound p) (has_outer p) t (outer_test_drops p)
   where
     step : (s h t : Bool) → ((t : Bool) → (s && (h && t)) ≡ (s && t)) → (s && (not h && t)) ≡ false
     step false h t e = refl

@@ -8,7 +8,7 @@ use Rattle.plan_spec.specs.Plan.{Plan, with_grid, with_item, has_outer}
 use Rattle.plan_spec.specs.Accepted.{is_polygon, is_grid_in_range, is_grid_small, is_grid_sound, do_obstacles_stand, do_screens_stand, do_routes_stand, is_within_limits, is_sound}
 use Rattle.plan_spec.specs.Refusals.{why_not_grid}
 use Rattle.plan_laws.proofs.Tests.{and_left_comm, and_true, not_or}
-use Rattle.plan_laws.proofs.Adding.Causes.{none_after_test, sound_has_outer}
+use Rattle.plan_laws.proofs.Adding.Causes.{none_after_test, outer_test_drops}
 
 -- the grid passes each test for which it might be refused
 pub fits_as_grid : (p : Plan) (g : GridSpec)
@@ -51,5 +51,5 @@ pub sound_with_grid : (p : Plan) (g : GridSpec)
     → (is_none p.grid && is_sound (with_item p (Grid g))) ≡ (is_sound p && is_none (why_not_grid p g))
 unfolding is_sound with_item
 sound_with_grid p g =
-    rw (fits_as_grid p g, sound_has_outer, obstacles_with_grid p (Some g), screens_with_grid p (Some g), routes_with_grid p (Some g), limits_with_grid p (Some g))
+    rw (fits_as_grid p g, outer_test_drops, obstacles_with_grid p (Some g), screens_with_grid p (Some g), routes_with_grid p (Some g), limits_with_grid p (Some g))
     (by_grid p.grid (is_polygon p.outer) ((do_obstacles_stand p && do_screens_stand p) && (do_routes_stand p && is_within_limits p)) (is_grid_in_range g) (is_grid_small g))

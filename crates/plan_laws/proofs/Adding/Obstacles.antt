@@ -13,7 +13,7 @@ use Rattle.plan_spec.specs.Refusals.{why_not_obstacle}
 use Rattle.plan_laws.proofs.Tests.{and_left_comm, not_or, and_true}
 use Rattle.plan_laws.proofs.Lists.{list_all_push, list_any_push, list_all_and, list_all_not, list_all_agree}
 use Rattle.plan_laws.proofs.Pairs.{each_two_push}
-use Rattle.plan_laws.proofs.Adding.Causes.{none_after_test, none_after_obstacles, none_after_screens, not_below, sound_has_outer}
+use Rattle.plan_laws.proofs.Adding.Causes.{none_after_test, none_after_obstacles, none_after_screens, not_below, outer_test_drops}
 use Rattle.plan_laws.proofs.Adding.Limits.{limits_with_obstacle}
 
 -- one more obstacle stands where it is a polygon within the outer one, meets no other, and has a name of its own
@@ -87,4 +87,4 @@ pub sound_with_obstacle : (p : Plan) (name : List ℕ) (points : List Point)
     → is_sound (with_item p (ObstacleItem name points)) ≡ (is_sound p && is_none (why_not_obstacle p name points))
 unfolding is_sound with_item
 sound_with_obstacle p name points =
-    rw (fits_as_obstacle p name points, sound_has_outer, obstacles_with_obstacle p name points, screens_with_obstacle p name points, routes_with_obstacles p (p.obstacles ++ obstacle name points ∷ []), limits_with_obstacle p name points, new_tests_last)
+    rw (fits_as_obstacle p name points, outer_test_drops, obstacles_with_obstacle p name points, screens_with_obstacle p name points, routes_with_obstacles p (p.obstacles ++ obstacle name points ∷ []), limits_with_obstacle p name points, new_tests_last)

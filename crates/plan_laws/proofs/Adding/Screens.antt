@@ -14,7 +14,7 @@ use Rattle.plan_spec.specs.Refusals.{why_not_screen}
 use Rattle.plan_laws.proofs.Tests.{and_left_comm, and_true}
 use Rattle.plan_laws.proofs.Lists.{list_all_push, list_all_and, list_all_not}
 use Rattle.plan_laws.proofs.Pairs.{each_two_push}
-use Rattle.plan_laws.proofs.Adding.Causes.{none_after_test, none_after_obstacles, none_after_screens, sound_has_outer}
+use Rattle.plan_laws.proofs.Adding.Causes.{none_after_test, none_after_obstacles, none_after_screens, outer_test_drops}
 use Rattle.plan_laws.proofs.Adding.Limits.{limits_with_screen}
 
 -- each screen stands apart from a new one where it touches none of them and has a name of its own
@@ -74,4 +74,4 @@ pub sound_with_screen : (p : Plan) (name : List ℕ) (from to : Point)
     → is_sound (with_item p (ScreenItem name from to)) ≡ (is_sound p && is_none (why_not_screen p name from to))
 unfolding is_sound with_item
 sound_with_screen p name from to =
-    rw (fits_as_screen p name from to, sound_has_outer, obstacles_with_screens p name from to, screens_with_screen p name from to, routes_with_screens p name from to, limits_with_screen p name from to, new_tests_last)
+    rw (fits_as_screen p name from to, outer_test_drops, obstacles_with_screens p name from to, screens_with_screen p name from to, routes_with_screens p name from to, limits_with_screen p name from to, new_tests_last)
