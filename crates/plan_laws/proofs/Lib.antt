@@ -6,3 +6,4 @@ pub mod Checking
 pub mod Parts
 pub mod Ranges
 pub mod Grids
+pub mod Shifts

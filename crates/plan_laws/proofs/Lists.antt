@@ -1,7 +1,8 @@
 -- Tests of every element, of any element, and what passes a test, over lists with one more element.
-use Rattle.std.specs.Prelude.{◌≡◌, Bool, true, false, not, ◌&&◌, ◌||◌, List, [], ◌∷◌, ◌++◌, filter}
+use Rattle.std.specs.Prelude.{◌≡◌, ◌+◌, Bool, true, false, not, cond, ◌&&◌, ◌||◌, List, [], ◌∷◌, ◌++◌, map, filter, count_by}
 use Rattle.std.specs.List.{list_all, list_any}
-use Rattle.std.proofs.Common.{refl, arith}
+use Rattle.std.proofs.Common.{refl, ap, arith}
+use Rattle.std.proofs.lemmas.List.Folds.{fold-map}
 use Rattle.std.proofs.Math.Bool.{and_assoc}
 use Rattle.plan_laws.proofs.Tests.{and_left_comm}
 
@@ -42,3 +43,14 @@ list_all_filter p q (x ∷ xs) h = grind (arith, list_all_filter p q xs)
 pub list_all_agree : {X : Type 0} (p q : X → Bool) → ((x : X) → p x ≡ q x) → (xs : List X) → list_all p xs ≡ list_all q xs
 list_all_agree p q h [] = refl
 list_all_agree p q h (x ∷ xs) = rw (h x, list_all_agree p q h xs)
+
+pub list_any_map : {X Y : Type 0} (p : Y → Bool) (h : X → Y) (xs : List X) → list_any p (map h xs) ≡ list_any (λ x. p (h x)) xs
+list_any_map p h [] = refl
+list_any_map p h (x ∷ xs) = ap (λ t. p (h x) || t) (list_any_map p h xs)
+
+pub list_any_agree : {X : Type 0} (p q : X → Bool) → ((x : X) → p x ≡ q x) → (xs : List X) → list_any p xs ≡ list_any q xs
+list_any_agree p q h [] = refl
+list_any_agree p q h (x ∷ xs) = rw (h x, list_any_agree p q h xs)
+
+pub count_map : {X Y : Type 0} (p : Y → Bool) (h : X → Y) (xs : List X) → count_by p (map h xs) ≡ count_by (λ x. p (h x)) xs
+count_map p h xs = fold-map (λ n y. n + cond (p y) 1 0) h 0 xs
