@@ -19,3 +19,9 @@ not_or false b = refl
 pub and_true : (a : Bool) → (a && true) ≡ a
 and_true true = refl
 and_true false = refl
+
+pub or_left_comm : (a b c : Bool) → (a || (b || c)) ≡ (b || (a || c))
+or_left_comm true true c = refl
+or_left_comm true false c = refl
+or_left_comm false true c = refl
+or_left_comm false false c = refl

@@ -7,21 +7,25 @@
 //! | [`adding_an_item`] | an item is refused exactly where the plan with it would not be sound |
 //! | [`checking_items`] | adding items one after the other accepts what the condition on the whole list accepts |
 //! | [`the_ranges_of_a_sound_plan`] | its points are in range, and no limit is passed |
+//! | [`editing_a_sound_plan`] | an edit is refused exactly where it names nothing or the plan after it would not be sound |
 //!
 //! Proofs of code cite the laws by the lemmas in `proofs/`, which state them kind by kind.
 #![tactic(auto)]
 
-ghost use Rattle.std.specs.Prelude.{◌*◌, ◌≤◌, IfSome, Some, length, unsigned_abs, ◌≡◌, ◌&&◌, List, Ok, true, is_none, is_ok};
+ghost use Rattle.std.specs.Prelude.{None, ◌*◌, ◌≤◌, IfSome, Some, length, unsigned_abs, ◌≡◌, ◌&&◌, List, Ok, true, is_none, is_ok};
 ghost use Rattle.std.specs.List.{All};
 ghost use Rattle.plane_spec.specs.declared.Point.{Point};
 ghost use Rattle.plane_spec.specs.Vectors.{InRange};
+ghost use Rattle.plan_spec.specs.declared.changes.Edit.{Edit};
 ghost use Rattle.plan_spec.specs.declared.kinds.GridSpec.{GridSpec};
 ghost use Rattle.plan_spec.specs.declared.kinds.Item.{Item};
 ghost use Rattle.plan_spec.specs.declared.kinds.Item.TheVariants.{Outer};
 ghost use Rattle.plan_spec.specs.Plan.{Plan, empty_plan, has_outer, with_item, with_items};
 ghost use Rattle.plan_spec.specs.Accepted.{is_accepted, is_sound};
 ghost use Rattle.plan_spec.specs.Refusals.{checked, why_not_item};
+ghost use Rattle.plan_spec.specs.Edits.{edited, why_not_edit};
 ghost use Rattle.plan_spec.specs.Grid.{grid_points};
+ghost use Rattle.plan_laws.specs.Named.{is_there};
 ghost use Rattle.plan_laws.specs.Order.{may_follow};
 ghost use Rattle.plan_laws.specs.Ranges.{IsGridInRange, IsLineInRange, IsPolygonInRange, IsWithinLimits};
 
@@ -53,4 +57,11 @@ pub fn the_ranges_of_a_sound_plan()
     ensures grid_points_in_range { (p : Plan) → is_sound p ≡ true → All InRange (grid_points p.grid) }
     ensures grid_points_few { (p : Plan) → is_sound p ≡ true → length (grid_points p.grid) ≤ 4096 }
     ensures grid_points_count { (g : GridSpec) → length (grid_points (Some g)) ≡ unsigned_abs g.cols * unsigned_abs g.rows }
+{}
+
+/// An edit of a sound plan is refused exactly where what it removes or moves isn't there, or the plan after it would not be
+/// sound. So an edit that isn't refused leaves a sound plan.
+pub fn editing_a_sound_plan()
+    ensures refused { (p : Plan) (e : Edit) → is_sound p ≡ true → is_none (why_not_edit p e) ≡ (is_there p e && is_sound (edited p e)) }
+    ensures sound { (p : Plan) (e : Edit) → is_sound p ≡ true → why_not_edit p e ≡ None → is_sound (edited p e) ≡ true }
 {}
