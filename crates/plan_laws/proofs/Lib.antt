@@ -10,3 +10,4 @@ pub mod Shifts
 pub mod Meeting
 pub mod Names
 pub mod Edits
+pub mod Again

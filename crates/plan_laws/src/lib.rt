@@ -8,6 +8,7 @@
 //! | [`checking_items`] | adding items one after the other accepts what the condition on the whole list accepts |
 //! | [`the_ranges_of_a_sound_plan`] | its points are in range, and no limit is passed |
 //! | [`editing_a_sound_plan`] | an edit is refused exactly where it names nothing or the plan after it would not be sound |
+//! | [`the_items_of_a_plan`] | the items of a sound plan are accepted and make that plan again |
 //!
 //! Proofs of code cite the laws by the lemmas in `proofs/`, which state them kind by kind.
 #![tactic(auto)]
@@ -20,7 +21,7 @@ ghost use Rattle.plan_spec.specs.declared.changes.Edit.{Edit};
 ghost use Rattle.plan_spec.specs.declared.kinds.GridSpec.{GridSpec};
 ghost use Rattle.plan_spec.specs.declared.kinds.Item.{Item};
 ghost use Rattle.plan_spec.specs.declared.kinds.Item.TheVariants.{Outer};
-ghost use Rattle.plan_spec.specs.Plan.{Plan, empty_plan, has_outer, with_item, with_items};
+ghost use Rattle.plan_spec.specs.Plan.{Plan, empty_plan, has_outer, items_of, with_item, with_items};
 ghost use Rattle.plan_spec.specs.Accepted.{is_accepted, is_sound};
 ghost use Rattle.plan_spec.specs.Refusals.{checked, why_not_item};
 ghost use Rattle.plan_spec.specs.Edits.{edited, why_not_edit};
@@ -65,3 +66,12 @@ pub fn editing_a_sound_plan()
     ensures refused { (p : Plan) (e : Edit) → is_sound p ≡ true → is_none (why_not_edit p e) ≡ (is_there p e && is_sound (edited p e)) }
     ensures sound { (p : Plan) (e : Edit) → is_sound p ≡ true → why_not_edit p e ≡ None → is_sound (edited p e) ≡ true }
 {}
+
+/// The items of any plan make that plan. They are accepted exactly where the plan is sound, and then checking them gives the
+/// plan again.
+pub fn the_items_of_a_plan()
+    ensures make { (p : Plan) → with_items empty_plan (items_of p) ≡ p }
+    ensures accepted { (p : Plan) → is_accepted (items_of p) ≡ is_sound p }
+    ensures again { (p : Plan) → is_sound p ≡ true → checked (items_of p) ≡ Ok p }
+{
+}

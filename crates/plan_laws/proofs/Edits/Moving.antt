@@ -3,7 +3,7 @@ use Rattle.std.specs.Prelude.{◌≡◌, ℕ, ◌+◌, nat_le, Bool, true, false
 use Rattle.std.specs.List.{list_all, list_any, sum_by, flat_map}
 use Rattle.std.specs.Str.{bytes_eq}
 use Rattle.std.proofs.Common.{sym, ap, ◌∙◌}
-use Rattle.std.proofs.Math.Bool.{and_assoc}
+use Rattle.std.proofs.Math.Bool.{and_assoc, and-true}
 use Rattle.std.proofs.lemmas.Bool.{and_parts}
 use Rattle.std.proofs.lemmas.List.{length-append, length-map, map-append, append-nil}
 use Rattle.std.proofs.lemmas.List.Elements.{filter-append}
@@ -16,7 +16,7 @@ use Rattle.plan_spec.specs.declared.kinds.Screen.{Screen}
 use Rattle.plan_spec.specs.Plan.{Obstacle, Plan, obstacle, with_obstacles, corners_of_obstacle_count, is_obstacle_named}
 use Rattle.plan_spec.specs.Accepted.{each_two, is_polygon, lies_within, polygons_meet, line_meets_polygon, obstacles_apart, do_obstacles_stand, do_screens_stand, do_routes_stand, is_within_limits, is_sound}
 use Rattle.plan_spec.specs.Edits.{shifted_point, shifted_obstacle, points_named, without_obstacle}
-use Rattle.plan_laws.proofs.Tests.{and_true, not_or}
+use Rattle.plan_laws.proofs.Tests.{not_or}
 use Rattle.plan_laws.proofs.Lists.{list_all_middle, list_any_middle, list_all_and, list_all_not, list_all_agree, list_any_agree, filter_none, filter_not_none, map_none}
 use Rattle.plan_laws.proofs.Pairs.{each_two_middle}
 use Rattle.plan_laws.proofs.Shifts.{repeat_shifted, crosses_shifted}
@@ -31,7 +31,7 @@ apart_from_before : (before : List Obstacle) (name : List ℕ) (points : List Po
 apart_from_before before name points names =
     list_all_and (λ x. not (polygons_meet x.points points)) (λ x. not (bytes_eq x.name name)) before
     ∙ ap (λ t. list_all (λ x. not (polygons_meet x.points points)) before && t) names
-    ∙ and_true (list_all (λ x. not (polygons_meet x.points points)) before)
+    ∙ and-true (list_all (λ x. not (polygons_meet x.points points)) before)
     ∙ list_all_not (λ x. polygons_meet x.points points) before
 
 apart_from_after : (name : List ℕ) (points : List Point) (after : List Obstacle)
@@ -40,7 +40,7 @@ apart_from_after : (name : List ℕ) (points : List Point) (after : List Obstacl
 apart_from_after name points after names =
     list_all_and (λ x. not (polygons_meet points x.points)) (λ x. not (bytes_eq name x.name)) after
     ∙ ap (λ t. list_all (λ x. not (polygons_meet points x.points)) after && t) names
-    ∙ and_true (list_all (λ x. not (polygons_meet points x.points)) after)
+    ∙ and-true (list_all (λ x. not (polygons_meet points x.points)) after)
     ∙ list_all_not (λ x. polygons_meet points x.points) after
     ∙ ap not (list_any_agree (λ x. polygons_meet points x.points) (λ x. polygons_meet x.points points) (λ x. meeting_turned points x.points) after)
 
@@ -107,8 +107,8 @@ module _ (p : Plan) (before : List Obstacle) (o : Obstacle) (after : List Obstac
         polygons.1,
         apart.1,
         apart_from_rest before o.name points after names_before names_after,
-        and_true (polygon (obstacle o.name points)),
-        and_true (not meets_another),
+        and-true (polygon (obstacle o.name points)),
+        and-true (not meets_another),
       )
 
   screens_with_other_points : do_screens_stand old ≡ true → do_screens_stand new ≡ not meets_a_screen
@@ -117,7 +117,7 @@ module _ (p : Plan) (before : List Obstacle) (o : Obstacle) (after : List Obstac
       let parts = parts_of_screens old h in
       let clear = and_parts (not (list_any (λ s. line_meets_polygon s.from s.to o.points) p.screens)) (list_all (λ s. not (list_any (λ x. line_meets_polygon s.from s.to x.points) (before ++ after))) p.screens)
       (sym (clear_of_middle p.screens before o after) ∙ parts.clear) in
-      rw (clear_of_middle p.screens before (obstacle o.name points) after, parts.lines, parts.apart, clear.1, and_true (not meets_a_screen), and_true (not meets_a_screen))
+      rw (clear_of_middle p.screens before (obstacle o.name points) after, parts.lines, parts.apart, clear.1, and-true (not meets_a_screen), and-true (not meets_a_screen))
 
   routes_with_other_points : do_routes_stand old ≡ true → do_routes_stand new ≡ true
   unfolding do_routes_stand
@@ -133,7 +133,7 @@ module _ (p : Plan) (before : List Obstacle) (o : Obstacle) (after : List Obstac
   unfolding is_sound
   sound_with_other_points h e =
       let parts = parts_of_sound old h in
-      rw (obstacles_with_other_points parts.obstacles, screens_with_other_points parts.screens, limits_with_other_points e, parts.outer, parts.grid, routes_with_other_points parts.routes, parts.limits, and_true)
+      rw (obstacles_with_other_points parts.obstacles, screens_with_other_points parts.screens, limits_with_other_points e, parts.outer, parts.grid, routes_with_other_points parts.routes, parts.limits, and-true)
       (and_assoc (is_polygon points && lies_within p.outer points) (not meets_another) (not meets_a_screen)
       ∙ and_assoc (is_polygon points) (lies_within p.outer points) (not meets_another && not meets_a_screen))
 
@@ -168,4 +168,4 @@ polygon_shifted dx dy points h =
     let rest = and_parts (list_all is_in_range points) (not (has_repeat points) && crosses_nowhere points) long.1 in
     let last = and_parts (not (has_repeat points)) (crosses_nowhere points) rest.1 in
     rw (length-map points (shifted_point dx dy), repeat_shifted dx dy points, crosses_shifted dx dy points, long.0, last.0, last.1)
-    (and_true (list_all is_in_range (map (shifted_point dx dy) points)))
+    (and-true (list_all is_in_range (map (shifted_point dx dy) points)))

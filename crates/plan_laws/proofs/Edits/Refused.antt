@@ -2,7 +2,7 @@
 use Rattle.std.specs.Prelude.{◌≡◌, ℕ, Bool, true, false, not, ◌&&◌, List, ◌∷◌, ◌++◌, map, ℤ, Some, None, is_none, if◌then◌else◌}
 use Rattle.std.specs.List.{list_all, list_any}
 use Rattle.std.proofs.Common.{refl, sym, ap, ap₂, ◌∙◌, arith}
-use Rattle.std.proofs.Math.Bool.{not-not}
+use Rattle.std.proofs.Math.Bool.{not-not, and-true}
 use Rattle.std.proofs.lemmas.Bool.{and_parts}
 use Rattle.std.proofs.lemmas.List.{length-map}
 use Rattle.plane_spec.specs.declared.Point.{Point}
@@ -15,7 +15,6 @@ use Rattle.plan_spec.specs.Plan.{Obstacle, Plan, with_obstacles, is_obstacle_nam
 use Rattle.plan_spec.specs.Accepted.{is_polygon, lies_within, polygons_meet, line_meets_polygon, is_sound}
 use Rattle.plan_spec.specs.Edits.{shifted_point, shifted_obstacle, points_named, without_obstacle, why_not_moved, why_not_edit, edited}
 use Rattle.plan_laws.specs.Named.{is_there}
-use Rattle.plan_laws.proofs.Tests.{and_true}
 use Rattle.plan_laws.proofs.Lists.{list_all_middle}
 use Rattle.plan_laws.proofs.Names.{NameSplit, split_at_name}
 use Rattle.plan_laws.proofs.Parts.{parts_of_sound, parts_of_obstacles}
@@ -33,7 +32,7 @@ fits_when_moved : (p : Plan) (name : List ℕ) (points : List Point)
     → is_none (why_not_moved p name points)
     ≡ (list_all is_in_range points && (lies_within p.outer points
     && (not (list_any (λ x. polygons_meet x.points points) (without_obstacle name p.obstacles)) && not (list_any (λ s. line_meets_polygon s.from s.to points) p.screens))))
-fits_when_moved p name points = simp (none_after_test, none_after_obstacles, none_after_screens, not-not, and_true)
+fits_when_moved p name points = simp (none_after_test, none_after_obstacles, none_after_screens, not-not, and-true)
 
 -- the tests that are left for the shifted polygon, beside the other obstacles
 fits : Plan → List Point → List Obstacle → Bool
