@@ -1,0 +1,3 @@
+pub mod Shapes
+pub mod PlanText
+pub mod ScriptText
