@@ -1,0 +1,6 @@
+mod Figures
+mod RefusalExamples
+mod SightExamples
+mod IsovistExamples
+mod GraphExamples
+mod RouteExamples
