@@ -1,2 +1,4 @@
 mod PlanExamples
 mod ScriptExamples
+mod OutputExamples
+mod Laws
