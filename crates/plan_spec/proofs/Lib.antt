@@ -1,4 +1,4 @@
-mod Figures
+pub mod Figures
 mod RefusalExamples
 mod SightExamples
 mod IsovistExamples
