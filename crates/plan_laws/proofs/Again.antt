@@ -1,5 +1,5 @@
 -- The items of a plan make that plan again.
-use Rattle.std.specs.Prelude.{◌≡◌, ℕ, Bool, true, false, ◌&&◌, List, [], ◌∷◌, ◌++◌, map, Option, Some, None, Ok}
+use Rattle.std.specs.Prelude.{◌≡◌, true, ◌&&◌, List, [], ◌∷◌, ◌++◌, map, Option, Some, None, Ok}
 use Rattle.std.proofs.Common.{refl, sym, ap, ◌∙◌}
 use Rattle.std.proofs.Math.Bool.{and_assoc}
 use Rattle.std.proofs.lemmas.Bool.{and_from}
@@ -9,7 +9,6 @@ use Rattle.plan_spec.specs.declared.kinds.GridSpec.{GridSpec}
 use Rattle.plan_spec.specs.declared.kinds.Screen.{Screen}
 use Rattle.plan_spec.specs.declared.kinds.Route.{Route}
 use Rattle.plan_spec.specs.declared.kinds.Item.{Item}
-use Rattle.plan_spec.specs.declared.kinds.Item.TheVariants.{Grid, Outer}
 use Rattle.plan_spec.specs.Plan.{Obstacle, Plan, empty_plan, with_outer, with_grid, with_obstacles, with_screens, with_routes, with_item, with_items, grid_items, obstacle_item, screen_item, route_item, items_of}
 use Rattle.plan_spec.specs.Accepted.{are_in_order, is_sound, is_accepted}
 use Rattle.plan_spec.specs.Refusals.{checked}
@@ -101,8 +100,8 @@ items_in_order p =
     let routes : List Item = map route_item p.routes in
     order_after_outer p.outer (grid_items p.grid ++ (obstacles ++ (screens ++ routes)))
     ∙ all_follow begun (grid_items p.grid) (obstacles ++ (screens ++ routes)) (grid_follows p.outer p.grid)
-        (λ q. all_follow q obstacles (screens ++ routes) (obstacles_follow q p.obstacles)
-            (λ q. all_follow q screens routes (screens_follow q p.screens) (λ q. routes_follow q p.routes)))
+    (λ q. all_follow q obstacles (screens ++ routes) (obstacles_follow q p.obstacles)
+    (λ q. all_follow q screens routes (screens_follow q p.screens) (λ q. routes_follow q p.routes)))
   where
     all_follow : (p : Plan) (items more : List Item) → may_all_follow p items ≡ true → ((q : Plan) → may_all_follow q more ≡ true) → may_all_follow p (items ++ more) ≡ true
     all_follow p items more h k = follow_append p items more ∙ and_from (may_all_follow p items) (may_all_follow (with_items p items) more) h (k (with_items p items))

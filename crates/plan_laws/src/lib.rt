@@ -73,5 +73,4 @@ pub fn the_items_of_a_plan()
     ensures make { (p : Plan) → with_items empty_plan (items_of p) ≡ p }
     ensures accepted { (p : Plan) → is_accepted (items_of p) ≡ is_sound p }
     ensures again { (p : Plan) → is_sound p ≡ true → checked (items_of p) ≡ Ok p }
-{
-}
+{}

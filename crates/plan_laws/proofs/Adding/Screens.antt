@@ -3,7 +3,7 @@ use Rattle.std.specs.Prelude.{◌≡◌, ℕ, ◌+◌, nat_le, nat_lt, Bool, not
 use Rattle.std.specs.List.{list_all, list_any}
 use Rattle.std.specs.Str.{bytes_eq}
 use Rattle.std.proofs.Common.{refl}
-use Rattle.std.proofs.Math.Bool.{and_assoc, and_comm, not-not, and-true}
+use Rattle.std.proofs.Math.Bool.{and_assoc, not-not, and-true}
 use Rattle.plane_spec.specs.declared.Point.{Point}
 use Rattle.plane_spec.specs.Segments.{do_touch}
 use Rattle.plan_spec.specs.declared.kinds.Screen.{Screen}
