@@ -13,7 +13,7 @@
 //! Proofs of code cite the laws by the lemmas in `proofs/`, which state them kind by kind.
 #![tactic(auto)]
 
-ghost use Rattle.std.specs.Prelude.{None, ◌*◌, ◌≤◌, IfSome, Some, length, unsigned_abs, ◌≡◌, ◌&&◌, List, Ok, true, is_none, is_ok};
+ghost use Rattle.std.specs.Prelude.{◌≡◌, ◌≤◌, ◌*◌, ◌&&◌, IfSome, List, None, Ok, Some, is_none, is_ok, length, true, unsigned_abs};
 ghost use Rattle.std.specs.List.{All};
 ghost use Rattle.plane_spec.specs.declared.Point.{Point};
 ghost use Rattle.plane_spec.specs.Vectors.{InRange};
@@ -45,8 +45,9 @@ pub fn checking_items()
     ensures sound { (items : List Item) (p : Plan) → checked items ≡ Ok p → is_sound p ≡ true }
 {}
 
-/// A sound plan has an outer polygon. The points of its polygons, the ends of its screens and routes and the points of its
-/// grid are in range, no limit is passed, and a grid has as many points as its columns times its rows, at most 4096.
+/// A sound plan has an outer polygon. The points of its polygons, the ends of its screens and routes and the points of
+/// its grid are in range, and no limit is passed. A grid has as many points as its columns times its rows, and a sound
+/// plan's at most 4096.
 pub fn the_ranges_of_a_sound_plan()
     ensures begun { (p : Plan) → is_sound p ≡ true → has_outer p ≡ true }
     ensures outer { (p : Plan) → is_sound p ≡ true → IsPolygonInRange p.outer }
@@ -60,15 +61,15 @@ pub fn the_ranges_of_a_sound_plan()
     ensures grid_points_count { (g : GridSpec) → length (grid_points (Some g)) ≡ unsigned_abs g.cols * unsigned_abs g.rows }
 {}
 
-/// An edit of a sound plan is refused exactly where what it removes or moves isn't there, or the plan after it would not be
-/// sound. So an edit that isn't refused leaves a sound plan.
+/// An edit of a sound plan is refused exactly where what it removes or moves isn't there, or the plan after it would not
+/// be sound. So an edit that isn't refused leaves a sound plan.
 pub fn editing_a_sound_plan()
     ensures refused { (p : Plan) (e : Edit) → is_sound p ≡ true → is_none (why_not_edit p e) ≡ (is_there p e && is_sound (edited p e)) }
     ensures sound { (p : Plan) (e : Edit) → is_sound p ≡ true → why_not_edit p e ≡ None → is_sound (edited p e) ≡ true }
 {}
 
-/// The items of any plan make that plan. They are accepted exactly where the plan is sound, and then checking them gives the
-/// plan again.
+/// The items of any plan make that plan. They are accepted exactly where the plan is sound, and then checking them gives
+/// the plan again.
 pub fn the_items_of_a_plan()
     ensures make { (p : Plan) → with_items empty_plan (items_of p) ≡ p }
     ensures accepted { (p : Plan) → is_accepted (items_of p) ≡ is_sound p }
