@@ -1,3 +1,5 @@
 pub mod Bounds
 pub mod Edges
+pub mod LeastBox
 pub mod Parity
+pub mod Turns
