@@ -1,4 +1,5 @@
 pub mod Bounds
+pub mod Circle
 pub mod Edges
 pub mod LeastBox
 pub mod Parity
