@@ -1,5 +1,7 @@
 //! Small figures, with the answers of plain geometry.
 
+ghost use Rattle.plane_spec.specs.Vectors.{InRange};
+
 use crate::{
     box_of, crosses, edge, in_range, inside, meets_box, on_border, on_segment, orient, touch,
     turn_order,
@@ -10,6 +12,14 @@ use std::process::Abort;
 
 fn at(x: i64, y: i64) -> Point {
     Point { x, y }
+}
+
+/// The point, which the test knows to be in range.
+fn known(rt: &impl Abort, p: Point) -> Point
+    ensures { InRange result }
+{
+    assert!(rt; in_range(p));
+    p
 }
 
 fn segments(rt: &impl Abort) {
@@ -29,9 +39,15 @@ fn segments(rt: &impl Abort) {
         ),
     ];
     for (x, a, b, expected) in on_it {
-        assert!(rt; in_range(x) && in_range(a) && in_range(b));
+        let (x, a, b) = (known(rt, x), known(rt, a), known(rt, b));
         assert!(rt; on_segment(x, a, b) == expected);
     }
+    let (low, corner, high) = (
+        at(-100_000, -100_000),
+        at(100_000, -100_000),
+        at(100_000, 100_000),
+    );
+    assert!(rt; orient(known(rt, low), known(rt, corner), known(rt, high)) == 40_000_000_000);
     // the ends of two segments, whether they cross properly, and whether they touch
     let pairs = [
         (at(0, 0), at(4, 4), at(0, 4), at(4, 0), true, true),
@@ -43,7 +59,7 @@ fn segments(rt: &impl Abort) {
         (at(0, 0), at(1, 1), at(3, 1), at(1, 3), false, false),
     ];
     for (a, b, c, d, proper, touching) in pairs {
-        assert!(rt; in_range(a) && in_range(b) && in_range(c) && in_range(d));
+        let (a, b, c, d) = (known(rt, a), known(rt, b), known(rt, c), known(rt, d));
         assert!(rt; crosses(a, b, c, d) == proper);
         assert!(rt; touch(a, b, c, d) == touching);
     }
@@ -68,7 +84,7 @@ fn polygons(rt: &impl Abort) {
         (at(0, 10), false, false),
     ];
     for (x, is_inside, is_on_border) in points {
-        assert!(rt; in_range(x));
+        let x = known(rt, x);
         assert!(rt; inside(x, &diamond) == is_inside);
         assert!(rt; on_border(x, &diamond) == is_on_border);
     }
@@ -90,8 +106,7 @@ fn directions(rt: &impl Abort) {
         (at(99_999, 100_000), at(99_998, 99_999), Ordering::Less),
     ];
     for (d, e, expected) in pairs {
-        assert!(rt; in_range(d) && in_range(e));
-        assert!(rt; turn_order(d, e) == expected);
+        assert!(rt; turn_order(known(rt, d), known(rt, e)) == expected);
     }
 }
 
@@ -112,8 +127,7 @@ fn boxes(rt: &impl Abort) {
         (at(5, 5), at(5, 5), true),
     ];
     for (p, q, expected) in segments {
-        assert!(rt; in_range(p) && in_range(q));
-        assert!(rt; meets_box(p, q, area) == expected);
+        assert!(rt; meets_box(known(rt, p), known(rt, q), area) == expected);
     }
 }
 
@@ -123,20 +137,4 @@ fn small_figures_have_the_answers_of_plain_geometry(rt: HostRuntime) {
     polygons(&rt);
     directions(&rt);
     boxes(&rt);
-    assert!(rt;
-        orient(
-            Point {
-                x: -100_000,
-                y: -100_000
-            },
-            Point {
-                x: 100_000,
-                y: -100_000
-            },
-            Point {
-                x: 100_000,
-                y: 100_000
-            }
-        ) == 40_000_000_000
-    );
 }
