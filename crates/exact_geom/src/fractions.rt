@@ -1,1 +1,108 @@
-//! See the crate's first page.
+//! Fractions in lowest terms.
+
+ghost use Rattle.std.specs.Prelude.{◌≡◌, ◌≢◌, ◌<◌, ◌≤◌, ◌^◌, pos, unsigned_abs, ◌≤ℤ◌, ◌<ℤ◌};
+ghost use Rattle.plane_spec.specs.Vectors.{IsWithin};
+ghost use Rattle.plane_spec.specs.Fractions as fractions;
+ghost use Rattle.exact_geom.specs.Sizes.{HasPartsWithin};
+
+use std::cmp::Ordering;
+use std::marker::Model;
+
+/// A fraction in lowest terms, over a denominator of at least 1.
+#[derive(Clone, Copy, Debug, PartialEq, Eq)]
+pub struct Frac {
+    num: i128,
+    den: i128,
+}
+
+impl Model for Frac {
+    ghost use Rattle.plane_spec.specs.Fractions.{Fraction, IsReduced};
+
+    ghost Value = { Fraction };
+
+    ghost view = { λ a. record { num = a.num; den = a.den } };
+
+    ghost invariant = { λ a. IsReduced (record { num = a.num; den = a.den }) };
+
+    ghost inverse = { λ f. record { num = f.num; den = f.den } };
+}
+
+/// The greatest common divisor, by remainders: the number of steps grows with the number of digits.
+fn common_divisor(a: u128, b: u128) -> u128
+    ensures { result ≡ fractions.common_divisor a b }
+{
+    let mut greater = a;
+    let mut lesser = b;
+    while lesser != 0 {
+        let rest = greater % lesser;
+        greater = lesser;
+        lesser = rest;
+    }
+    greater
+}
+
+/// The greatest common divisor of a numerator and a denominator of at least 1.
+fn divisor_of(num: i128, den: i128) -> u128
+    requires { pos 1 ≤ℤ den }
+    ensures value { result ≡ fractions.common_divisor (unsigned_abs num) (unsigned_abs den) }
+    ensures some { 0 < result }
+{
+    common_divisor(num.unsigned_abs(), den.unsigned_abs())
+}
+
+/// `z` divided by a divisor of its size.
+fn divided(z: i128, divisor: u128) -> i128
+    requires small { IsWithin (pos (10 ^ 36)) z }
+    requires some { 0 < divisor }
+    ensures { result ≡ fractions.divided z divisor }
+{
+    let size = (z.unsigned_abs() / divisor) as i128;
+    if z < 0 { -size } else { size }
+}
+
+/// `num / den` in lowest terms, for a denominator of at least 1.
+fn lowest(num: i128, den: i128) -> Frac
+    requires num_in { IsWithin (pos (10 ^ 36)) num }
+    requires den_in { IsWithin (pos (10 ^ 36)) den }
+    requires positive { pos 1 ≤ℤ den }
+    ensures { result ≡ fractions.reduced (record { num = num; den = den }) }
+{
+    let divisor = divisor_of(num, den);
+    Frac {
+        num: divided(num, divisor),
+        den: divided(den, divisor),
+    }
+}
+
+impl Frac {
+    /// `num / den` in lowest terms.
+    ///
+    /// Cost: one division for each step of Euclid's algorithm, at most about five for each decimal digit.
+    pub fn new(num: i128, den: i128) -> Frac
+        requires num_in { IsWithin (pos (10 ^ 36)) num }
+        requires den_in { IsWithin (pos (10 ^ 36)) den }
+        requires some { den ≢ pos 0 }
+        ensures { result ≡ fractions.reduced (fractions.fraction num den) }
+    {
+        if 0 < den {
+            lowest(num, den)
+        } else {
+            lowest(-num, -den)
+        }
+    }
+
+    /// The numerator, which has the sign of the value.
+    pub fn num(&self) -> i128
+        ensures { result ≡ self.now.num }
+    {
+        self.num
+    }
+
+    /// The denominator, at least 1.
+    pub fn den(&self) -> i128
+        ensures value { result ≡ self.now.den }
+        ensures positive { pos 1 ≤ℤ result }
+    {
+        self.den
+    }
+}

@@ -12,3 +12,5 @@ mod places;
 mod polygons;
 mod products;
 mod segments;
+
+pub use fractions::Frac;
