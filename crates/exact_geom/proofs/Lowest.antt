@@ -35,7 +35,7 @@ common_divisor-end a b none = same_from_IsGcd a b (common_divisor a b) a (common
 
 -- ---- a number divided by a divisor of its size
 
-divided_natural : (n g : ℕ) → divided (pos n) g ≡ pos (n / g)
+pub divided_natural : (n g : ℕ) → divided (pos n) g ≡ pos (n / g)
 divided_natural n g = grind (arith, ints)
 
 pub size_of_divided : (z : ℤ) (g : ℕ) → unsigned_abs (divided z g) ≡ unsigned_abs z / g
@@ -47,7 +47,7 @@ size_of_divided (negsuc n) g = size_of_negative (suc n / g)
     size_of_negative (suc n) = refl
 
 -- the quotient by a divisor of a positive number is positive
-quotient_is_positive : (n g : ℕ) → 0 < n → g ∣ n → 0 < n / g
+pub quotient_is_positive : (n g : ℕ) → 0 < n → g ∣ n → 0 < n / g
 quotient_is_positive n g some whole =
     pos_of_ne-zero (λ e. let all = div-mul_cancel g whole in let none : n / g * g ≡ 0 = ap (λ t. t * g) e ∙ zero-mul g in absurd (omega arith))
 
@@ -63,7 +63,7 @@ divided_is_positive (negsuc n) g some whole = absurd (omega (arith, ints))
 abbrev pub divisor_of : Fraction → ℕ
 divisor_of f = common_divisor (unsigned_abs f.num) (unsigned_abs f.den)
 
-size_is_positive : (z : ℤ) → pos 1 ≤ℤ z → 0 < unsigned_abs z
+pub size_is_positive : (z : ℤ) → pos 1 ≤ℤ z → 0 < unsigned_abs z
 size_is_positive (pos n) some = omega (arith, ints)
 size_is_positive (negsuc n) some = omega arith
 

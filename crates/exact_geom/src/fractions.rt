@@ -1,6 +1,8 @@
 //! Fractions in lowest terms.
 
-ghost use Rattle.std.specs.Prelude.{◌≡◌, ◌≢◌, ◌<◌, ◌≤◌, ◌^◌, pos, unsigned_abs, ◌≤ℤ◌, ◌<ℤ◌};
+ghost use Rattle.std.specs.Prelude.{◌≡◌, ◌≢◌, ◌<◌, ◌≤◌, ◌^◌, pos, unsigned_abs, ◌≤ℤ◌, ◌*◌, ◌↔◌, ℕ, true};
+ghost use Prim.Native.Nat.{◌∣◌};
+ghost use Rattle.std.specs.Int.{IsGcd};
 ghost use Rattle.plane_spec.specs.Vectors.{IsWithin};
 ghost use Rattle.plane_spec.specs.Fractions as fractions;
 ghost use Rattle.exact_geom.specs.Sizes.{HasPartsWithin};
@@ -105,4 +107,16 @@ impl Frac {
     {
         self.den
     }
+}
+
+/// The laws of lowest terms, for fractions over denominators of at least 1: a fraction in lowest terms is the only one of
+/// its value, so that two of them are equal exactly where their values are.
+pub fn lowest_terms()
+    ensures is_reduced { (f : fractions.Fraction) → pos 1 ≤ℤ f.den → fractions.IsReduced (fractions.reduced f) }
+    ensures keeps_value { (f : fractions.Fraction) → fractions.same_value f (fractions.reduced f) ≡ true }
+    ensures one_form { (f g : fractions.Fraction) → pos 1 ≤ℤ f.den → pos 1 ≤ℤ g.den → fractions.same_value f g ≡ true → fractions.reduced f ≡ fractions.reduced g }
+    ensures stays { (f : fractions.Fraction) → fractions.IsReduced f → fractions.reduced f ≡ f }
+    ensures equal { (f g : fractions.Fraction) → fractions.IsReduced f → fractions.IsReduced g → (f ≡ g) ↔ (fractions.same_value f g ≡ true) }
+    ensures divides_other_factor { (a b c : ℕ) → IsGcd a b 1 → a ∣ b * c → a ∣ c }
+{
 }

@@ -1,0 +1,14 @@
+use Rattle.int_laws.proofs.Divisors.{divides_other_factor}
+use Rattle.exact_geom.proofs.Lowest.{reduced_is_reduced}
+use Rattle.exact_geom.proofs.Values.{reduced_keeps_value, same_reduced, reduced_again, equal_where_values_are}
+use Rattle.exact_geom.proofs.fractions.lowest_terms.Goals as goal
+
+pub returns : goal.returns
+returns c = record {
+  is_reduced = reduced_is_reduced;
+  keeps_value = reduced_keeps_value;
+  one_form = same_reduced;
+  stays = reduced_again;
+  equal = equal_where_values_are;
+  divides_other_factor = divides_other_factor
+}
