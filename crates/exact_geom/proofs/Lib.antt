@@ -1,2 +1,5 @@
+pub mod Bounds
+pub mod Edges
+pub mod Parity
 pub mod Lowest
 pub mod Values
