@@ -9,6 +9,7 @@ use Rattle.std.proofs.lemmas.Nat.Gcd.{same_from_IsGcd}
 use Rattle.std.proofs.Math.Nat.{div-mul_cancel, div-one, mul-pos, eq_of_mul-eq-mul_right}
 use lib.IntN.{negsuc}
 use Rattle.int_laws.proofs.Divisors.{coprime_quotients, one_in_lowest}
+use Rattle.int_laws.proofs.Ring.{neg_times, product_grouped, product_swapped}
 use Rattle.plane_spec.specs.Fractions.{Fraction, common_divisor, divided, reduced, IsReduced, same_value}
 use Rattle.exact_geom.proofs.Lowest.{divisor_of, divisor_is_positive, common_divisor_is, divided_natural, quotient_is_positive, size_is_positive}
 
@@ -24,10 +25,7 @@ true-int_eq x y h = grind (arith, ints)
 
 divided_whole : (z : ℤ) (g : ℕ) → g ∣ unsigned_abs z → divided z g *ℤ pos g ≡ z
 divided_whole (pos n) g whole = ap (λ t. t *ℤ pos g) (divided_natural n g) ∙ ap pos (div-mul_cancel g whole)
-divided_whole (negsuc n) g whole = minus_times (suc n / g) g ∙ ap (λ t. neg_ℤ (pos t)) (div-mul_cancel g whole)
-  where
-    minus_times : (m g : ℕ) → neg_ℤ (pos m) *ℤ pos g ≡ neg_ℤ (pos (m * g))
-    minus_times m g = omega (arith, ints)
+divided_whole (negsuc n) g whole = neg_times (pos (suc n / g)) (pos g) ∙ ap (λ t. neg_ℤ (pos t)) (div-mul_cancel g whole)
 
 pub numerator_is : (f : Fraction) → (reduced f).num *ℤ pos (divisor_of f) ≡ f.num
 unfolding reduced
@@ -39,16 +37,13 @@ denominator_is f = divided_whole f.den (divisor_of f) (common_divisor_is (unsign
 
 -- ---- reducing keeps the value
 
-regrouped : (n d g : ℤ) → (n *ℤ g) *ℤ d ≡ n *ℤ (d *ℤ g)
-regrouped n d g = omega (arith, ints)
-
 pub reduced_keeps_value : (f : Fraction) → same_value f (reduced f) ≡ true
 reduced_keeps_value f =
     let n = (reduced f).num in
     let d = (reduced f).den in
     let g = pos (divisor_of f) in
     true-int_eq (f.num *ℤ d) (n *ℤ f.den)
-      (ap (λ t. t *ℤ d) (sym (numerator_is f)) ∙ regrouped n d g ∙ ap (λ t. n *ℤ t) (denominator_is f))
+      (ap (λ t. t *ℤ d) (sym (numerator_is f)) ∙ product_grouped n g d ∙ ap (λ t. n *ℤ t) (product_swapped g d ∙ denominator_is f))
 
 -- ---- one form for each value
 
