@@ -3,3 +3,4 @@ pub mod Edges
 pub mod Parity
 pub mod Lowest
 pub mod Values
+pub mod Rounding

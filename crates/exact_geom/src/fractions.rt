@@ -1,8 +1,9 @@
 //! Fractions in lowest terms.
 
-ghost use Rattle.std.specs.Prelude.{◌≡◌, ◌≢◌, ◌<◌, ◌≤◌, ◌^◌, pos, unsigned_abs, ◌≤ℤ◌, ◌*◌, ◌↔◌, ℕ, true};
+ghost use Rattle.std.specs.Prelude.{◌≡◌, ◌≢◌, ◌<◌, ◌≤◌, ◌^◌, pos, unsigned_abs, ◌≤ℤ◌, ◌*◌, ◌↔◌, ℕ, true, ℤ, neg_ℤ, ◌*ℤ◌};
+ghost use Rattle.std.specs.Ordering.{int_cmp};
 ghost use Prim.Native.Nat.{◌∣◌};
-ghost use Rattle.std.specs.Int.{IsGcd};
+ghost use Rattle.std.specs.Int.{IsGcd, int_div_euclid};
 ghost use Rattle.plane_spec.specs.Vectors.{IsWithin};
 ghost use Rattle.plane_spec.specs.Fractions as fractions;
 ghost use Rattle.exact_geom.specs.Sizes.{HasPartsWithin};
@@ -76,6 +77,32 @@ fn lowest(num: i128, den: i128) -> Frac
     }
 }
 
+/// The least whole number that isn't below `num / den`. Nothing is negated, since the least value has no opposite.
+fn ceiling(num: i128, den: i128) -> i128
+    requires { pos 1 ≤ℤ den }
+    ensures { result ≡ neg_ℤ (int_div_euclid (neg_ℤ num) den) }
+{
+    if 0 < num {
+        (num - 1) / den + 1
+    } else {
+        num / den
+    }
+}
+
+fn product(a: i128, b: i128) -> i128
+    requires a_in { IsWithin (pos (10 ^ 18)) a }
+    requires b_in { IsWithin (pos (10 ^ 18)) b }
+    ensures { result ≡ a *ℤ b }
+{
+    a * b
+}
+
+fn order(a: i128, b: i128) -> Ordering
+    ensures { result ≡ int_cmp a b }
+{
+    a.cmp(&b)
+}
+
 impl Frac {
     /// `num / den` in lowest terms.
     ///
@@ -106,6 +133,33 @@ impl Frac {
         ensures positive { pos 1 ≤ℤ result }
     {
         self.den
+    }
+
+    /// The greatest whole number that isn't above the value, for negative values too.
+    pub fn floor(&self) -> i128
+        ensures value { result ≡ fractions.floor_of self.now }
+        ensures not_above { fractions.is_at_least self.now result ≡ true }
+        ensures greatest { (z : ℤ) → fractions.is_at_least self.now z ≡ true → z ≤ℤ result }
+    {
+        self.num.div_euclid(self.den)
+    }
+
+    /// The least whole number that isn't below the value, for negative values too.
+    pub fn ceil(&self) -> i128
+        ensures value { result ≡ fractions.ceil_of self.now }
+        ensures not_below { fractions.is_at_most self.now result ≡ true }
+        ensures least { (z : ℤ) → fractions.is_at_most self.now z ≡ true → result ≤ℤ z }
+    {
+        ceiling(self.num, self.den)
+    }
+
+    /// Which of two values is less, by products across; both fit since all four parts are at most 10^18 in size.
+    pub fn compare(&self, other: &Frac) -> Ordering
+        requires self_in { HasPartsWithin (pos (10 ^ 18)) self.now }
+        requires other_in { HasPartsWithin (pos (10 ^ 18)) other.now }
+        ensures { result ≡ fractions.value_order_of self.now other.now }
+    {
+        order(product(self.num, other.den), product(other.num, self.den))
     }
 }
 
