@@ -5,10 +5,13 @@ use Rattle.std.specs.Prelude.{unsigned_abs}
 use Rattle.std.specs.Int.{IsGcd}
 use Rattle.std.proofs.lemmas.Int.{ints}
 use Rattle.std.proofs.lemmas.Nat.Gcd.{IsGcd-from_zero, IsGcd-from_mod, same_from_IsGcd}
-use Rattle.std.proofs.Math.Nat.{mod-lt, div-mul_cancel, zero-mul, pos_of_ne-zero}
+use Rattle.std.proofs.Math.Nat.{mod-lt, div-mul_cancel, zero-mul, pos_of_ne-zero, div-le_self}
 use lib.IntN.{negsuc}
 use Rattle.int_laws.proofs.Divisors.{coprime_quotients, positive_divisor}
+use Rattle.plane_spec.specs.Vectors.{IsWithin}
 use Rattle.plane_spec.specs.Fractions.{Fraction, divisor_within, common_divisor, divided, reduced, IsReduced}
+use Rattle.exact_geom.specs.Sizes.{HasPartsWithin}
+use Rattle.exact_geom.proofs.Bounds.{size_within, within_size}
 
 -- ---- the greatest common divisor
 
@@ -88,3 +91,24 @@ pub reduced_by_parts : (num den : ℤ) (g : ℕ) (n d : ℤ) → g ≡ common_di
 unfolding reduced
 reduced_by_parts num den g n d g_is n_is d_is = rw (n_is, d_is, g_is) refl
 
+
+-- ---- sizes
+
+part_no_larger : (most : ℕ) (z : ℤ) (g : ℕ) → IsWithin (pos most) z → IsWithin (pos most) (divided z g)
+part_no_larger most z g h =
+    let small = size_within most z h in
+    let less = div-le_self (unsigned_abs z) g in
+    let size = size_of_divided z g in
+    within_size most (divided z g) (omega arith)
+
+-- reducing makes no part larger
+pub reduced_no_larger : (most : ℕ) (f : Fraction) → HasPartsWithin (pos most) f → HasPartsWithin (pos most) (reduced f)
+unfolding reduced
+reduced_no_larger most f h = record {
+  num = part_no_larger most f.num (divisor_of f) h.num;
+  den = part_no_larger most f.den (divisor_of f) h.den
+}
+
+-- what is within a bound is within a greater one
+pub within_more : (m n : ℕ) (z : ℤ) → m ≤ n → IsWithin (pos m) z → IsWithin (pos n) z
+within_more m n z more h = let small = size_within m z h in within_size n z (omega arith)

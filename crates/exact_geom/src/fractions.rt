@@ -64,7 +64,7 @@ fn divided(z: i128, divisor: u128) -> i128
 }
 
 /// `num / den` in lowest terms, for a denominator of at least 1.
-fn lowest(num: i128, den: i128) -> Frac
+pub(crate) fn lowest(num: i128, den: i128) -> Frac
     requires num_in { IsWithin (pos (10 ^ 36)) num }
     requires den_in { IsWithin (pos (10 ^ 36)) den }
     requires positive { pos 1 ≤ℤ den }
@@ -171,6 +171,7 @@ pub fn lowest_terms()
     ensures one_form { (f g : fractions.Fraction) → pos 1 ≤ℤ f.den → pos 1 ≤ℤ g.den → fractions.same_value f g ≡ true → fractions.reduced f ≡ fractions.reduced g }
     ensures stays { (f : fractions.Fraction) → fractions.IsReduced f → fractions.reduced f ≡ f }
     ensures equal { (f g : fractions.Fraction) → fractions.IsReduced f → fractions.IsReduced g → (f ≡ g) ↔ (fractions.same_value f g ≡ true) }
+    ensures no_larger { (most : ℕ) (f : fractions.Fraction) → HasPartsWithin (pos most) f → HasPartsWithin (pos most) (fractions.reduced f) }
     ensures divides_other_factor { (a b c : ℕ) → IsGcd a b 1 → a ∣ b * c → a ∣ c }
 {
 }

@@ -19,6 +19,7 @@ mod products;
 mod segments;
 
 pub use fractions::{Frac, lowest_terms};
+pub use places::RPoint;
 pub use polygons::{edge, inside, on_border};
 pub use products::{cross, dot, in_range, orient};
 pub use segments::{crosses, on_segment, touch};
