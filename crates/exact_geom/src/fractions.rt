@@ -175,3 +175,36 @@ pub fn lowest_terms()
     ensures divides_other_factor { (a b c : ℕ) → IsGcd a b 1 → a ∣ b * c → a ∣ c }
 {
 }
+
+#[cfg(test)]
+mod tests {
+    use super::*;
+
+    /// Whether `num / den` has these parts in lowest terms, this floor and this ceiling.
+    fn is(num: i128, den: i128, parts: (i128, i128), floor: i128, ceil: i128) -> bool
+        requires num_in { IsWithin (pos (10 ^ 36)) num }
+        requires den_in { IsWithin (pos (10 ^ 36)) den }
+        requires some { den ≢ pos 0 }
+    {
+        let f = Frac::new(num, den);
+        f.num() == parts.0 && f.den() == parts.1 && f.floor() == floor && f.ceil() == ceil
+    }
+
+    #[test]
+    fn fractions_by_hand(rt: HostRuntime) {
+        assert!(rt; is(4, -6, (-2, 3), -1, 0));
+        assert!(rt; is(-4, -6, (2, 3), 0, 1));
+        assert!(rt; is(0, -5, (0, 1), 0, 0));
+        assert!(rt; is(7, 2, (7, 2), 3, 4));
+        assert!(rt; is(-7, 2, (-7, 2), -4, -3));
+        assert!(rt; is(-12, 4, (-3, 1), -3, -3));
+        assert!(rt; is(832040, 514229, (832040, 514229), 1, 2));
+        let half = Frac::new(1, 2);
+        let third = Frac::new(-1, 3);
+        assert!(rt; half.compare(&third) == Ordering::Greater);
+        assert!(rt; third.compare(&half) == Ordering::Less);
+        assert!(rt; half.compare(&Frac::new(-3, -6)) == Ordering::Equal);
+        assert!(rt; half == Frac::new(-3, -6));
+        assert!(rt; half != third);
+    }
+}
