@@ -1,7 +1,7 @@
 -- Lowest terms: the greatest common divisor, and what is left of a fraction without it.
-use Rattle.std.proofs.Common.{◌≡◌, ℕ, zero, suc, ◌+◌, ◌*◌, ◌/◌, ◌%◌, ◌<◌, ◌≤◌, refl, sym, ◌∙◌, ap, subst, arith, ℤ, pos, neg_ℤ, ◌*ℤ◌, ◌≤ℤ◌}
+use Rattle.std.proofs.Common.{◌≡◌, ◌≢◌, ℕ, zero, suc, ◌+◌, ◌*◌, ◌/◌, ◌%◌, ◌<◌, ◌≤◌, refl, sym, ◌∙◌, ap, subst, arith, ℤ, pos, neg_ℤ, ◌*ℤ◌, ◌≤ℤ◌}
 use Prim.Native.Nat.{◌∣◌}
-use Rattle.std.specs.Prelude.{unsigned_abs}
+use Rattle.std.specs.Prelude.{unsigned_abs, Bool, true, false, int_lt, if◌then◌else◌}
 use Rattle.std.specs.Int.{IsGcd}
 use Rattle.std.proofs.lemmas.Int.{ints}
 use Rattle.std.proofs.lemmas.Nat.Gcd.{IsGcd-from_zero, IsGcd-from_mod, same_from_IsGcd}
@@ -9,7 +9,7 @@ use Rattle.std.proofs.Math.Nat.{mod-lt, div-mul_cancel, zero-mul, pos_of_ne-zero
 use lib.IntN.{negsuc}
 use Rattle.int_laws.proofs.Divisors.{coprime_quotients, positive_divisor}
 use Rattle.plane_spec.specs.Vectors.{IsWithin}
-use Rattle.plane_spec.specs.Fractions.{Fraction, divisor_within, common_divisor, divided, reduced, IsReduced}
+use Rattle.plane_spec.specs.Fractions.{Fraction, divisor_within, common_divisor, divided, reduced, IsReduced, fraction}
 use Rattle.exact_geom.specs.Sizes.{HasPartsWithin}
 use Rattle.exact_geom.proofs.Bounds.{size_within, within_size}
 
@@ -82,7 +82,7 @@ reduced_is_reduced f some =
     let is = common_divisor_is (unsigned_abs f.num) (unsigned_abs f.den) in
     record {
       lowest = rw (size_of_divided f.num g, size_of_divided f.den g) (coprime_quotients (unsigned_abs f.num) (unsigned_abs f.den) g (divisor_is_positive f some) is);
-      positive = divided_is_positive f.den g some is.1
+      positive = divided_is_positive f.den g some is.1;
     }
 
 -- the parts, each divided by the greatest common divisor
@@ -90,7 +90,6 @@ pub reduced_by_parts : (num den : ℤ) (g : ℕ) (n d : ℤ) → g ≡ common_di
     → record { num = n; den = d } ≡ reduced (record { num = num; den = den })
 unfolding reduced
 reduced_by_parts num den g n d g_is n_is d_is = rw (n_is, d_is, g_is) refl
-
 
 -- ---- sizes
 
@@ -106,9 +105,30 @@ pub reduced_no_larger : (most : ℕ) (f : Fraction) → HasPartsWithin (pos most
 unfolding reduced
 reduced_no_larger most f h = record {
   num = part_no_larger most f.num (divisor_of f) h.num;
-  den = part_no_larger most f.den (divisor_of f) h.den
+  den = part_no_larger most f.den (divisor_of f) h.den;
 }
 
 -- what is within a bound is within a greater one
 pub within_more : (m n : ℕ) (z : ℤ) → m ≤ n → IsWithin (pos m) z → IsWithin (pos n) z
 within_more m n z more h = let small = size_within m z h in within_size n z (omega arith)
+
+pub neg_within : (most : ℕ) (z : ℤ) → IsWithin (pos most) z → IsWithin (pos most) (neg_ℤ z)
+neg_within most z h = record { low = omega (arith, ints); high = omega (arith, ints) }
+
+opposite_is_positive : (z : ℤ) → z ≢ pos 0 → int_lt (pos 0) z ≡ false → pos 1 ≤ℤ neg_ℤ z
+opposite_is_positive (pos zero) some h = absurd (some refl)
+opposite_is_positive (pos (suc n)) some h = absurd (omega (arith, ints, h))
+opposite_is_positive (negsuc n) some h = omega (arith, ints)
+
+over_by : Bool → ℤ → ℤ → Fraction
+over_by up num den = if up then record { num = num; den = den } else record { num = neg_ℤ num; den = neg_ℤ den }
+
+positive_by : (up : Bool) (num den : ℤ) → den ≢ pos 0 → int_lt (pos 0) den ≡ up → pos 1 ≤ℤ (over_by up num den).den
+unfolding over_by
+positive_by true num den some h = omega (arith, ints, h)
+positive_by false num den some h = opposite_is_positive den some h
+
+-- every denominator but 0 gives one of at least 1
+pub fraction_is_positive : (num den : ℤ) → den ≢ pos 0 → pos 1 ≤ℤ (fraction num den).den
+unfolding over_by
+fraction_is_positive num den some = positive_by (int_lt (pos 0) den) num den some refl

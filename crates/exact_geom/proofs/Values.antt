@@ -43,7 +43,7 @@ reduced_keeps_value f =
     let d = (reduced f).den in
     let g = pos (divisor_of f) in
     true-int_eq (f.num *ℤ d) (n *ℤ f.den)
-      (ap (λ t. t *ℤ d) (sym (numerator_is f)) ∙ product_grouped n g d ∙ ap (λ t. n *ℤ t) (product_swapped g d ∙ denominator_is f))
+    (ap (λ t. t *ℤ d) (sym (numerator_is f)) ∙ product_grouped n g d ∙ ap (λ t. n *ℤ t) (product_swapped g d ∙ denominator_is f))
 
 -- ---- one form for each value
 
@@ -98,8 +98,8 @@ unfolding reduced
 same_reduced f g f_up g_up same =
     let e : f.num *ℤ g.den ≡ g.num *ℤ f.den = int_eq-true (f.num *ℤ g.den) (g.num *ℤ f.den) same in
     let left = same_quotients (unsigned_abs f.num) (unsigned_abs f.den) (unsigned_abs g.num) (unsigned_abs g.den) (divisor_of f) (divisor_of g)
-      (size_is_positive f.den f_up) (divisor_is_positive f f_up) (divisor_is_positive g g_up)
-      (common_divisor_is (unsigned_abs f.num) (unsigned_abs f.den)) (common_divisor_is (unsigned_abs g.num) (unsigned_abs g.den)) (sizes_agree f g e) in
+    (size_is_positive f.den f_up) (divisor_is_positive f f_up) (divisor_is_positive g g_up)
+    (common_divisor_is (unsigned_abs f.num) (unsigned_abs f.den)) (common_divisor_is (unsigned_abs g.num) (unsigned_abs g.den)) (sizes_agree f g e) in
     let num_is : divided f.num (divisor_of f) ≡ divided g.num (divisor_of g) = same_divided f.num g.num f.den g.den (divisor_of f) (divisor_of g) f_up g_up e left.0 in
     let den_is : divided f.den (divisor_of f) ≡ divided g.den (divisor_of g) = divided_positive f.den g.den (divisor_of f) (divisor_of g) f_up g_up left.1 in
     ap (λ n. record { num = n; den = divided f.den (divisor_of f) }) num_is ∙ ap (λ d. record { num = divided g.num (divisor_of g); den = d }) den_is
@@ -125,5 +125,6 @@ equal_where_values_are f g f_low g_low = (there, back)
   where
     there : f ≡ g → same_value f g ≡ true
     there e = subst (λ t. same_value f t ≡ true) e (true-int_eq (f.num *ℤ f.den) (f.num *ℤ f.den) refl)
+
     back : same_value f g ≡ true → f ≡ g
     back same = sym (reduced_again f f_low) ∙ same_reduced f g f_low.positive g_low.positive same ∙ reduced_again g g_low

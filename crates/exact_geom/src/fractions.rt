@@ -111,7 +111,8 @@ impl Frac {
         requires num_in { IsWithin (pos (10 ^ 36)) num }
         requires den_in { IsWithin (pos (10 ^ 36)) den }
         requires some { den ≢ pos 0 }
-        ensures { result ≡ fractions.reduced (fractions.fraction num den) }
+        ensures value { result ≡ fractions.reduced (fractions.fraction num den) }
+        ensures no_larger { (most : ℕ) → IsWithin (pos most) num → IsWithin (pos most) den → HasPartsWithin (pos most) result }
     {
         if 0 < den {
             lowest(num, den)
@@ -172,9 +173,9 @@ pub fn lowest_terms()
     ensures stays { (f : fractions.Fraction) → fractions.IsReduced f → fractions.reduced f ≡ f }
     ensures equal { (f g : fractions.Fraction) → fractions.IsReduced f → fractions.IsReduced g → (f ≡ g) ↔ (fractions.same_value f g ≡ true) }
     ensures no_larger { (most : ℕ) (f : fractions.Fraction) → HasPartsWithin (pos most) f → HasPartsWithin (pos most) (fractions.reduced f) }
+    ensures over_positive { (num den : ℤ) → den ≢ pos 0 → pos 1 ≤ℤ (fractions.fraction num den).den }
     ensures divides_other_factor { (a b c : ℕ) → IsGcd a b 1 → a ∣ b * c → a ∣ c }
-{
-}
+{}
 
 #[cfg(test)]
 mod tests {
@@ -190,6 +191,17 @@ mod tests {
         f.num() == parts.0 && f.den() == parts.1 && f.floor() == floor && f.ceil() == ceil
     }
 
+    fn ordered(a: i128, b: i128, c: i128, d: i128) -> Ordering
+        requires a_in { IsWithin (pos (10 ^ 18)) a }
+        requires b_in { IsWithin (pos (10 ^ 18)) b }
+        requires b_some { b ≢ pos 0 }
+        requires c_in { IsWithin (pos (10 ^ 18)) c }
+        requires d_in { IsWithin (pos (10 ^ 18)) d }
+        requires d_some { d ≢ pos 0 }
+    {
+        Frac::new(a, b).compare(&Frac::new(c, d))
+    }
+
     #[test]
     fn fractions_by_hand(rt: HostRuntime) {
         assert!(rt; is(4, -6, (-2, 3), -1, 0));
@@ -199,12 +211,10 @@ mod tests {
         assert!(rt; is(-7, 2, (-7, 2), -4, -3));
         assert!(rt; is(-12, 4, (-3, 1), -3, -3));
         assert!(rt; is(832040, 514229, (832040, 514229), 1, 2));
-        let half = Frac::new(1, 2);
-        let third = Frac::new(-1, 3);
-        assert!(rt; half.compare(&third) == Ordering::Greater);
-        assert!(rt; third.compare(&half) == Ordering::Less);
-        assert!(rt; half.compare(&Frac::new(-3, -6)) == Ordering::Equal);
-        assert!(rt; half == Frac::new(-3, -6));
-        assert!(rt; half != third);
+        assert!(rt; ordered(1, 2, -1, 3) == Ordering::Greater);
+        assert!(rt; ordered(-1, 2, -1, 3) == Ordering::Less);
+        assert!(rt; ordered(-2, 6, 1, -3) == Ordering::Equal);
+        assert!(rt; Frac::new(-2, 6) == Frac::new(1, -3));
+        assert!(rt; Frac::new(1, 2) != Frac::new(-1, 2));
     }
 }

@@ -1,5 +1,5 @@
 use Rattle.int_laws.proofs.Divisors.{divides_other_factor}
-use Rattle.exact_geom.proofs.Lowest.{reduced_is_reduced, reduced_no_larger}
+use Rattle.exact_geom.proofs.Lowest.{reduced_is_reduced, reduced_no_larger, fraction_is_positive}
 use Rattle.exact_geom.proofs.Values.{reduced_keeps_value, same_reduced, reduced_again, equal_where_values_are}
 use Rattle.exact_geom.proofs.fractions.lowest_terms.Goals as goal
 
@@ -11,5 +11,6 @@ returns c = record {
   stays = reduced_again;
   equal = equal_where_values_are;
   no_larger = reduced_no_larger;
-  divides_other_factor = divides_other_factor
+  over_positive = fraction_is_positive;
+  divides_other_factor = divides_other_factor;
 }

@@ -45,5 +45,5 @@ returns-clause-value c =
 pub returns-clause-within : goal.returns-clause-within
 returns-clause-within c =
     subst (λ f. HasPartsWithin (pos (10 ^ 18)) f) (sym (parts_are c))
-      (reduced_no_larger (10 ^ 18) (record { num = c.moved.result; den = c.den-den.result })
-        (record { num = c.moved.ensures.within; den = within_more (10 ^ 12) (10 ^ 18) c.den-den.result (lit≤ tt) (subst (λ z. IsWithin (pos (10 ^ 12)) z) (sym c.den-den.ensures.value) c.requires.t_in.den) }))
+    (reduced_no_larger (10 ^ 18) (record { num = c.moved.result; den = c.den-den.result })
+    (record { num = c.moved.ensures.within; den = within_more (10 ^ 12) (10 ^ 18) c.den-den.result (lit≤ tt) (subst (λ z. IsWithin (pos (10 ^ 12)) z) (sym c.den-den.ensures.value) c.requires.t_in.den) }))
