@@ -1,7 +1,8 @@
 -- Fractions of one value have one form in lowest terms.
 use Rattle.std.proofs.Common.{◌≡◌, ℕ, zero, suc, ◌+◌, ◌*◌, ◌/◌, ◌<◌, ◌≤◌, refl, sym, ◌∙◌, ap, subst, arith, Bool, true, false, ℤ, pos, neg_ℤ, ◌*ℤ◌, ◌≤ℤ◌, ◌↔◌}
 use Prim.Native.Nat.{◌∣◌}
-use Rattle.std.specs.Prelude.{unsigned_abs}
+use Rattle.std.specs.Prelude.{unsigned_abs, ◌&&◌}
+use Rattle.std.proofs.lemmas.Bool.{false≢true}
 use Rattle.std.specs.Int.{IsGcd}
 use Rattle.std.specs.Ordering.{int_eq}
 use Rattle.std.proofs.lemmas.Int.{ints, unsigned_abs-mul}
@@ -128,3 +129,31 @@ equal_where_values_are f g f_low g_low = (there, back)
 
     back : same_value f g ≡ true → f ≡ g
     back same = sym (reduced_again f f_low) ∙ same_reduced f g f_low.positive g_low.positive same ∙ reduced_again g g_low
+
+-- ---- equality by parts is equality of values
+
+agree : (x y : Bool) → (x ≡ true → y ≡ true) → (y ≡ true → x ≡ true) → x ≡ y
+agree true y there back = sym (there refl)
+agree false true there back = back refl
+agree false false there back = refl
+
+both : (x y : Bool) → x && y ≡ true → (x ≡ true) × (y ≡ true)
+both true true h = (refl, refl)
+both true false h = absurd (false≢true h)
+both false y h = absurd (false≢true h)
+
+pub parts_tell_values : (f g : Fraction) → IsReduced f → IsReduced g → (int_eq f.num g.num && int_eq f.den g.den) ≡ same_value f g
+parts_tell_values f g f_low g_low = agree (int_eq f.num g.num && int_eq f.den g.den) (same_value f g) there back
+  where
+    law : (f ≡ g) ↔ (same_value f g ≡ true)
+    law = equal_where_values_are f g f_low g_low
+    there : (int_eq f.num g.num && int_eq f.den g.den) ≡ true → same_value f g ≡ true
+    there h =
+      let parts = both (int_eq f.num g.num) (int_eq f.den g.den) h in
+      law.0 (ap (λ n. record { num = n; den = f.den }) (int_eq-true f.num g.num parts.0) ∙ ap (λ d. record { num = g.num; den = d }) (int_eq-true f.den g.den parts.1))
+    back : same_value f g ≡ true → (int_eq f.num g.num && int_eq f.den g.den) ≡ true
+    back h =
+      let e = law.1 h in
+      let first : int_eq f.num g.num ≡ true = true-int_eq f.num g.num (ap (λ t. t.num) e) in
+      let second : int_eq f.den g.den ≡ true = true-int_eq f.den g.den (ap (λ t. t.den) e) in
+      ap (λ t. t && int_eq f.den g.den) first ∙ second

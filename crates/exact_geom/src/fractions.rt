@@ -1,7 +1,9 @@
 //! Fractions in lowest terms.
 
-ghost use Rattle.std.specs.Prelude.{◌≡◌, ◌≢◌, ◌<◌, ◌≤◌, ◌^◌, pos, unsigned_abs, ◌≤ℤ◌, ◌*◌, ◌↔◌, ℕ, true, ℤ, neg_ℤ, ◌*ℤ◌};
-ghost use Rattle.std.specs.Ordering.{int_cmp};
+ghost use Rattle.std.specs.Prelude.{◌≡◌, ◌≢◌, ◌<◌, ◌≤◌, ◌^◌, pos, unsigned_abs, ◌≤ℤ◌, ◌*◌, ◌↔◌, ℕ, true, ℤ, neg_ℤ, ◌*ℤ◌, ◌&&◌};
+ghost use Rattle.std.specs.Ordering.{int_cmp, int_eq};
+ghost use Rattle.std.specs.Cmp.Rules.{comparing};
+ghost use Rattle.std.proofs.Common.{rules};
 ghost use Prim.Native.Nat.{◌∣◌};
 ghost use Rattle.std.specs.Int.{IsGcd, int_div_euclid};
 ghost use Rattle.plane_spec.specs.Vectors.{IsWithin};
@@ -12,7 +14,7 @@ use std::cmp::Ordering;
 use std::marker::Model;
 
 /// A fraction in lowest terms, over a denominator of at least 1.
-#[derive(Clone, Copy, Debug, PartialEq, Eq)]
+#[derive(Clone, Copy, Debug)]
 pub struct Frac {
     num: i128,
     den: i128,
@@ -28,6 +30,35 @@ impl Model for Frac {
     ghost invariant = { λ a. IsReduced (record { num = a.num; den = a.den }) };
 
     ghost inverse = { λ f. record { num = f.num; den = f.den } };
+}
+
+impl PartialEq for Frac {
+    ghost eq = { λ f g. int_eq f.num g.num && int_eq f.den g.den };
+
+    ghost laws = { Prim.search (comparing, rules) };
+
+    fn eq(&self, other: &Self) -> bool
+        ensures by_parts { result ≡ (int_eq self.now.num other.now.num && int_eq self.now.den other.now.den) }
+        ensures by_value { result ≡ fractions.same_value self.now other.now }
+    {
+        are_same(self.num, self.den, other.num, other.den)
+    }
+}
+
+fn is_equal(a: i128, b: i128) -> bool
+    ensures { result ≡ int_eq a b }
+{
+    a == b
+}
+
+fn are_same(a: i128, b: i128, c: i128, d: i128) -> bool
+    ensures { result ≡ (int_eq a c && int_eq b d) }
+{
+    is_equal(a, c) && is_equal(b, d)
+}
+
+impl Eq for Frac {
+    ghost laws = { Prim.search (comparing, rules) };
 }
 
 /// The greatest common divisor, by remainders: the number of steps grows with the number of digits.
