@@ -9,3 +9,4 @@ pub mod Values
 pub mod Rounding
 pub mod Turns
 pub mod TurnLaws
+pub mod Orders

@@ -47,7 +47,7 @@ pub floor_not_above : (f : Fraction) → pos 1 ≤ℤ f.den → is_at_least f (f
 floor_not_above f up = true-int_le (floor_of f *ℤ f.den) f.num (below f.num f.den up)
 
 -- a multiple of a positive number that is less than another has a smaller factor
-smaller_factor : (x y d : ℤ) → pos 1 ≤ℤ d → (x *ℤ d) <ℤ (y *ℤ d) → x <ℤ y
+pub smaller_factor : (x y d : ℤ) → pos 1 ≤ℤ d → (x *ℤ d) <ℤ (y *ℤ d) → x <ℤ y
 smaller_factor x y d up less =
     let more : pos 0 <ℤ ((y -ℤ x) *ℤ d) = subst (λ t. pos 0 <ℤ t) (sym (minus_times y x d)) (omega (arith, ints)) in
     let factor : pos 0 <ℤ (y -ℤ x) = positive_factor (y -ℤ x) d more (omega (arith, ints)) in

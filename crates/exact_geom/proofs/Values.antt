@@ -132,7 +132,7 @@ equal_where_values_are f g f_low g_low = (there, back)
 
 -- ---- equality by parts is equality of values
 
-agree : (x y : Bool) → (x ≡ true → y ≡ true) → (y ≡ true → x ≡ true) → x ≡ y
+pub agree : (x y : Bool) → (x ≡ true → y ≡ true) → (y ≡ true → x ≡ true) → x ≡ y
 agree true y there back = sym (there refl)
 agree false true there back = back refl
 agree false false there back = refl

@@ -163,6 +163,7 @@ impl Frac {
     pub fn den(&self) -> i128
         ensures value { result ≡ self.now.den }
         ensures positive { pos 1 ≤ℤ result }
+        ensures lowest { fractions.IsReduced self.now }
     {
         self.den
     }
@@ -203,6 +204,7 @@ pub fn lowest_terms()
     ensures one_form { (f g : fractions.Fraction) → pos 1 ≤ℤ f.den → pos 1 ≤ℤ g.den → fractions.same_value f g ≡ true → fractions.reduced f ≡ fractions.reduced g }
     ensures stays { (f : fractions.Fraction) → fractions.IsReduced f → fractions.reduced f ≡ f }
     ensures equal { (f g : fractions.Fraction) → fractions.IsReduced f → fractions.IsReduced g → (f ≡ g) ↔ (fractions.same_value f g ≡ true) }
+    ensures keeps_order { (f g : fractions.Fraction) → pos 1 ≤ℤ f.den → pos 1 ≤ℤ g.den → fractions.value_order_of (fractions.reduced f) (fractions.reduced g) ≡ fractions.value_order_of f g }
     ensures no_larger { (most : ℕ) (f : fractions.Fraction) → HasPartsWithin (pos most) f → HasPartsWithin (pos most) (fractions.reduced f) }
     ensures over_positive { (num den : ℤ) → den ≢ pos 0 → pos 1 ≤ℤ (fractions.fraction num den).den }
     ensures divides_other_factor { (a b c : ℕ) → IsGcd a b 1 → a ∣ b * c → a ∣ c }
