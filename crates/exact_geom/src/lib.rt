@@ -20,6 +20,8 @@
 mod boxes;
 mod directions;
 mod extents;
+#[cfg(test)]
+mod figures;
 mod fractions;
 mod places;
 mod polygons;
