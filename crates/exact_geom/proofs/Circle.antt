@@ -5,7 +5,7 @@ use Rattle.std.proofs.lemmas.Int.{ints, by_lt_z}
 use Rattle.plane_spec.specs.declared.Point.{Point}
 use Rattle.plane_spec.specs.Vectors.{cross_of, dot_of, is_left, is_upper, turns_by, turns_before, IsDirected}
 use Rattle.int_laws.proofs.Ring.{times_zero, neg_times, times_neg, neg_twice, cross_of_three, dot_times}
-use Rattle.int_laws.proofs.Signs.{positive_tested, tested_positive, not_positive_tested, tested_not_positive, positive_product, not_negative_product, opposite_product, square, positive_factor, not_positive_factor, positive_sum, not_positive_sum}
+use Rattle.int_laws.proofs.Signs.{not_positive_tested, tested_not_positive, positive_product, not_negative_product, opposite_product, square, positive_factor, not_positive_factor, positive_sum, not_positive_sum}
 use Rattle.exact_geom.proofs.Turns.{cross_of_exchanged}
 
 -- ---- the half turn that begins at (1,0)
