@@ -10,6 +10,7 @@
 //! | [`put_all`], [`PutFailed`] | all bytes of a slice into a sink |
 //! | [`Gate`], [`NoGate`] | what is told of each row that a worker claims |
 //! | [`MemSource`], [`MemFiles`], [`MemSink`] | the same in memory, where chosen calls fail |
+//! | [`StdSource`], [`StdSink`], [`DirFiles`] | standard input, output and error, and the files of the working folder |
 //! | [`NoMemory`] | the answer for want of memory |
 #![tactic(auto)]
 
@@ -19,6 +20,7 @@ mod mem_files;
 mod mem_sink;
 mod mem_source;
 mod streams;
+mod system;
 mod whole;
 
 pub use gate::{Gate, NoGate};
@@ -26,5 +28,6 @@ pub use mem_files::MemFiles;
 pub use mem_sink::MemSink;
 pub use mem_source::MemSource;
 pub use streams::{Files, OpenFailed, Put, Sink, Source, Take};
+pub use system::{DirFiles, StdSink, StdSource};
 pub use text_spec::NoMemory;
 pub use whole::{AllFault, PutFailed, put_all, read_all};
