@@ -8,6 +8,7 @@
 //! | [`Sink`], [`Put`] | where bytes go, some at a time |
 //! | [`read_all`], [`AllFault`] | all that is left of a source, up to a limit |
 //! | [`put_all`], [`PutFailed`] | all bytes of a slice into a sink |
+//! | [`LineReader`], [`Next`] | the lines of a source as they come |
 //! | [`Gate`], [`NoGate`] | what is told of each row that a worker claims |
 //! | [`MemSource`], [`MemFiles`], [`MemSink`] | the same in memory, where chosen calls fail |
 //! | [`StdSource`], [`StdSink`], [`DirFiles`] | standard input, output and error, and the files of the working folder |
@@ -16,6 +17,8 @@
 
 mod calls;
 mod gate;
+mod line_reader;
+mod lines;
 mod mem_files;
 mod mem_sink;
 mod mem_source;
@@ -24,6 +27,8 @@ mod system;
 mod whole;
 
 pub use gate::{Gate, NoGate};
+pub use line_reader::LineReader;
+pub use lines::Next;
 pub use mem_files::MemFiles;
 pub use mem_sink::MemSink;
 pub use mem_source::MemSource;

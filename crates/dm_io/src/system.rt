@@ -3,9 +3,8 @@
 ghost use Rattle.std.specs.Prelude.{◌≡◌, ◌<◌, ◌≤◌, ◌^◌, ℕ, List, Option, None, true, IfSome, length};
 
 use crate::streams::{Files, OpenFailed, Put, Sink, Source, Take};
-use std::fs;
 use std::io::{Read, Write};
-use std::rt;
+use std::{fs, rt};
 
 /// A reader of the system, as standard input.
 #[derive(Drop)]
