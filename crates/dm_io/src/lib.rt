@@ -24,6 +24,8 @@ mod mem_sink;
 mod mem_source;
 mod streams;
 mod system;
+#[cfg(test)]
+mod tests;
 mod whole;
 
 pub use gate::{Gate, NoGate};
