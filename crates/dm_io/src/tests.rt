@@ -1,8 +1,10 @@
 //! What no clause says: that calls succeed, over tables of sizes, pieces and failing calls, and the system's own objects.
 
+ghost use Rattle.std.specs.Prelude.{ℕ, List, IsTrue};
+
 use crate::{
-    AllFault, DirFiles, Files, LineReader, MemFiles, MemSink, MemSource, Next, NoMemory,
-    OpenFailed, Put, PutFailed, Sink, Source, StdSink, StdSource, Take, put_all, read_all,
+    AllFault, DirFiles, Files, LineReader, MemFiles, MemSink, MemSource, Next, Put, Sink, Source,
+    StdSink, StdSource, Take, put_all, read_all,
 };
 use std::alloc::{AllocError, Global};
 use std::fs;
@@ -235,54 +237,89 @@ fn all_is_put_up_to_the_room_and_the_fault(rt: HostRuntime) -> Result<(), Fail> 
     Ok(())
 }
 
+/// Calls of two files, `a` with the bytes `first` and `b` without any, of which three bytes are given at most and call 4
+/// fails: the name that is opened, if one is, and how many bytes come. None is for a fault.
+const CALLS: [(Option<&str>, Option<usize>); 9] = [
+    (None, Some(0)),
+    (Some("c"), None),
+    (Some("a"), Some(0)),
+    (None, Some(3)),
+    (None, None),
+    (None, Some(2)),
+    (None, Some(0)),
+    (Some("b"), Some(0)),
+    (None, Some(0)),
+];
+
+fn two_files(alloc: Global) -> Result<MemFiles, Fail> {
+    let mut names = Vec::new(alloc);
+    names.push("a".to_owned(alloc)?)?;
+    names.push("b".to_owned(alloc)?)?;
+    let mut contents = Vec::new(alloc);
+    contents.push(b"first".to_vec(alloc)?)?;
+    contents.push(Vec::new(alloc))?;
+    let mut fails = Vec::new(alloc);
+    fails.push(4)?;
+    Ok(MemFiles::new(names, contents, 3, fails))
+}
+
+/// Opens the name, or takes where there is none.
+fn call_of<F: Files>(files: &mut F, name: Option<&str>) -> Option<usize>
+    requires { (asked : List ℕ) → IsTrue (F.allows files.old asked) }
+{
+    let Some(name) = name else {
+        let mut buffer = [0; 8];
+        return match files.take(&mut buffer) {
+            Take::Got(count) => Some(count),
+            Take::End => Some(0),
+            Take::Failed => None,
+        };
+    };
+    files.open_file(name).ok().map(|_| 0)
+}
+
 #[test]
 fn files_are_opened_by_name(rt: HostRuntime) -> Result<(), Fail> {
-    let mut names = Vec::new(rt.alloc());
-    let mut contents = Vec::new(rt.alloc());
-    for (name, content) in [("a", "first"), ("b", "")] {
-        names.push(name.to_owned(rt.alloc())?)?;
-        contents.push(content.as_bytes().to_vec(rt.alloc())?)?;
+    let mut files = two_files(rt.alloc())?;
+    for (name, answer) in CALLS {
+        assert_eq!(rt; call_of(&mut files, name), answer, "at {name:?}");
     }
-    let mut fails = Vec::new(rt.alloc());
-    fails.push(4)?;
-    assert_eq!(rt; contents.len(), names.len());
-    let mut files = MemFiles::new(names, contents, 3, fails);
-    let mut buffer = [0; 8];
-    assert_eq!(rt; files.take(&mut buffer), Take::End);
-    assert_eq!(rt; files.open_file("c"), Err(OpenFailed));
-    assert_eq!(rt; files.open_file("a"), Ok(()));
-    assert_eq!(rt; files.take(&mut buffer), Take::Got(3));
-    assert_eq!(rt; files.take(&mut buffer), Take::Failed);
-    assert_eq!(rt; files.take(&mut buffer), Take::Got(2));
-    assert_eq!(rt; files.take(&mut buffer), Take::End);
-    assert_eq!(rt; files.open_file("b"), Ok(()));
-    assert_eq!(rt; files.take(&mut buffer), Take::End);
     Ok(())
+}
+
+/// Writes a file through a sink and reads it through a source.
+fn written_and_read(rt: &HostRuntime, name: &str) -> Result<Vec<u8>, Fail> {
+    let mut sink = StdSink::new(fs::create(rt, name)?);
+    put_all(&mut sink, b"one\ntwo\n")?;
+    let mut source = StdSource::new(fs::open(rt, name)?);
+    Ok(read_all(rt.alloc(), &mut source, 100)?)
 }
 
 #[test]
 fn the_system_reads_back_what_it_wrote(rt: HostRuntime) -> Result<(), Fail> {
     let name = "dm_io.test";
-    let mut sink = StdSink::new(fs::create(&rt, name)?);
-    put_all(&mut sink, b"one\ntwo\n")?;
+    assert_eq!(rt;
+        written_and_read(&rt, name)?.as_slice(),
+        b"one\ntwo\n".as_slice()
+    );
     let mut files = DirFiles::new(rt);
-    let mut buffer = [0; 8];
-    assert_eq!(rt; files.take(&mut buffer), Take::End);
-    assert_eq!(rt; files.open_file("dm_io.none"), Err(OpenFailed));
-    assert_eq!(rt; files.open_file(name), Ok(()));
-    assert_eq!(rt;
-        read_all(rt.alloc(), &mut files, 100)?.as_slice(),
-        b"one\ntwo\n".as_slice()
-    );
-    let mut source = StdSource::new(fs::open(&rt, name)?);
-    assert_eq!(rt;
-        read_all(rt.alloc(), &mut source, 100)?.as_slice(),
-        b"one\ntwo\n".as_slice()
-    );
+    // nothing is open, no such file, the file and what it holds
+    for (name, answer) in [
+        (None, Some(0)),
+        (Some("dm_io.none"), None),
+        (Some(name), Some(0)),
+        (None, Some(8)),
+    ] {
+        assert_eq!(rt; call_of(&mut files, name), answer, "at {name:?}");
+    }
     fs::remove_file(&rt, name)?;
-    let opened = files.open_file(".");
-    assert!(rt; opened.is_err() || files.take(&mut buffer) == Take::Failed);
-    let mut out = StdSink::new(rt.stdout());
-    assert_eq!(rt; put_all(&mut out, b"a piece\n"), Ok(()));
+    // a folder in place of a file is a fault when it is opened or when it is read
+    assert!(rt; call_of(&mut files, Some(".")).is_none() || call_of(&mut files, None).is_none());
     Ok(())
+}
+
+#[test]
+fn a_piece_is_put(rt: HostRuntime) {
+    let mut out = StdSink::new(rt.stdout());
+    assert_eq!(rt; out.put(b"a piece\n"), Put::Took(8));
 }
