@@ -1,0 +1,147 @@
+-- Which plans are accepted.
+use Rattle.std.specs.Prelude.{nat_le, ℤ, pos, ◌+ℤ◌, ◌-ℤ◌, ◌*ℤ◌, int_le, Bool, true, false, ◌&&◌, ◌||◌, not, List, [], ◌∷◌, length, count_by, filter, Option, Some, None}
+use Rattle.std.specs.List.{list_any, list_all}
+use Rattle.std.specs.Str.{bytes_eq}
+use Rattle.plane_spec.specs.declared.Point.{Point}
+use Rattle.plane_spec.specs.Lists.{pairs}
+use Rattle.plane_spec.specs.Vectors.{is_coordinate, is_in_range, same_point}
+use Rattle.plane_spec.specs.Segments.{do_touch, is_on_segment}
+use Rattle.plane_spec.specs.Polygons.{edges_of, is_inside, borders_touch, has_repeat, crosses_nowhere}
+use Rattle.plan_spec.specs.declared.kinds.GridSpec.{GridSpec}
+use Rattle.plan_spec.specs.declared.kinds.Screen.{Screen}
+use Rattle.plan_spec.specs.declared.kinds.Route.{Route}
+use Rattle.plan_spec.specs.declared.kinds.Item.{Item}
+use Rattle.plan_spec.specs.declared.kinds.Item.TheVariants.{Grid, Outer, Obstacle as ObstacleItem, Screen as ScreenItem, Route as RouteItem}
+use Rattle.plan_spec.specs.Plan.{Obstacle, Plan, empty_plan, with_items, corner_count}
+
+-- each two elements of the list, the earlier one first, pass the test
+abbrev pub each_two : {X : Type 0} → (X → X → Bool) → List X → Bool
+each_two test xs = list_all (λ e. test e.0 e.1) (pairs xs)
+
+-- ---- one part by itself
+
+-- a simple polygon whose coordinates are in range
+abbrev pub is_polygon : List Point → Bool
+is_polygon points = nat_le 3 (length points) && (list_all is_in_range points && (not (has_repeat points) && crosses_nowhere points))
+
+-- two different ends in range
+abbrev pub is_line : Point → Point → Bool
+is_line from to = (is_in_range from && is_in_range to) && not (same_point from to)
+
+-- z is from 1 to most
+abbrev pub is_from_one : ℤ → ℤ → Bool
+is_from_one most z = int_le (pos 1) z && int_le z most
+
+-- the first and the last of `count` coordinates that are `step` apart are in range
+abbrev pub is_row_in_range : ℤ → ℤ → ℤ → Bool
+is_row_in_range first step count = is_coordinate first && is_coordinate (first +ℤ step *ℤ (count -ℤ pos 1))
+
+-- a step of 1 to 999999999, at least one column and one row, and all points in range
+unfoldable pub is_grid_in_range : GridSpec → Bool
+is_grid_in_range g =
+    (is_from_one (pos 999999999) g.step && (int_le (pos 1) g.cols && int_le (pos 1) g.rows))
+    && (is_row_in_range g.x0 g.step g.cols && is_row_in_range g.y0 g.step g.rows)
+
+-- at most 4096 points
+abbrev pub is_grid_small : GridSpec → Bool
+is_grid_small g = int_le (g.cols *ℤ g.rows) (pos 4096)
+
+-- there is no grid, or its points are in range and at most 4096
+abbrev pub is_grid_sound : Option GridSpec → Bool
+is_grid_sound None = true
+is_grid_sound (Some g) = is_grid_in_range g && is_grid_small g
+
+-- ---- two parts beside each other
+
+-- each corner is inside the outer polygon, and no edge touches one of its edges
+unfoldable pub lies_within : List Point → List Point → Bool
+lies_within outer points = list_all (λ p. is_inside p outer) points && not (borders_touch outer points)
+
+-- edges of the two polygons touch, or a corner of one is inside the other
+unfoldable pub polygons_meet : List Point → List Point → Bool
+polygons_meet points others = borders_touch points others || (list_any (λ p. is_inside p others) points || list_any (λ p. is_inside p points) others)
+
+-- the segment touches an edge of the polygon
+abbrev pub touches_border : Point → Point → List Point → Bool
+touches_border from to points = list_any (λ e. do_touch from to e.a e.b) (edges_of points)
+
+-- both ends are inside the outer polygon, and the segment touches none of its edges
+unfoldable pub line_lies_within : List Point → Point → Point → Bool
+line_lies_within outer from to = (is_inside from outer && is_inside to outer) && not (touches_border from to outer)
+
+-- the segment touches an edge of the polygon, or has an end inside it
+unfoldable pub line_meets_polygon : Point → Point → List Point → Bool
+line_meets_polygon from to points = touches_border from to points || (is_inside from points || is_inside to points)
+
+-- the ends of two segments that lie on both
+abbrev pub shared_ends : Point → Point → Point → Point → List Point
+shared_ends a b c d = filter (λ x. is_on_segment x a b && is_on_segment x c d) (a ∷ b ∷ c ∷ d ∷ [])
+
+-- two segments share more than one point: then the ends of what they share are two different ends of theirs
+unfoldable pub do_overlap_lines : Point → Point → Point → Point → Bool
+do_overlap_lines a b c d = list_any (λ e. not (same_point e.0 e.1)) (pairs (shared_ends a b c d))
+
+-- ---- the obstacles, the screens, the routes
+
+abbrev pub obstacles_apart : Obstacle → Obstacle → Bool
+obstacles_apart o q = not (polygons_meet o.points q.points) && not (bytes_eq o.name q.name)
+
+-- simple polygons within the outer polygon, apart from each other, with different names
+unfoldable pub do_obstacles_stand : Plan → Bool
+do_obstacles_stand plan =
+    list_all (λ o. is_polygon o.points && lies_within plan.outer o.points) plan.obstacles && each_two obstacles_apart plan.obstacles
+
+abbrev pub screens_apart : Screen → Screen → Bool
+screens_apart s t = not (do_touch s.from s.to t.from t.to) && not (bytes_eq s.name t.name)
+
+-- lines within the outer polygon that meet no obstacle and no other screen, with different names
+unfoldable pub do_screens_stand : Plan → Bool
+do_screens_stand plan =
+    list_all (λ s. is_line s.from s.to && line_lies_within plan.outer s.from s.to) plan.screens
+    && (list_all (λ s. not (list_any (λ o. line_meets_polygon s.from s.to o.points) plan.obstacles)) plan.screens
+    && each_two screens_apart plan.screens)
+
+abbrev pub routes_apart : Route → Route → Bool
+routes_apart r q = not (do_overlap_lines r.from r.to q.from q.to) && not (bytes_eq r.name q.name)
+
+-- lines of which each two share at most one point, with different names
+unfoldable pub do_routes_stand : Plan → Bool
+do_routes_stand plan = list_all (λ r. is_line r.from r.to) plan.routes && each_two routes_apart plan.routes
+
+-- ---- the plan
+
+-- at most 256 obstacles, 256 screens, 256 routes and 1024 corners
+unfoldable pub is_within_limits : Plan → Bool
+is_within_limits plan =
+    (nat_le (length plan.obstacles) 256 && nat_le (length plan.screens) 256) && (nat_le (length plan.routes) 256 && nat_le (corner_count plan) 1024)
+
+-- the outer polygon is simple, the grid, the obstacles, the screens and the routes stand in it, and no limit is passed
+unfoldable pub is_sound : Plan → Bool
+is_sound plan =
+    (is_polygon plan.outer && is_grid_sound plan.grid)
+    && ((do_obstacles_stand plan && do_screens_stand plan) && (do_routes_stand plan && is_within_limits plan))
+
+-- ---- the items
+
+abbrev pub is_outer : Item → Bool
+is_outer (Grid spec) = false
+is_outer (Outer points) = true
+is_outer (ObstacleItem name points) = false
+is_outer (ScreenItem name from to) = false
+is_outer (RouteItem name from to) = false
+
+abbrev pub is_grid : Item → Bool
+is_grid (Grid spec) = true
+is_grid (Outer points) = false
+is_grid (ObstacleItem name points) = false
+is_grid (ScreenItem name from to) = false
+is_grid (RouteItem name from to) = false
+
+-- the first item is an outer polygon, no other item is one, and there is at most one grid
+unfoldable pub are_in_order : List Item → Bool
+are_in_order [] = false
+are_in_order (item ∷ items) = is_outer item && (not (list_any is_outer items) && nat_le (count_by is_grid items) 1)
+
+-- the items are in order, and the plan that they make is sound
+unfoldable pub is_accepted : List Item → Bool
+is_accepted items = are_in_order items && is_sound (with_items empty_plan items)

@@ -1,0 +1,13 @@
+pub mod Plan
+pub mod Accepted
+pub mod Refusals
+pub mod Edits
+pub mod Scene
+pub mod Sight
+pub mod Stops
+pub mod Grid
+pub mod Isovist
+pub mod Graphs
+pub mod Axial
+pub mod Dirty
+pub mod Routes

@@ -1,0 +1,89 @@
+-- The walls, screens and corners of a plan, as they are seen.
+use Rattle.std.specs.Prelude.{Bool, true, false, not, List, [], ◌∷◌, ◌++◌, map, if◌then◌else◌}
+use Rattle.std.specs.List.{flat_map}
+use Rattle.plane_spec.specs.declared.Point.{Point}
+use Rattle.plane_spec.specs.declared.Segment.{Segment}
+use Rattle.plane_spec.specs.declared.Corner.{Corner}
+use Rattle.plane_spec.specs.Polygons.{edges_of, is_counterclockwise}
+use Rattle.plane_spec.specs.Cones.{corner}
+use Rattle.plan_spec.specs.declared.kinds.Screen.{Screen}
+use Rattle.plan_spec.specs.Plan.{Obstacle, Plan}
+
+-- what a plan is seen as; sight depends on nothing else
+pub record Scene : Type 0 where
+  pub walls : List Segment
+  pub screens : List Segment
+  pub corners : List Corner
+
+-- ---- walls
+
+abbrev pub turned_edge : Segment → Segment
+turned_edge e = record { a = e.b; b = e.a }
+
+-- the points go round as wanted: counterclockwise, or clockwise
+abbrev pub goes_round : Bool → List Point → Bool
+goes_round counterclockwise points = if counterclockwise then is_counterclockwise points else not (is_counterclockwise points)
+
+-- the edges in the order of the points, each directed as wanted
+unfoldable pub walls_round : Bool → List Point → List Segment
+walls_round counterclockwise points = if goes_round counterclockwise points then edges_of points else map turned_edge (edges_of points)
+
+abbrev pub walls_of_obstacle : Obstacle → List Segment
+walls_of_obstacle o = walls_round true o.points
+
+-- what is blocked lies left of each wall: the outer polygon's go clockwise, those of obstacles counterclockwise
+abbrev pub walls_of : Plan → List Segment
+walls_of plan = walls_round false plan.outer ++ flat_map walls_of_obstacle plan.obstacles
+
+-- ---- screens
+
+abbrev pub segment_of_screen : Screen → Segment
+segment_of_screen s = record { a = s.from; b = s.to }
+
+abbrev pub screens_of : Plan → List Segment
+screens_of plan = map segment_of_screen plan.screens
+
+-- ---- corners
+
+-- the corner at the beginning of each edge, after the edge before it
+abbrev pub corners_after : Segment → List Segment → List Corner
+corners_after before [] = []
+corners_after before (e ∷ edges) = corner before.a e.a e.b ∷ corners_after e edges
+
+abbrev pub last_edge : Segment → List Segment → Segment
+last_edge e [] = e
+last_edge e (next ∷ edges) = last_edge next edges
+
+-- the corners at the points, in their order
+abbrev pub corners_along : List Segment → List Corner
+corners_along [] = []
+corners_along (e ∷ edges) = corners_after (last_edge e edges) (e ∷ edges)
+
+abbrev pub turned_corner : Corner → Corner
+turned_corner c = corner c.next c.here c.prev
+
+-- the corners in the order of the points, each between its neighbours in the walls' direction
+unfoldable pub corners_round : Bool → List Point → List Corner
+corners_round counterclockwise points =
+    if goes_round counterclockwise points then corners_along (edges_of points) else map turned_corner (corners_along (edges_of points))
+
+abbrev pub corners_of_obstacle : Obstacle → List Corner
+corners_of_obstacle o = corners_round true o.points
+
+-- an end of a screen is a corner whose cone is empty
+abbrev pub lone_end : Point → Corner
+lone_end v = corner v v v
+
+abbrev pub ends_of_screen : Screen → List Corner
+ends_of_screen s = lone_end s.from ∷ lone_end s.to ∷ []
+
+-- the corners are numbered in the order of the walls, and then come the ends of the screens
+abbrev pub corners_of : Plan → List Corner
+corners_of plan = corners_round false plan.outer ++ (flat_map corners_of_obstacle plan.obstacles ++ flat_map ends_of_screen plan.screens)
+
+abbrev pub scene_of : Plan → Scene
+scene_of plan = record { walls = walls_of plan; screens = screens_of plan; corners = corners_of plan }
+
+-- walls and then screens, as they are numbered
+abbrev pub lines_of_scene : Scene → List Segment
+lines_of_scene scene = scene.walls ++ scene.screens

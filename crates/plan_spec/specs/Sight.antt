@@ -1,0 +1,56 @@
+-- Which points see each other, and which are open.
+use Rattle.std.specs.Prelude.{Bool, ◌&&◌, ◌||◌, not}
+use Rattle.std.specs.List.{list_any}
+use Rattle.plane_spec.specs.declared.Point.{Point}
+use Rattle.plane_spec.specs.declared.Segment.{Segment}
+use Rattle.plane_spec.specs.declared.Corner.{Corner}
+use Rattle.plane_spec.specs.Vectors.{vector, same_point, lies_left}
+use Rattle.plane_spec.specs.Segments.{is_on_segment, cross_properly}
+use Rattle.plane_spec.specs.Polygons.{is_on_edge, is_on_border, is_inside}
+use Rattle.plane_spec.specs.Cones.{is_in_cone}
+use Rattle.plan_spec.specs.Plan.{Obstacle, Plan}
+use Rattle.plan_spec.specs.Scene.{Scene, lines_of_scene}
+
+-- ---- what is in the way
+
+-- the segment from p to q crosses the wall or screen properly
+abbrev pub crosses : Point → Point → Segment → Bool
+crosses p q w = cross_properly w.a w.b p q
+
+-- p lies on the wall, not at its ends
+abbrev pub is_on_middle : Point → Segment → Bool
+is_on_middle p w = is_on_edge p w && (not (same_point p w.a) && not (same_point p w.b))
+
+-- the segment begins on the wall, not at its ends, and leads to its left
+unfoldable pub leaves_wall : Point → Point → Segment → Bool
+leaves_wall p q w = is_on_middle p w && lies_left w.a w.b q
+
+-- the segment begins or ends on the wall and is on its left
+abbrev pub enters_wall : Point → Point → Segment → Bool
+enters_wall p q w = leaves_wall p q w || leaves_wall q p w
+
+-- the corner lies on the closed segment, isn't its end q, and has the direction to q in its cone
+unfoldable pub corner_stops : Point → Point → Corner → Bool
+corner_stops p q c = not (same_point c.here q) && (is_on_segment c.here p q && is_in_cone c (vector c.here q))
+
+-- the segment would have to pass through the corner, in one direction or the other
+abbrev pub corner_blocks : Point → Point → Corner → Bool
+corner_blocks p q c = corner_stops p q c || corner_stops q p c
+
+-- a wall or a screen is crossed, a wall is left to its left, or a corner is in the way
+unfoldable pub is_blocked : Scene → Point → Point → Bool
+is_blocked scene p q =
+    list_any (crosses p q) (lines_of_scene scene) || (list_any (enters_wall p q) scene.walls || list_any (corner_blocks p q) scene.corners)
+
+-- two different points see each other
+unfoldable pub are_in_sight : Scene → Point → Point → Bool
+are_in_sight scene p q = not (same_point p q) && not (is_blocked scene p q)
+
+-- ---- openness
+
+abbrev pub has_inside : Point → Obstacle → Bool
+has_inside x o = is_inside x o.points
+
+-- on or inside the outer polygon, and inside no obstacle
+unfoldable pub is_open : Plan → Point → Bool
+is_open plan x = (is_on_border x plan.outer || is_inside x plan.outer) && not (list_any (has_inside x) plan.obstacles)

@@ -1,0 +1,47 @@
+//! Why an item or an edit is refused.
+
+use text_spec::Name;
+
+/// What there is too much of.
+#[derive(Clone, Copy, Debug, PartialEq, Eq)]
+pub enum Limit {
+    /// More than 256 obstacles.
+    Obstacles,
+    /// More than 1024 corners of polygons and ends of screens.
+    Corners,
+    /// More than 256 screens.
+    Screens,
+    /// More than 256 routes.
+    Routes,
+    /// More than 4096 grid points.
+    Points,
+}
+
+/// Why an item or an edit is refused: the first that holds, in this order.
+#[derive(Drop)]
+pub enum Why {
+    /// The outer polygon isn't the first item, or it or the grid is there already.
+    Order,
+    /// Fewer than three points.
+    Count,
+    /// A number is out of its range.
+    Range,
+    /// Neighbouring points are equal.
+    Repeat,
+    /// The polygon isn't simple.
+    Cross,
+    /// Not strictly within the outer polygon.
+    Outside,
+    /// It touches the obstacle of this name, or one is inside the other.
+    Touch(Name),
+    /// It touches the screen of this name, or the screen is inside it.
+    Screen(Name),
+    /// The name is in use.
+    NameTaken,
+    /// There is nothing of this name.
+    Missing,
+    /// A limit would be passed.
+    Full(Limit),
+    /// It shares more than a point with the route of this name.
+    Overlap(Name),
+}

@@ -1,0 +1,50 @@
+-- Boxes with sides along the axes, borders counted, and what meets them.
+use Rattle.std.specs.Prelude.{ℤ, Bool, ◌&&◌, ◌||◌, not, int_le, List, [], ◌∷◌, Option, Some, None}
+use Rattle.std.specs.Int.{int_max, int_min}
+use Rattle.plane_spec.specs.declared.Point.{Point}
+use Rattle.plane_spec.specs.declared.PlanBox.{PlanBox}
+use Rattle.plane_spec.specs.Vectors.{point, lies_left}
+use Rattle.plane_spec.specs.Fractions.{Fraction, Place, is_at_least, is_at_most}
+
+-- the least box that has a box and a point in it
+abbrev pub with_point : PlanBox → Point → PlanBox
+with_point area p =
+    record { low = point (int_min area.low.x p.x) (int_min area.low.y p.y); high = point (int_max area.high.x p.x) (int_max area.high.y p.y) }
+
+-- the least box that has a box and all of the points in it
+unfoldable pub with_points : PlanBox → List Point → PlanBox
+with_points area [] = area
+with_points area (p ∷ points) = with_points (with_point area p) points
+
+-- the least box that has all of the points in it, or none without points
+abbrev pub box_of_points : List Point → Option PlanBox
+box_of_points [] = None
+box_of_points (p ∷ points) = Some (with_points (record { low = p; high = p }) points)
+
+-- the four corners of the box lie strictly left of the line from p to q
+unfoldable pub is_left_of : Point → Point → PlanBox → Bool
+is_left_of p q area =
+    (lies_left p q (point area.low.x area.low.y) && lies_left p q (point area.high.x area.low.y))
+    && (lies_left p q (point area.high.x area.high.y) && lies_left p q (point area.low.x area.high.y))
+
+-- the box is not strictly on one side of the line through p and q
+abbrev pub reaches_line : Point → Point → PlanBox → Bool
+reaches_line p q area = not (is_left_of p q area) && not (is_left_of q p area)
+
+-- the stretch from one of m and n to the other shares a number with the one from low to high
+abbrev pub do_overlap : ℤ → ℤ → ℤ → ℤ → Bool
+do_overlap m n low high = (int_le low m || int_le low n) && (int_le m high || int_le n high)
+
+-- the segment from p to q meets the box: their extents overlap, and the box isn't strictly on one side of the segment's line
+unfoldable pub does_meet_box : Point → Point → PlanBox → Bool
+does_meet_box p q area =
+    (do_overlap p.x q.x area.low.x area.high.x && do_overlap p.y q.y area.low.y area.high.y) && reaches_line p q area
+
+-- the same of a stretch between fractions
+abbrev pub fractions_overlap : Fraction → Fraction → ℤ → ℤ → Bool
+fractions_overlap m n low high = (is_at_least m low || is_at_least n low) && (is_at_most m high || is_at_most n high)
+
+-- the part between two points of the line through a and b meets the box
+unfoldable pub does_extent_meet_box : Point → Point → Place → Place → PlanBox → Bool
+does_extent_meet_box a b from to area =
+    (fractions_overlap from.x to.x area.low.x area.high.x && fractions_overlap from.y to.y area.low.y area.high.y) && reaches_line a b area

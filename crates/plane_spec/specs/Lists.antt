@@ -1,0 +1,30 @@
+-- Lists: pairs of elements, elements that are like none before them, the first of the least.
+use Rattle.std.specs.Prelude.{ℕ, List, [], ◌∷◌, ◌++◌, map, Bool, if◌then◌else◌, Option, Some, None}
+use Rattle.std.specs.List.{list_any, enumerate_from, best_of}
+
+abbrev pub with_each : {X : Type 0} → X → X → X × X
+with_each x y = (x, y)
+
+-- each element with each of those after it, in order
+abbrev pub pairs : {X : Type 0} → List X → List (X × X)
+pairs [] = []
+pairs (x ∷ xs) = map (with_each x) xs ++ pairs xs
+
+-- the pairs of the elements, each beside its number, counted from 0
+abbrev pub numbered_pairs : {X : Type 0} → List X → List ((ℕ × X) × (ℕ × X))
+numbered_pairs xs = pairs (enumerate_from 0 xs)
+
+-- the elements that are like none of those before them, nor like one of `before`
+abbrev pub firsts_after : {X : Type 0} → (X → X → Bool) → List X → List X → List X
+firsts_after alike before [] = []
+firsts_after alike before (x ∷ xs) =
+    if list_any (alike x) before then firsts_after alike (x ∷ before) xs else (x ∷ firsts_after alike (x ∷ before) xs)
+
+-- the elements that are like none of those before them
+abbrev pub firsts : {X : Type 0} → (X → X → Bool) → List X → List X
+firsts alike xs = firsts_after alike [] xs
+
+-- the first element that none comes before
+abbrev pub least : {X : Type 0} → (X → X → Bool) → List X → Option X
+least comes_before [] = None
+least comes_before (x ∷ xs) = Some (best_of comes_before x xs)

@@ -1,0 +1,44 @@
+//! The plane: the definitions of plane geometry that every claim of this repository rests on, and the plain data that
+//! they name.
+//!
+//! | item | what it is |
+//! |---|---|
+//! | [`Point`] | a point with whole coordinates, or a direction |
+//! | [`Segment`] | a directed segment: an edge of a polygon, a wall or a screen |
+//! | [`Corner`] | a corner between the points before and after it |
+//! | [`PlanBox`] | a box with sides along the axes |
+//!
+//! The definitions stand in `specs/`: `Lists` (pairs, firsts, the least), `Vectors` (cross, dot, orientation, ranges, the
+//! order of directions), `Segments` (on a segment, proper crossing, touching), `Polygons` (edges, inside, simple),
+//! `Cones` (the directions into what is blocked), `Fractions` (order, lowest terms, points with fractions) and `Boxes`
+//! (which segments meet one).
+#![tactic(auto)]
+
+/// A point of the plane in the plan's own unit, or a direction.
+#[derive(Clone, Copy, Debug, PartialEq, Eq)]
+pub struct Point {
+    pub x: i64,
+    pub y: i64,
+}
+
+/// A segment, directed from `a` to `b`.
+#[derive(Clone, Copy, Debug, PartialEq, Eq)]
+pub struct Segment {
+    pub a: Point,
+    pub b: Point,
+}
+
+/// A corner at `here`, between the points before and after it.
+#[derive(Clone, Copy, Debug, PartialEq, Eq)]
+pub struct Corner {
+    pub prev: Point,
+    pub here: Point,
+    pub next: Point,
+}
+
+/// The points from `low` to `high` in both coordinates, borders counted.
+#[derive(Clone, Copy, Debug, PartialEq, Eq)]
+pub struct PlanBox {
+    pub low: Point,
+    pub high: Point,
+}
