@@ -11,6 +11,14 @@ use arrayvec::ArrayVec;
 
 /// Answers the lines of a source as they come. It holds at most 20001 bytes that were taken and not answered, and takes
 /// more only while no whole line waits among them.
+///
+/// A line ends at a newline or at the end of the source; what ends right after a newline has no further line. One carriage
+/// return that stands last in a line isn't shown.
+///
+/// ```text
+/// source   a b \n c \r \n \n d        at most 20 bytes
+/// answers  Line "ab", Line "c", Line "", Line "d", End
+/// ```
 #[derive(Drop)]
 pub struct LineReader {
     held: ArrayVec<u8, 20001>,
@@ -54,7 +62,7 @@ fn drop_front(held: &mut ArrayVec<u8, 20001>, count: usize)
 impl LineReader {
     ghost use Rattle.dm_io.specs.Reader.{answered, Gets, limit_of, line_in, lines_answered, Reads, saw_end, Skips, waiting, Waits};
 
-    /// A reader of at most `limit` bytes.
+    /// A reader of at most `limit` bytes, newlines counted.
     pub fn new(limit: u64) -> LineReader
         requires { limit < 2 ^ 63 }
         ensures waiting { waiting result ≡ [] }
@@ -76,7 +84,7 @@ impl LineReader {
         }
     }
 
-    /// The line that was answered last, without its newline and a carriage return before it.
+    /// The line after an answer of `Line`, without its newline and a carriage return before it.
     pub fn bytes(&self) -> &[u8]
         ensures { result.now ≡ line_in self.now }
     {
@@ -90,9 +98,11 @@ impl LineReader {
         self.number
     }
 
-    /// Answers the next line. It takes from the source only while no whole line waits, and takes no memory.
+    /// Answers the next line. It takes from the source only while no whole line waits, at most 4096 bytes at once, and takes
+    /// no memory. After `End` it answers `End`. After `Failed` and `Over` it may be asked again, and goes on with the bytes
+    /// that wait; but the front of a line that is too long was dropped then, so that its rest may pass for a line.
     ///
-    /// Cost: one pass over the bytes of the line, and each byte that is taken is moved at most twice.
+    /// Cost: one pass over the bytes of the line; each byte that is taken is copied at most twice.
     pub fn next<S: Source>(&mut self, source: &mut S) -> Next
         ensures reads { Reads self.old self.new (S.left source.old) (S.left source.new) result }
         ensures waits { Waits self.old (S.left source.old) (S.left source.new) result }

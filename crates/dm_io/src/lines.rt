@@ -6,15 +6,15 @@ ghost use Rattle.dm_io.specs.Lines.{answer_of, has_newline};
 /// What a reader of lines answers.
 #[derive(Clone, Copy, Debug, PartialEq, Eq)]
 pub enum Next {
-    /// The next line stands in `bytes`.
+    /// The next line stands in `bytes`. It has at most 20000 bytes before its newline, a carriage return counted.
     Line,
     /// The next line has more than 20000 bytes before its newline and was skipped to its end.
     Long,
-    /// All was read.
+    /// All was read, and every line was answered.
     End,
-    /// The source failed.
+    /// The source failed. Every line whose newline was taken is answered.
     Failed,
-    /// The source gave more bytes than the limit.
+    /// The source gave one byte more than the limit. Every line whose newline is within the limit is answered.
     Over,
 }
 
