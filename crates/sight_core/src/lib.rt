@@ -8,6 +8,7 @@
 #![tactic(auto)]
 
 mod cone;
+mod free;
 mod vectors;
 
 pub use cone::in_cone;
