@@ -17,10 +17,14 @@ mod places;
 mod polygons;
 mod products;
 mod segments;
+mod sharing;
 
+pub use boxes::{box_of, meets_box};
+pub use directions::{turn_order};
 pub use polygons::{edge, inside, on_border};
 pub use products::{cross, dot, in_range, orient};
 pub use segments::{crosses, on_segment, touch};
+pub use sharing::types_are_shared;
 
 pub use plane_spec::{Corner, PlanBox, Point, Segment};
 pub use text_spec::{Name, NoMemory};

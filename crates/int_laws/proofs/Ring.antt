@@ -77,6 +77,13 @@ product_grouped_diff a b c d e f = simp product_diff (same_diff _ _ _ _ (omega a
 pub product_grouped : (x y z : ℤ) → (x *ℤ y) *ℤ z ≡ x *ℤ (y *ℤ z)
 product_grouped x y z = rw (is_diff x, is_diff y, is_diff z) (product_grouped_diff (up x) (down x) (up y) (down y) (up z) (down z))
 
+product_turned_diff : (a b c d e f : ℕ) → (diff a b *ℤ diff c d) *ℤ diff e f ≡ (diff a b *ℤ diff e f) *ℤ diff c d
+product_turned_diff a b c d e f = simp product_diff (same_diff _ _ _ _ (omega arith))
+
+-- the last two of three factors may be exchanged
+pub product_turned : (x y z : ℤ) → (x *ℤ y) *ℤ z ≡ (x *ℤ z) *ℤ y
+product_turned x y z = rw (is_diff x, is_diff y, is_diff z) (product_turned_diff (up x) (down x) (up y) (down y) (up z) (down z))
+
 times_sum_diff : (a b c d e f : ℕ) → diff a b *ℤ (diff c d +ℤ diff e f) ≡ diff a b *ℤ diff c d +ℤ diff a b *ℤ diff e f
 times_sum_diff a b c d e f = simp (product_diff, sum_diff) (same_diff _ _ _ _ (omega arith))
 
@@ -145,6 +152,32 @@ pub cross_of_four : (ax ay bx by cx cy dx dy : ℤ) →
 cross_of_four ax ay bx by cx cy dx dy =
     rw (is_diff ax, is_diff ay, is_diff bx, is_diff by, is_diff cx, is_diff cy, is_diff dx, is_diff dy)
     (cross_of_four_diff (up ax) (down ax) (up ay) (down ay) (up bx) (down bx) (up by) (down by) (up cx) (down cx) (up cy) (down cy) (up dx) (down dx) (up dy) (down dy))
+
+-- ---- cross and dot products together
+
+dot_times_diff : (a b c d e f g h : ℕ) →
+    (diff a b *ℤ diff e f +ℤ diff c d *ℤ diff g h) *ℤ diff g h
+    ≡ diff c d *ℤ (diff e f *ℤ diff e f +ℤ diff g h *ℤ diff g h) +ℤ diff e f *ℤ (diff a b *ℤ diff g h -ℤ diff c d *ℤ diff e f)
+dot_times_diff a b c d e f g h = simp (product_diff, minus_diff, sum_diff) (same_diff _ _ _ _ (omega arith))
+
+-- the dot product of d and e, times a component of e, by their cross product and the square of e
+pub dot_times : (dx dy ex ey : ℤ) →
+    (dx *ℤ ex +ℤ dy *ℤ ey) *ℤ ey ≡ dy *ℤ (ex *ℤ ex +ℤ ey *ℤ ey) +ℤ ex *ℤ (dx *ℤ ey -ℤ dy *ℤ ex)
+dot_times dx dy ex ey =
+    rw (is_diff dx, is_diff dy, is_diff ex, is_diff ey)
+    (dot_times_diff (up dx) (down dx) (up dy) (down dy) (up ex) (down ex) (up ey) (down ey))
+
+dot_times_across_diff : (a b c d e f g h : ℕ) →
+    (diff a b *ℤ diff e f +ℤ diff c d *ℤ diff g h) *ℤ diff e f
+    ≡ diff a b *ℤ (diff e f *ℤ diff e f +ℤ diff g h *ℤ diff g h) -ℤ diff g h *ℤ (diff a b *ℤ diff g h -ℤ diff c d *ℤ diff e f)
+dot_times_across_diff a b c d e f g h = simp (product_diff, minus_diff, sum_diff) (same_diff _ _ _ _ (omega arith))
+
+-- the same of the other component
+pub dot_times_across : (dx dy ex ey : ℤ) →
+    (dx *ℤ ex +ℤ dy *ℤ ey) *ℤ ex ≡ dx *ℤ (ex *ℤ ex +ℤ ey *ℤ ey) -ℤ ey *ℤ (dx *ℤ ey -ℤ dy *ℤ ex)
+dot_times_across dx dy ex ey =
+    rw (is_diff dx, is_diff dy, is_diff ex, is_diff ey)
+    (dot_times_across_diff (up dx) (down dx) (up dy) (down dy) (up ex) (down ex) (up ey) (down ey))
 
 -- ---- orientation
 

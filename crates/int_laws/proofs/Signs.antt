@@ -57,6 +57,14 @@ opposite_product a b h k =
     let e = neg_times a b in
     omega (arith, ints, g, e)
 
+-- a square isn't negative
+pub square : (z : ℤ) → pos 0 ≤ℤ (z *ℤ z)
+square z =
+    by_lt_z z (pos 0)
+        (λ p. let g = not_negative_product (neg_ℤ z) (neg_ℤ z) (omega (arith, ints)) (omega (arith, ints)) in
+            let e = neg_times z (neg_ℤ z) in let f = times_neg z z in omega (arith, ints, g, e, f))
+        (λ q. not_negative_product z z q q)
+
 -- ---- factors
 
 -- a number whose product with a positive one is positive is positive
