@@ -8,8 +8,11 @@
 #![tactic(auto)]
 
 mod cone;
-mod free;
+mod scene;
+mod sight;
 mod vectors;
 
 pub use cone::in_cone;
 pub use plane_spec::{Corner, Segment as Wall};
+pub use scene::Scene;
+pub use sight::free;

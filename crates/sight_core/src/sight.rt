@@ -9,6 +9,7 @@ ghost use Rattle.sight_core.specs.Blocks as blocks;
 ghost use Rattle.sight_core.specs.Ranges.{IsWallInRange, IsCornerInRange};
 
 use crate::cone::in_cone;
+use crate::scene::Scene;
 use crate::vectors::{lies_left, vector};
 use exact_geom::{crosses, on_segment, orient};
 use plane_spec::{Corner, Point, Segment};
@@ -145,4 +146,20 @@ fn is_blocked(
     any_wall_blocks(walls, p, q)
         || any_screen_blocks(screens, p, q)
         || any_corner_blocks(corners, p, q)
+}
+
+/// Whether `p` and `q` see each other: they differ, the segment between them crosses no wall and no screen, it leaves no
+/// wall to its left and passes through no corner into what is blocked. Grazing a wall, a screen or a corner is free.
+///
+/// Cost: one pass over the walls, screens and corners, up to the first that is in the way, and mostly two orientations a
+/// wall.
+///
+/// Source: mutual visibility after Turner, Doxa, O'Sullivan and Penn (2001); the rule at corners is this project's own.
+#[tactic(auto, unfolding(plan_spec::specs::Sight::are_in_sight))]
+pub fn free(scene: &Scene, p: Point, q: Point) -> bool
+    requires p_in { InRange p }
+    requires q_in { InRange q }
+    ensures { result ≡ sight.are_in_sight scene.now p q }
+{
+    !same_point(p, q) && !is_blocked(scene.walls(), scene.screens(), scene.corners(), p, q)
 }

@@ -1,7 +1,7 @@
 use Rattle.std.proofs.Common.{rules}
 use Rattle.sight_core.proofs.Ways.{is_blocked_is}
-use Rattle.sight_core.proofs.free.is_blocked.Goals.{then-any_wall_blocks, else-any_wall_blocks}
-use Rattle.sight_core.proofs.free.is_blocked.Goals as goal
+use Rattle.sight_core.proofs.sight.is_blocked.Goals.{then-any_wall_blocks, else-any_wall_blocks}
+use Rattle.sight_core.proofs.sight.is_blocked.Goals as goal
 
 pub returns-then-any_screen_blocks : goal.returns-then-any_screen_blocks
 returns-then-any_screen_blocks c =
