@@ -1,15 +1,16 @@
 -- The points of a sound plan are in range.
-use Rattle.std.proofs.Common.{◌≡◌, ◌≤ℤ◌, ℕ, Bool, true, ◌&&◌, not, List, [], ◌∷◌, ℤ, pos, neg_ℤ, length, leb, arith}
+use Rattle.std.proofs.Common.{◌≡◌, ◌<◌, ◌≤ℤ◌, ℕ, Bool, true, ◌&&◌, not, List, [], ◌∷◌, ℤ, pos, neg_ℤ, length, leb, arith}
 use Rattle.std.specs.Prelude.{All, IsTrue, int_le, nat_le}
 use Rattle.std.specs.List.{list_all, list_any}
 use Rattle.std.proofs.lemmas.Int.{ints}
 use Rattle.std.proofs.lemmas.Bool.{and_parts}
-use Rattle.std.proofs.lemmas.List.Elements.{All-nil, All-cons}
+use Rattle.std.proofs.lemmas.List.Elements.{All-nil, All-cons, All-get_or}
 use Rattle.plane_spec.specs.declared.Point.{Point}
 use Rattle.plane_spec.specs.Vectors.{InRange, IsWithin, is_coordinate, is_in_range, same_point}
 use Rattle.plane_spec.specs.Polygons.{has_repeat, crosses_nowhere}
 use Rattle.plan_spec.specs.declared.kinds.Screen.{Screen}
-use Rattle.plan_spec.specs.Plan.{Obstacle, Plan}
+use Rattle.plan_spec.specs.Plan.{Obstacle, Plan, obstacle}
+use Rattle.plan_check.specs.Kept.{obstacle_at}
 use Rattle.plan_spec.specs.Accepted.{is_polygon, is_line, is_grid_sound, is_within_limits, is_sound, lies_within, line_lies_within, line_meets_polygon, do_obstacles_stand, do_screens_stand, do_routes_stand, each_two, obstacles_apart, screens_apart}
 
 -- each element passes the test, and so has what the test tells
@@ -79,3 +80,9 @@ screens_in_range plan sound =
     All-from_test (λ s. is_line s.from s.to && line_lies_within plan.outer s.from s.to) IsScreenInRange
     (λ s h. line-true s (and_parts (is_line s.from s.to) (line_lies_within plan.outer s.from s.to) h).0)
     plan.screens each.0
+
+-- the k-th obstacle, as the plan gives it
+pub obstacle_in_range : (plan : Plan) (k : ℕ) → IsTrue (is_sound plan) → k < length plan.obstacles → All InRange (obstacle_at plan k).points
+obstacle_in_range plan k sound h =
+    let at = All-get_or IsObstacleInRange plan.obstacles k (obstacle [] []) h (obstacles_in_range plan sound) in
+    at.points

@@ -8,11 +8,13 @@
 #![tactic(auto)]
 
 mod cone;
+mod openness;
 mod scene;
 mod sight;
 mod vectors;
 
 pub use cone::in_cone;
+pub use openness::is_open;
 pub use plane_spec::{Corner, Segment as Wall};
 pub use scene::Scene;
 pub use sight::free;
