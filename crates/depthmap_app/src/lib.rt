@@ -3,3 +3,7 @@
 
 mod edges;
 mod grid;
+mod status;
+mod words;
+
+pub use status::Status;
