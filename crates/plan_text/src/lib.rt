@@ -1,0 +1,4 @@
+//! The text of plans and scripts, read and printed.
+#![tactic(auto)]
+
+mod words;
