@@ -1,5 +1,6 @@
 //! The text of plans and scripts, read and printed.
 #![tactic(auto)]
 
+mod fields;
 mod numbers;
 mod words;
