@@ -3,10 +3,12 @@
 ghost use Rattle.std.specs.Prelude.{◌≡◌, ◌+◌, ◌<◌, [], Some, None, true, false, length, option_map, IfSome, IfNone, IfOk, IfErr, OnOk, Ok, Err};
 ghost use Rattle.text_spec.specs.Words.{words_of};
 ghost use Rattle.report_spec.specs.Shapes.{is_count, number_before, numbers_of, fields_with, read_fields_by, point_from};
+ghost use Rattle.report_spec.specs.PlanText.{grid_of};
 ghost use Rattle.plan_text.specs.Counts.{count_of};
 
 use crate::numbers::number;
 use crate::words::{count_words, next_word};
+use plan_spec::GridSpec;
 use plane_spec::Point;
 use report_spec::TextWhy;
 use text_spec::Name;
@@ -99,4 +101,22 @@ pub fn two_points(words: &[u8]) -> Option<(Point, Point)>
     let (from, rest) = next_point(words)?;
     let (to, _) = next_point(rest)?;
     Some((from, to))
+}
+
+/// Five numbers as a grid.
+#[tactic(auto, unfolding(report_spec::specs::Shapes::numbers_of))]
+pub fn grid_spec(words: &[u8]) -> Option<GridSpec>
+    requires { length (words_of words.now) ≡ 5 }
+    ensures { result ≡ option_map grid_of (numbers_of (words_of words.now)) }
+{
+    let (step, rest) = next_number(words)?;
+    let (origin, rest) = next_point(rest)?;
+    let (size, _) = next_point(rest)?;
+    Some(GridSpec {
+        step,
+        x0: origin.x,
+        y0: origin.y,
+        cols: size.x,
+        rows: size.y,
+    })
 }

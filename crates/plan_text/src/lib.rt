@@ -1,6 +1,9 @@
 //! The text of plans and scripts, read and printed.
 #![tactic(auto)]
 
+mod faults;
 mod fields;
 mod numbers;
+mod polygons;
+mod shapes;
 mod words;
