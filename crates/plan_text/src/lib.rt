@@ -4,6 +4,7 @@
 mod faults;
 mod fields;
 mod numbers;
+mod plan_lines;
 mod polygons;
 mod shapes;
 mod words;

@@ -1,6 +1,6 @@
 //! Bytes cut into lines, and lines into words. Nothing here takes memory.
 
-ghost use Rattle.std.specs.Prelude.{◌≡◌, ◌∷◌, ◌<◌, ◌≤◌, [], IfSome, IfNone, length, not};
+ghost use Rattle.std.specs.Prelude.{◌≡◌, ◌∷◌, ◌<◌, ◌≤◌, [], IfSome, IfNone, length, not, bytes_eq};
 ghost use Rattle.std.specs.List.{position, position_or_len};
 ghost use Rattle.text_spec.specs.Lines.{is_newline, lines_of, without_return};
 ghost use Rattle.text_spec.specs.Words.{is_space, words_of};
@@ -45,6 +45,13 @@ pub fn next_word(bytes: &[u8]) -> Option<(&[u8], &[u8])>
     let start = first_of_word(bytes)?;
     let (_, rest) = bytes.split_at(start);
     Some(rest.split_at(word_length(rest)))
+}
+
+/// Whether the word is this keyword.
+pub fn is_word(word: &[u8], keyword: &[u8]) -> bool
+    ensures { result ≡ bytes_eq word.now keyword.now }
+{
+    word == keyword
 }
 
 /// How many words there are.
