@@ -4,7 +4,10 @@ use Rattle.plan_text.specs.declared.plan_lines.Version.{Version as CodeVersion}
 use Rattle.plan_text.specs.declared.plan_lines.Version.TheVariants.{One as CodeOne, Two as CodeTwo}
 use Rattle.plan_text.specs.declared.plan_lines.PlanWord.{PlanWord as CodeWord}
 use Rattle.plan_text.specs.declared.plan_lines.PlanWord.TheVariants.{Grid, Outer, Outerbox, Obstacle, Box, Screen, Route}
-use Rattle.report_spec.specs.PlanText.{Version, One, Two, PlanWord, GridWord, OuterWord, OuterboxWord, ObstacleWord, BoxWord, ScreenWord, RouteWord}
+use Rattle.plan_text.specs.declared.plan_lines.PlanLine.{PlanLine as CodeLine}
+use Rattle.plan_text.specs.declared.plan_lines.PlanLine.TheVariants.{Blank as CodeBlank, Header as CodeHeader, Item as CodeItem}
+use Rattle.plan_text.specs.declared.faults.ReadLineFault.{ReadLineFault}
+use Rattle.report_spec.specs.PlanText.{PlanLine, Blank, Header, OfItem, Version, One, Two, PlanWord, GridWord, OuterWord, OuterboxWord, ObstacleWord, BoxWord, ScreenWord, RouteWord}
 
 abbrev pub version_kind : CodeVersion → Version
 version_kind CodeOne = One
@@ -18,3 +21,12 @@ word_kind Obstacle = ObstacleWord
 word_kind Box = BoxWord
 word_kind Screen = ScreenWord
 word_kind Route = RouteWord
+
+abbrev pub line_kind : CodeLine → PlanLine
+line_kind CodeBlank = Blank
+line_kind (CodeHeader version) = Header (version_kind version)
+line_kind (CodeItem item) = OfItem item
+
+abbrev pub found_line : Result CodeLine ReadLineFault → Result PlanLine ReadLineFault
+found_line (Ok line) = Ok (line_kind line)
+found_line (Err fault) = Err fault

@@ -3,15 +3,16 @@
 ghost use Rattle.std.specs.Prelude.{◌≡◌, ◌∷◌, option_map};
 ghost use Rattle.text_spec.specs.Words.{words_of};
 ghost use Rattle.report_spec.specs.Shapes.{read_fields};
-ghost use Rattle.report_spec.specs.PlanText.{ok_map, plan_word, has_screens, shape_of, item_of, version_of};
+ghost use Rattle.report_spec.specs.PlanText.{ok_map, plan_word, has_screens, shape_of, item_of, version_of, read_plan_line};
 ghost use Rattle.plan_text.specs.Readings.{Answers};
-ghost use Rattle.plan_text.specs.Kinds.{version_kind, word_kind};
+ghost use Rattle.plan_text.specs.Kinds.{version_kind, word_kind, found_line};
 
 use crate::faults::ReadLineFault;
 use crate::polygons::box_points;
 use crate::shapes::{corners, grid, named_corners, named_polygon, polygon};
-use crate::words::{is_word, next_word};
+use crate::words::{begins_comment, is_long, is_word, next_word, without_return};
 use plan_spec::Item;
+use report_spec::TextWhy;
 use std::alloc::Global;
 
 /// What the first line that isn't blank says: screens stand in version 2 alone.
@@ -31,6 +32,14 @@ pub enum PlanWord {
     Box,
     Screen,
     Route,
+}
+
+/// A line of a plan.
+#[derive(Drop)]
+pub enum PlanLine {
+    Blank,
+    Header(Version),
+    Item(Item),
 }
 
 /// Whether screens may stand in a plan of this version.
@@ -116,4 +125,26 @@ fn header_version(first: &[u8], rest: &[u8]) -> Option<Version>
     } else {
         None
     }
+}
+
+/// A line as it stands before its newline, after a header or before any.
+#[tactic(auto, unfolding(report_spec::specs::PlanText::read_plan_line, text_spec::specs::Words::are_blank))]
+pub fn read_plan_line(alloc: Global, header: Option<Version>, line: &[u8]) -> Result<PlanLine, ReadLineFault>
+    ensures { Answers (read_plan_line (option_map version_kind header) line.now) (found_line result) }
+{
+    if is_long(line) {
+        return Err(ReadLineFault::Bad(TextWhy::Long));
+    }
+    let Some((first, rest)) = next_word(without_return(line)) else {
+        return Ok(PlanLine::Blank);
+    };
+    if begins_comment(first) {
+        return Ok(PlanLine::Blank);
+    }
+    let Some(version) = header else {
+        let version = header_version(first, rest).ok_or(TextWhy::Kind)?;
+        return Ok(PlanLine::Header(version));
+    };
+    let word = kind_of_line(version, first).ok_or(TextWhy::Kind)?;
+    Ok(PlanLine::Item(item(alloc, word, rest)?))
 }

@@ -2,8 +2,11 @@
 
 ghost use Rattle.std.specs.Prelude.{◌≡◌, ◌∷◌, ◌<◌, ◌≤◌, [], IfSome, IfNone, length, not, bytes_eq};
 ghost use Rattle.std.specs.List.{position, position_or_len};
-ghost use Rattle.text_spec.specs.Lines.{is_newline, lines_of, without_return};
-ghost use Rattle.text_spec.specs.Words.{is_space, words_of};
+ghost use Rattle.text_spec.specs.Lines.{is_long, is_newline, lines_of, without_return};
+ghost use Rattle.text_spec.specs.Words.{begins_comment, is_space, words_of};
+
+/// How many bytes may stand before a newline, a carriage return counted.
+const LONGEST_LINE: usize = 20000;
 
 fn is_space(byte: u8) -> bool
     ensures { result ≡ is_space byte }
@@ -94,4 +97,21 @@ pub fn without_return(line: &[u8]) -> &[u8]
     ensures { result.now ≡ without_return line.now }
 {
     line.strip_suffix(b"\r").unwrap_or(line)
+}
+
+/// Whether more bytes than a line may have stand before its newline.
+pub fn is_long(line: &[u8]) -> bool
+    ensures { result ≡ is_long line.now }
+{
+    line.len() > LONGEST_LINE
+}
+
+/// Whether the word begins with `#`.
+pub fn begins_comment(word: &[u8]) -> bool
+    ensures { result ≡ begins_comment word.now }
+{
+    match word.first() {
+        Some(byte) => *byte == b'#',
+        None => false,
+    }
 }
