@@ -1,3 +1,4 @@
 pub mod Places
 pub mod FirstWord
 pub mod FirstLine
+pub mod PlanRead

@@ -19,6 +19,17 @@ pub enum ReadPlanFault {
     NoMemory,
 }
 
+impl From<NoMemory> for ReadPlanFault {
+    ghost use Rattle.std.specs.Prelude.{◌≡◌};
+    ghost use Rattle.plan_text.specs.declared.faults.ReadPlanFault.TheVariants.{NoMemory as OfMemory};
+
+    ghost from_gives = { λ none fault. fault ≡ OfMemory };
+
+    fn from(_: NoMemory) -> ReadPlanFault {
+        ReadPlanFault::NoMemory
+    }
+}
+
 impl From<TextWhy> for ReadLineFault {
     ghost use Rattle.std.specs.Prelude.{◌≡◌};
     ghost use Rattle.plan_text.specs.declared.faults.ReadLineFault.TheVariants.{Bad};

@@ -5,6 +5,7 @@ mod faults;
 mod fields;
 mod numbers;
 mod plan_lines;
+mod plans;
 mod polygons;
 mod shapes;
 mod words;
