@@ -7,7 +7,10 @@ use Rattle.plan_text.specs.declared.plan_lines.PlanWord.TheVariants.{Grid, Outer
 use Rattle.plan_text.specs.declared.plan_lines.PlanLine.{PlanLine as CodeLine}
 use Rattle.plan_text.specs.declared.plan_lines.PlanLine.TheVariants.{Blank as CodeBlank, Header as CodeHeader, Item as CodeItem}
 use Rattle.plan_text.specs.declared.faults.ReadLineFault.{ReadLineFault}
+use Rattle.plan_text.specs.declared.script_lines.ScriptWord.{ScriptWord as CodeScriptWord}
+use Rattle.plan_text.specs.declared.script_lines.ScriptWord.TheVariants.{Add, Addbox, Remove, Move, Addscreen, Removescreen, Addroute, Removeroute, Depth, Isovist, Turns}
 use Rattle.report_spec.specs.PlanText.{PlanLine, Blank, Header, OfItem, Version, One, Two, PlanWord, GridWord, OuterWord, OuterboxWord, ObstacleWord, BoxWord, ScreenWord, RouteWord}
+use Rattle.report_spec.specs.ScriptText.{ScriptWord, AddWord, AddboxWord, RemoveWord, MoveWord, AddscreenWord, RemovescreenWord, AddrouteWord, RemoverouteWord, DepthWord, IsovistWord, TurnsWord}
 
 abbrev pub version_kind : CodeVersion → Version
 version_kind CodeOne = One
@@ -30,3 +33,16 @@ line_kind (CodeItem item) = OfItem item
 abbrev pub found_line : Result CodeLine ReadLineFault → Result PlanLine ReadLineFault
 found_line (Ok line) = Ok (line_kind line)
 found_line (Err fault) = Err fault
+
+abbrev pub script_kind : CodeScriptWord → ScriptWord
+script_kind Add = AddWord
+script_kind Addbox = AddboxWord
+script_kind Remove = RemoveWord
+script_kind Move = MoveWord
+script_kind Addscreen = AddscreenWord
+script_kind Removescreen = RemovescreenWord
+script_kind Addroute = AddrouteWord
+script_kind Removeroute = RemoverouteWord
+script_kind Depth = DepthWord
+script_kind Isovist = IsovistWord
+script_kind Turns = TurnsWord

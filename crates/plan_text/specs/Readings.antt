@@ -1,6 +1,9 @@
 -- What is answered of a reading.
-use Rattle.std.specs.Prelude.{◌≡◌, ℕ, List, Result, Ok, Err, IsOk}
+use Rattle.std.specs.Prelude.{◌≡◌, ℕ, List, Bool, true, false, Result, Ok, Err, IsOk}
 use Rattle.plan_spec.specs.declared.kinds.Item.{Item}
+use Rattle.plan_spec.specs.declared.changes.Edit.TheVariants.{Add}
+use Rattle.report_spec.specs.declared.readings.Line.{Line}
+use Rattle.report_spec.specs.declared.readings.Line.TheVariants.{Edit}
 use Rattle.report_spec.specs.declared.readings.TextWhy.{TextWhy}
 use Rattle.plan_text.specs.declared.faults.ReadLineFault.{ReadLineFault}
 use Rattle.plan_text.specs.declared.faults.ReadLineFault.TheVariants.{Bad, NoMemory}
@@ -27,3 +30,14 @@ ReadsPlan bytes (Err NoRoom) = Unit {0}
 abbrev pub fault_at : ℕ → ReadLineFault → ReadPlanFault
 fault_at line (Bad why) = BadLine line why
 fault_at line NoMemory = NoRoom
+
+-- what was read is an obstacle to be added, which alone takes memory
+abbrev pub is_add : Result Line TextWhy → Bool
+is_add (Ok (Edit (Add name points))) = true
+is_add _ = false
+
+-- the reading of a line of a script; want of memory is answered in place of an obstacle alone
+abbrev pub ReadsLine : Result Line TextWhy → Result Line ReadLineFault → Type 0
+ReadsLine reading (Ok line) = reading ≡ Ok line
+ReadsLine reading (Err (Bad why)) = reading ≡ Err why
+ReadsLine reading (Err NoMemory) = is_add reading ≡ true

@@ -7,5 +7,6 @@ mod numbers;
 mod plan_lines;
 mod plans;
 mod polygons;
+mod script_lines;
 mod shapes;
 mod words;
