@@ -2,3 +2,4 @@ pub mod Places
 pub mod FirstWord
 pub mod FirstLine
 pub mod PlanRead
+pub mod Printed

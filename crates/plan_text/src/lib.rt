@@ -7,6 +7,7 @@ mod numbers;
 mod plan_lines;
 mod plans;
 mod polygons;
+mod printing;
 mod script_lines;
 mod shapes;
 mod words;
