@@ -3,3 +3,5 @@ pub mod FirstWord
 pub mod FirstLine
 pub mod PlanRead
 pub mod Printed
+pub mod PrintedNumbers
+pub mod PrintedWords
