@@ -20,7 +20,7 @@ line_found bytes k e =
     let place = found is_newline bytes k e in
     let rest = drop (k + 1) bytes in
     let split : slice_split is_newline bytes ≡ take k bytes ∷ slice_split is_newline rest =
-        rw place.0 (slice_split_first is_newline bytes 0 (omega arith)) in
+    rw place.0 (slice_split_first is_newline bytes 0 (omega arith)) in
     ap without_empty_last split ∙ not_last (take k bytes) (slice_split is_newline rest) (omega (arith, length-slice_split is_newline rest))
 
 alone : (bytes : List ℕ) → 0 < length bytes → without_empty_last (bytes ∷ []) ≡ bytes ∷ []

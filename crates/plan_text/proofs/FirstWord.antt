@@ -43,14 +43,14 @@ word_by true bytes k e place some =
     let at : position is_space bytes ≡ Some k = rw (← place, e) refl in
     let ends : is_space (get_or bytes k 0) ≡ true = (position-Some is_space bytes k 0 at).1 in
     let split : slice_split is_space bytes ≡ take k bytes ∷ slice_split is_space (drop (k + 1) bytes) =
-        rw place (slice_split_first is_space bytes 0 (omega arith)) in
+    rw place (slice_split_first is_space bytes 0 (omega arith)) in
     ap (filter is_some_bytes) split ∙ kept (take k bytes) (slice_split is_space (drop (k + 1) bytes)) (omega (arith, length-take-le k bytes (omega arith)))
     ∙ ap (λ words. take k bytes ∷ words) (sym (one_passed (get_or bytes k 0) (drop (k + 1) bytes) ends) ∙ ap words_of (sym (drop_more bytes k 0 within)))
 word_by false bytes k e place some =
     let within : k ≤ length bytes = rw place (position_or_len_within is_space bytes) in
     let past : length bytes ≤ k = grind arith in
     let alone : words_of bytes ≡ bytes ∷ [] =
-        ap (filter is_some_bytes) (slice_split_none is_space bytes (none_passes is_space bytes (omega arith))) ∙ kept bytes [] (omega arith) in
+    ap (filter is_some_bytes) (slice_split_none is_space bytes (none_passes is_space bytes (omega arith))) ∙ kept bytes [] (omega arith) in
     rw (take_all k bytes past, drop_all k bytes past) alone
 
 not_true : (t : Bool) → not t ≡ true → t ≡ false

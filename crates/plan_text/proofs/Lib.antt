@@ -5,3 +5,6 @@ pub mod PlanRead
 pub mod Printed
 pub mod PrintedNumbers
 pub mod PrintedWords
+pub mod PrintedItems
+pub mod PrintedLengths
+pub mod PrintedText

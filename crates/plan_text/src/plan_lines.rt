@@ -129,7 +129,11 @@ fn header_version(first: &[u8], rest: &[u8]) -> Option<Version>
 
 /// A line as it stands before its newline, after a header or before any.
 #[tactic(auto, unfolding(report_spec::specs::PlanText::read_plan_line, text_spec::specs::Words::are_blank))]
-pub fn read_plan_line(alloc: Global, header: Option<Version>, line: &[u8]) -> Result<PlanLine, ReadLineFault>
+pub fn read_plan_line(
+    alloc: Global,
+    header: Option<Version>,
+    line: &[u8],
+) -> Result<PlanLine, ReadLineFault>
     ensures { Answers (read_plan_line (option_map version_kind header) line.now) (found_line result) }
 {
     if is_long(line) {

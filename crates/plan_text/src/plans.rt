@@ -75,7 +75,10 @@ pub fn read_plan(alloc: Global, bytes: &[u8]) -> Result<PlanText, ReadPlanFault>
         rest = more;
     }
     if draft.header.is_none() {
-        return Err(ReadPlanFault::Bad { line: number, why: TextWhy::Kind });
+        return Err(ReadPlanFault::Bad {
+            line: number,
+            why: TextWhy::Kind,
+        });
     }
     draft.lines.push(number)?;
     Ok(PlanText {

@@ -1,10 +1,11 @@
 //! The text of a plan, printed.
 
-ghost use Rattle.std.specs.Prelude.{◌≡◌, ◌∷◌, ◌++◌, [], IfOk, OnOk, map};
+ghost use Rattle.std.specs.Prelude.{◌≡◌, ◌∷◌, ◌++◌, [], List, IfOk, OnOk, map};
 ghost use Rattle.std.specs.Fmt.{signed_decimal};
 ghost use Rattle.std.specs.List.{list_any};
 ghost use Rattle.report_spec.specs.Shapes.{numbers_of_points, field_words};
-ghost use Rattle.report_spec.specs.PlanText.{keyword, word_of_item, shape_of, fields_of_item, is_screen, item_words, header_words, ended_line, plan_text_of};
+ghost use Rattle.report_spec.specs.PlanText.{keyword, word_of_item, shape_of, fields_of_item, is_screen, item_words, header_words, ended_line, plan_text_of, ArePrintable};
+ghost use Rattle.plan_text.specs.RoundTrip.{HaveNames, ReadsAgain};
 ghost use Rattle.plan_text.specs.Printing.{spaced};
 
 use itoa::Buffer;
@@ -156,3 +157,9 @@ pub fn print_plan(alloc: Global, plan: &PlanData) -> Result<Vec<u8>, NoMemory>
     }
     Ok(text)
 }
+
+/// What is printed is read again: for items that can be printed and whose names are names, as those of every item are,
+/// the text is in the grammar, with these items and no others, and neither it nor a line of it is too long.
+pub fn prints_and_reads()
+    ensures { (items : List Item) → ArePrintable items → HaveNames items → ReadsAgain items }
+{}

@@ -9,5 +9,5 @@ abbrev pub invariant-digits : goal.invariant-digits
 invariant-digits l = record {
   value : digits_value_after 10 l.value (drop l.digit-index l.digits) ≡ digits_value 10 l.digits;
   kept : list_all is_ascii_digit (drop l.digit-index l.digits) ≡ list_all is_ascii_digit l.digits;
-  small : l.value < 10 ^ l.digit-index
+  small : l.value < 10 ^ l.digit-index;
 }

@@ -7,7 +7,7 @@ use Rattle.plan_text.proofs.polygons.points.Given as goal
 abbrev pub invariant-pairs : goal.invariant-pairs
 invariant-pairs l = record {
   read : option_map (λ numbers. l.points ++ points_of numbers) (numbers_of (words_of l.rest)) ≡ option_map points_of (numbers_of (words_of l.words));
-  even : length (words_of l.rest) % 2 ≡ 0
+  even : length (words_of l.rest) % 2 ≡ 0;
 }
 
 abbrev pub decreases-pairs : goal.decreases-pairs
