@@ -12,6 +12,7 @@
 
 mod draft;
 mod plan;
+mod polygons;
 mod sharing;
 
 pub use plan::Plan;
