@@ -11,6 +11,7 @@
 #![tactic(auto)]
 
 mod draft;
+mod grid;
 mod plan;
 mod polygons;
 mod sharing;
