@@ -146,3 +146,134 @@ fn route_overlapped(draft: &Draft, from: Point, to: Point) -> Option<Why>
     }
     None
 }
+
+// ---- each kind of item
+
+fn why_not_outer(draft: &Draft, points: &[Point]) -> Option<Why>
+    requires { IsDraft draft.now }
+    ensures { result ≡ refusals.why_not_outer draft.now points.now }
+{
+    if draft.has_outer() {
+        return Some(Why::Order);
+    }
+    if let Some(why) = why_not_polygon(points) {
+        return Some(why);
+    }
+    if draft.corners() + points.len() > MOST_CORNERS {
+        return Some(Why::Full(Limit::Corners));
+    }
+    None
+}
+
+fn why_not_grid(draft: &Draft, grid: GridSpec) -> Option<Why>
+    ensures { result ≡ refusals.why_not_grid draft.now grid }
+{
+    if draft.grid().is_some() || !draft.has_outer() {
+        return Some(Why::Order);
+    }
+    if !is_grid_in_range(grid) {
+        return Some(Why::Range);
+    }
+    if !is_grid_small(grid) {
+        return Some(Why::Full(Limit::Points));
+    }
+    None
+}
+
+/// Why an obstacle is refused: also what an edit is refused for that adds one.
+pub(crate) fn why_not_obstacle(draft: &Draft, name: &Name, points: &[Point]) -> Option<Why>
+    requires { IsDraft draft.now }
+    ensures { result ≡ refusals.why_not_obstacle draft.now name.now points.now }
+{
+    if !draft.has_outer() {
+        return Some(Why::Order);
+    }
+    if let Some(why) = why_not_polygon(points) {
+        return Some(why);
+    }
+    if !lies_within(draft.outer(), points) {
+        return Some(Why::Outside);
+    }
+    if let Some(why) = obstacle_met(draft, points) {
+        return Some(why);
+    }
+    if let Some(why) = screen_met(draft, points) {
+        return Some(why);
+    }
+    if draft.has_obstacle(name) {
+        return Some(Why::NameTaken);
+    }
+    if draft.obstacles() >= MOST_OBSTACLES {
+        return Some(Why::Full(Limit::Obstacles));
+    }
+    if draft.corners() + points.len() > MOST_CORNERS {
+        return Some(Why::Full(Limit::Corners));
+    }
+    None
+}
+
+/// Why a screen is refused: also what an edit is refused for that adds one.
+pub(crate) fn why_not_screen(draft: &Draft, name: &Name, from: Point, to: Point) -> Option<Why>
+    requires { IsDraft draft.now }
+    ensures { result ≡ refusals.why_not_screen draft.now name.now from to }
+{
+    if !draft.has_outer() {
+        return Some(Why::Order);
+    }
+    if let Some(why) = why_not_line(from, to) {
+        return Some(why);
+    }
+    if !line_lies_within(draft.outer(), from, to) {
+        return Some(Why::Outside);
+    }
+    if let Some(why) = obstacle_met_by_line(draft, from, to) {
+        return Some(why);
+    }
+    if let Some(why) = screen_met_by_line(draft, from, to) {
+        return Some(why);
+    }
+    if draft.has_screen(name) {
+        return Some(Why::NameTaken);
+    }
+    if draft.screens() >= MOST_SCREENS {
+        return Some(Why::Full(Limit::Screens));
+    }
+    if draft.corners() + 2 > MOST_CORNERS {
+        return Some(Why::Full(Limit::Corners));
+    }
+    None
+}
+
+/// Why a route is refused: also what an edit is refused for that adds one.
+pub(crate) fn why_not_route(draft: &Draft, name: &Name, from: Point, to: Point) -> Option<Why>
+    requires { IsDraft draft.now }
+    ensures { result ≡ refusals.why_not_route draft.now name.now from to }
+{
+    if !draft.has_outer() {
+        return Some(Why::Order);
+    }
+    if let Some(why) = why_not_line(from, to) {
+        return Some(why);
+    }
+    if draft.has_route(name) {
+        return Some(Why::NameTaken);
+    }
+    if draft.routes() >= MOST_ROUTES {
+        return Some(Why::Full(Limit::Routes));
+    }
+    route_overlapped(draft, from, to)
+}
+
+/// The first cause for which the item is refused, or `None` where nothing refuses it.
+pub(crate) fn why_not_item(draft: &Draft, item: &Item) -> Option<Why>
+    requires { IsDraft draft.now }
+    ensures { result ≡ refusals.why_not_item draft.now item.now }
+{
+    match item {
+        Item::Grid(grid) => why_not_grid(draft, *grid),
+        Item::Outer(points) => why_not_outer(draft, points.as_slice()),
+        Item::Obstacle(name, points) => why_not_obstacle(draft, name, points.as_slice()),
+        Item::Screen(name, from, to) => why_not_screen(draft, name, *from, *to),
+        Item::Route(name, from, to) => why_not_route(draft, name, *from, *to),
+    }
+}
