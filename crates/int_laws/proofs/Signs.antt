@@ -1,5 +1,6 @@
 -- Signs of products and sums.
-use Rattle.std.proofs.Common.{◌≡◌, ℕ, ◌+◌, ◌-◌, ◌*◌, ◌≤◌, ℤ, pos, ◌+ℤ◌, ◌-ℤ◌, ◌*ℤ◌, neg_ℤ, ◌<ℤ◌, ◌≤ℤ◌, arith}
+use Rattle.std.proofs.Common.{◌≡◌, ℕ, ◌+◌, ◌-◌, ◌*◌, ◌≤◌, ℤ, pos, ◌+ℤ◌, ◌*ℤ◌, neg_ℤ, ◌<ℤ◌, ◌≤ℤ◌, arith}
+use Rattle.std.specs.Prelude.{true, false, int_lt}
 use Rattle.std.proofs.lemmas.Int.{ints, by_lt_z}
 use borrow.Author.Differences.{up, down}
 use Rattle.int_laws.proofs.Ring.{neg_times, times_neg, times_zero}
@@ -47,8 +48,8 @@ negative_product a b h k =
 pub not_negative_product : (a b : ℤ) → pos 0 ≤ℤ a → pos 0 ≤ℤ b → pos 0 ≤ℤ (a *ℤ b)
 not_negative_product a b h k =
     by_lt_z (pos 0) b
-        (λ p. let g = not_positive_product (neg_ℤ a) b (omega (arith, ints)) p in let e = neg_times a b in omega (arith, ints, g, e))
-        (λ q. let none : b ≡ pos 0 = omega (arith, ints) in rw (none, times_zero a) (omega (arith, ints)))
+    (λ p. let g = not_positive_product (neg_ℤ a) b (omega (arith, ints)) p in let e = neg_times a b in omega (arith, ints, g, e))
+    (λ q. let none : b ≡ pos 0 = omega (arith, ints) in rw (none, times_zero a) (omega (arith, ints)))
 
 -- a number that isn't positive, times one that isn't negative, isn't positive
 pub opposite_product : (a b : ℤ) → a ≤ℤ pos 0 → pos 0 ≤ℤ b → (a *ℤ b) ≤ℤ pos 0
@@ -61,9 +62,9 @@ opposite_product a b h k =
 pub square : (z : ℤ) → pos 0 ≤ℤ (z *ℤ z)
 square z =
     by_lt_z z (pos 0)
-        (λ p. let g = not_negative_product (neg_ℤ z) (neg_ℤ z) (omega (arith, ints)) (omega (arith, ints)) in
-            let e = neg_times z (neg_ℤ z) in let f = times_neg z z in omega (arith, ints, g, e, f))
-        (λ q. not_negative_product z z q q)
+    (λ p. let g = not_negative_product (neg_ℤ z) (neg_ℤ z) (omega (arith, ints)) (omega (arith, ints)) in
+    let e = neg_times z (neg_ℤ z) in let f = times_neg z z in omega (arith, ints, g, e, f))
+    (λ q. not_negative_product z z q q)
 
 -- ---- factors
 
@@ -91,3 +92,21 @@ positive_sum a b h k = omega (arith, ints)
 -- the sum of numbers that aren't positive isn't positive
 pub not_positive_sum : (a b : ℤ) → a ≤ℤ pos 0 → b ≤ℤ pos 0 → (a +ℤ b) ≤ℤ pos 0
 not_positive_sum a b h k = omega (arith, ints)
+
+-- ---- tests
+
+-- a positive number passes the test
+pub positive_tested : (z : ℤ) → pos 0 <ℤ z → int_lt (pos 0) z ≡ true
+positive_tested z h = grind (arith, ints)
+
+-- a number that passes the test is positive
+pub tested_positive : (z : ℤ) → int_lt (pos 0) z ≡ true → pos 0 <ℤ z
+tested_positive z h = omega (arith, ints)
+
+-- a number that isn't positive doesn't pass the test
+pub not_positive_tested : (z : ℤ) → z ≤ℤ pos 0 → int_lt (pos 0) z ≡ false
+not_positive_tested z h = grind (arith, ints)
+
+-- a number that doesn't pass the test isn't positive
+pub tested_not_positive : (z : ℤ) → int_lt (pos 0) z ≡ false → z ≤ℤ pos 0
+tested_not_positive z h = omega (arith, ints)

@@ -30,6 +30,14 @@ impl Model for Plan {
 }
 
 impl Plan {
+    /// The plan of sound parts.
+    pub(crate) fn of_sound(draft: Draft) -> Plan
+        requires { IsTrue (is_sound draft) }
+        ensures { result ≡ draft }
+    {
+        Plan { draft }
+    }
+
     /// The points of the outer polygon, as they were given.
     pub fn outer(&self) -> &[Point]
         ensures points { result.now ≡ self.now.outer }

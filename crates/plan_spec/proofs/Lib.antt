@@ -1,6 +1,7 @@
-mod Figures
+pub mod Figures
 mod RefusalExamples
 mod SightExamples
 mod IsovistExamples
 mod GraphExamples
 mod RouteExamples
+mod Laws
