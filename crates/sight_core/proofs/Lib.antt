@@ -1,4 +1,5 @@
 pub mod Sides
 pub mod Ways
+pub mod Along
 pub mod Sound
 pub mod Seen

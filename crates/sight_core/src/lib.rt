@@ -9,6 +9,7 @@
 
 mod cone;
 mod openness;
+mod rounds;
 mod scene;
 mod sight;
 mod vectors;
