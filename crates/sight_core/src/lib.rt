@@ -9,6 +9,7 @@
 
 mod cone;
 mod openness;
+mod parts;
 mod rounds;
 mod scene;
 mod sight;
@@ -17,5 +18,5 @@ mod vectors;
 pub use cone::in_cone;
 pub use openness::is_open;
 pub use plane_spec::{Corner, Segment as Wall};
-pub use scene::Scene;
+pub use scene::{Scene, scene_of};
 pub use sight::free;

@@ -1,12 +1,13 @@
 //! The walls and corners of one polygon.
 
-ghost use Rattle.std.specs.Prelude.{All, OnOk, ◌≡◌, ◌∷◌, ◌++◌, [], ◌+ℤ◌, pos, int_lt};
+ghost use Rattle.std.specs.Prelude.{All, OnOk, ◌≡◌, ◌∷◌, ◌++◌, [], ◌+ℤ◌, pos};
 ghost use Rattle.plane_spec.specs.Cones as cones;
 ghost use Rattle.plane_spec.specs.Polygons as polygons;
 ghost use Rattle.plane_spec.specs.Vectors.{InRange};
 ghost use Rattle.plan_spec.specs.Scene as scenes;
 ghost use Rattle.sight_core.specs.Rounds as rounds;
 
+use crate::vectors::is_positive;
 use exact_geom::{cross, edge};
 use plane_spec::{Corner, Point, Segment};
 use text_spec::NoMemory;
@@ -19,12 +20,6 @@ pub(crate) fn append<T: Copy>(list: &mut Vec<T>, x: T) -> Result<(), NoMemory>
         Ok(()) => Ok(()),
         Err(_) => Err(NoMemory),
     }
-}
-
-fn is_positive(z: i128) -> bool
-    ensures { result ≡ int_lt (pos 0) z }
-{
-    0 < z
 }
 
 /// Whether the points go round counterclockwise, by the sign of the doubled area.

@@ -32,7 +32,7 @@ pub(crate) fn vector(a: Point, b: Point) -> Point
     }
 }
 
-fn is_positive(z: i128) -> bool
+pub(crate) fn is_positive(z: i128) -> bool
     ensures { result ≡ int_lt (pos 0) z }
 {
     0 < z
