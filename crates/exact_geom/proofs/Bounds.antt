@@ -35,5 +35,5 @@ orient_within a b c a_in b_in c_in =
     let cx = difference_within a.x c.x a_in.x c_in.x in
     let cy = difference_within a.y c.y a_in.y c_in.y in
     products_apart_within _ _
-        (product_within 200000 200000 (b.x -ℤ a.x) (c.y -ℤ a.y) bx cy)
-        (product_within 200000 200000 (b.y -ℤ a.y) (c.x -ℤ a.x) by cx)
+    (product_within 200000 200000 (b.x -ℤ a.x) (c.y -ℤ a.y) bx cy)
+    (product_within 200000 200000 (b.y -ℤ a.y) (c.x -ℤ a.x) by cx)

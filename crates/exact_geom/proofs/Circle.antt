@@ -1,11 +1,10 @@
 -- Directions in their order round the circle, by the half turn that begins at (1,0) and the other one.
-use Rattle.std.proofs.Common.{◌≡◌, ℤ, pos, neg_ℤ, ◌+ℤ◌, ◌-ℤ◌, ◌*ℤ◌, ◌<ℤ◌, ◌≤ℤ◌, arith, ap, refl, sym, ◌∙◌, subst, ⊎_elim}
+use Rattle.std.proofs.Common.{◌≡◌, ℤ, pos, neg_ℤ, ◌+ℤ◌, ◌-ℤ◌, ◌*ℤ◌, ◌<ℤ◌, ◌≤ℤ◌, arith, ap, refl, sym, ◌∙◌, subst}
 use Rattle.std.specs.Prelude.{Bool, true, false, int_lt}
-use Rattle.std.proofs.lemmas.Bool.{cases_Bool}
 use Rattle.std.proofs.lemmas.Int.{ints, by_lt_z}
 use Rattle.plane_spec.specs.declared.Point.{Point}
-use Rattle.plane_spec.specs.Vectors.{point, cross_of, dot_of, is_left, is_upper, turns_by, turns_before, IsDirected}
-use Rattle.int_laws.proofs.Ring.{zero_times, times_zero, neg_times, times_neg, neg_twice, cross_of_three, dot_times, dot_times_across, product_swapped}
+use Rattle.plane_spec.specs.Vectors.{cross_of, dot_of, is_left, is_upper, turns_by, turns_before, IsDirected}
+use Rattle.int_laws.proofs.Ring.{times_zero, neg_times, times_neg, neg_twice, cross_of_three, dot_times}
 use Rattle.int_laws.proofs.Signs.{positive_product, not_negative_product, opposite_product, square, positive_factor, not_positive_factor, positive_sum, not_positive_sum}
 use Rattle.exact_geom.proofs.Turns.{cross_of_exchanged}
 
@@ -79,11 +78,11 @@ none_left_of_none_left ax ay bx by cx cy a (along b_is b_right) c ab bc =
     -- b leads along the axis, and so does c
     let z = factor_zero cx by b_is in
     by_lt_z (pos 0) cy
-      (λ c_up. let g = positive_product bx cy b_right c_up in absurd (omega (arith, ints, z, g, bc)))
-      (λ c_low. let c_is : cy ≡ pos 0 = let n = not_down cx cy c in omega (arith, ints, n) in
-          let y = factor_zero ax cy c_is in
-          let n = not_negative_product ay cx (not_down ax ay a) (rightwards c c_is) in
-          omega (arith, ints, y, n))
+    (λ c_up. let g = positive_product bx cy b_right c_up in absurd (omega (arith, ints, z, g, bc)))
+    (λ c_low. let c_is : cy ≡ pos 0 = let n = not_down cx cy c in omega (arith, ints, n) in
+    let y = factor_zero ax cy c_is in
+    let n = not_negative_product ay cx (not_down ax ay a) (rightwards c c_is) in
+    omega (arith, ints, y, n))
 
 -- ---- the direction the other way
 
@@ -115,7 +114,7 @@ pub lower_is : (d : Point) → IsDirected d → is_upper d ≡ false → IsUpper
 lower_is d directed h =
     let some = directed.somewhere in
     by_lt_z d.y (pos 0) (λ p. above (omega (arith, ints)))
-        (λ q. let level : d.y ≡ pos 0 = grind (arith, ints) in along (omega (arith, ints)) (grind (arith, ints)))
+    (λ q. let level : d.y ≡ pos 0 = grind (arith, ints) in along (omega (arith, ints)) (grind (arith, ints)))
 
 -- ---- none before, one after another
 
@@ -198,7 +197,7 @@ pub in_line_within : (d e : Point) (upper : Bool) → IsDirected d → IsDirecte
 in_line_within d e true d_some e_some h k line = upper_in_line d.x d.y e.x e.y (upper_is d h) (upper_is e k) line
 in_line_within d e false d_some e_some h k line =
     subst (λ t. pos 0 <ℤ t) (dot_both_back d e)
-        (upper_in_line (neg_ℤ d.x) (neg_ℤ d.y) (neg_ℤ e.x) (neg_ℤ e.y) (lower_is d d_some h) (lower_is e e_some k) (both_back d e ∙ line))
+    (upper_in_line (neg_ℤ d.x) (neg_ℤ d.y) (neg_ℤ e.x) (neg_ℤ e.y) (lower_is d d_some h) (lower_is e e_some k) (both_back d e ∙ line))
 
 negated_zero : (y z : ℤ) → y ≡ neg_ℤ z → z ≡ pos 0 → y ≡ pos 0
 negated_zero y z e h = omega (arith, ints)
@@ -210,7 +209,7 @@ negated_positive y z e h = omega (arith, ints)
 pub in_line_across : (d e : Point) → IsDirected e → is_upper d ≡ true → is_upper e ≡ false → cross_of d e ≡ pos 0 → dot_of d e <ℤ pos 0
 in_line_across d e e_some h k line =
     negated_positive _ _ (dot_back d e)
-        (upper_in_line d.x d.y (neg_ℤ e.x) (neg_ℤ e.y) (upper_is d h) (lower_is e e_some k) (negated_zero _ _ (back_right d e) line))
+    (upper_in_line d.x d.y (neg_ℤ e.x) (neg_ℤ e.y) (upper_is d h) (lower_is e e_some k) (negated_zero _ _ (back_right d e) line))
 
 cross_itself : (d : Point) → cross_of d d ≡ pos 0
 cross_itself d = omega (arith, ints)
@@ -219,5 +218,5 @@ cross_itself d = omega (arith, ints)
 pub dot_itself : (d : Point) → IsDirected d → pos 0 <ℤ dot_of d d
 dot_itself d d_some =
     by_cases (is_upper d)
-        (λ h. in_line_within d d true d_some d_some h h (cross_itself d))
-        (λ h. in_line_within d d false d_some d_some h h (cross_itself d))
+    (λ h. in_line_within d d true d_some d_some h h (cross_itself d))
+    (λ h. in_line_within d d false d_some d_some h h (cross_itself d))

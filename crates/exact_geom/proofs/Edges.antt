@@ -34,8 +34,8 @@ edges_to-in_range first (p ∷ []) f h = All-cons IsEdgeInRange (record { a = p;
 edges_to-in_range first (p ∷ q ∷ points) f h =
     let rest = All-tail InRange p (q ∷ points) h in
     All-cons IsEdgeInRange (record { a = p; b = q }) (edges_to first (q ∷ points))
-        (record { a = All-head InRange p (q ∷ points) h; b = All-head InRange q points rest })
-        (edges_to-in_range first (q ∷ points) f rest)
+    (record { a = All-head InRange p (q ∷ points) h; b = All-head InRange q points rest })
+    (edges_to-in_range first (q ∷ points) f rest)
 
 -- the edges of a polygon in range are in range
 pub edges_of-in_range : (points : List Point) → All InRange points → All IsEdgeInRange (edges_of points)

@@ -5,7 +5,7 @@ use Rattle.std.proofs.lemmas.Grind.{common_steps}
 use Rattle.std.proofs.lemmas.List.Sums.{sum_by-cons}
 use Rattle.plane_spec.specs.declared.Point.{Point}
 use Rattle.plane_spec.specs.declared.Segment.{Segment}
-use Rattle.plane_spec.specs.Polygons.{edges_to, edges_of, is_on_edge, passes_right, is_inside}
+use Rattle.plane_spec.specs.Polygons.{edges_of, is_on_edge, passes_right, is_inside}
 use Rattle.exact_geom.proofs.Edges.{edges_of-end}
 
 parity_step : (n : ℕ) → ((1 + n) % 2 == 1) ≡ not (n % 2 == 1)

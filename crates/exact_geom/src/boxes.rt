@@ -68,9 +68,23 @@ fn left_of(p: Point, q: Point, area: PlanBox) -> bool
 {
     let (low, high) = (area.low, area.high);
     left(p, q, low)
-        && left(p, q, Point { x: high.x, y: low.y })
+        && left(
+            p,
+            q,
+            Point {
+                x: high.x,
+                y: low.y,
+            },
+        )
         && left(p, q, high)
-        && left(p, q, Point { x: low.x, y: high.y })
+        && left(
+            p,
+            q,
+            Point {
+                x: low.x,
+                y: high.y,
+            },
+        )
 }
 
 /// Whether `area` isn't strictly on one side of the line through `p` and `q`.

@@ -1,8 +1,10 @@
 //! The order of directions, counterclockwise from (1,0).
 
-ghost use Rattle.std.specs.Prelude.{◌≡◌};
-ghost use Rattle.exact_geom.specs.Directions.{turned_order};
-ghost use Rattle.plane_spec.specs.Vectors.{IsDirection, is_upper, turn_order_of};
+ghost use Rattle.std.specs.Prelude.{ℤ, pos, ◌≡◌, ◌↔◌, ◌≢◌, ◌<ℤ◌};
+ghost use Rattle.std.specs.Ordering.{ordering_reverse};
+ghost use Rattle.std.specs.declared.cmp.Ordering.TheVariants.{Less, Equal};
+ghost use Rattle.exact_geom.specs.Directions.{PointAlike, turned_order};
+ghost use Rattle.plane_spec.specs.Vectors.{IsDirected, IsDirection, cross_of, dot_of, is_upper, point, turn_order_of};
 
 use crate::products::cross;
 use plane_spec::Point;
@@ -31,8 +33,8 @@ fn order_by_turn(d: Point, e: Point) -> Ordering
     }
 }
 
-/// The order of two directions counterclockwise from (1,0), equal where they point the same way. Of directions that
-/// aren't (0,0) it is an order, as [`turn_order_laws`] says.
+/// The order of two directions counterclockwise from (1,0), equal where they point the same way. It is an order of the
+/// directions that aren't (0,0), as [`turn_order_laws`] says.
 ///
 /// Cost: one cross product where both are in one half turn, and none otherwise.
 pub fn turn_order(d: Point, e: Point) -> Ordering
@@ -47,3 +49,16 @@ pub fn turn_order(d: Point, e: Point) -> Ordering
         (false, false) => order_by_turn(d, e),
     }
 }
+
+/// The order of directions, of any size, that aren't (0,0): it goes round from (1,0), is a strict weak order, and equal
+/// are exactly those of which a positive multiple of one is a positive multiple of the other.
+///
+/// Proofs cite these laws from `proofs/TurnLaws.antt`.
+pub fn turn_order_laws()
+    ensures first { (d : Point) → turn_order_of d (point (pos 1) (pos 0)) ≢ Less }
+    ensures reversed { (d e : Point) → turn_order_of e d ≡ ordering_reverse (turn_order_of d e) }
+    ensures transitive { (a b c : Point) → IsDirected a → IsDirected b → IsDirected c → turn_order_of a b ≡ Less → turn_order_of b c ≡ Less → turn_order_of a c ≡ Less }
+    ensures equal_compare_alike { (a b c : Point) → IsDirected a → IsDirected b → IsDirected c → turn_order_of a b ≡ Equal → turn_order_of a c ≡ turn_order_of b c }
+    ensures equal_point_alike { (d e : Point) → IsDirected d → IsDirected e → (turn_order_of d e ≡ Equal) ↔ PointAlike d e }
+    ensures equal_in_line { (d e : Point) → IsDirected d → IsDirected e → (turn_order_of d e ≡ Equal) ↔ ((cross_of d e ≡ pos 0) × (pos 0 <ℤ dot_of d e)) }
+{}

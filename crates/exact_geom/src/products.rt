@@ -2,7 +2,7 @@
 //!
 //! Bounds prove that each step fits in 64 bits, so only the result is widened.
 
-ghost use Rattle.std.specs.Prelude.{◌≡◌, ◌↔◌, IsTrue, pos, ◌+ℤ◌, ◌-ℤ◌, ◌*ℤ◌};
+ghost use Rattle.std.specs.Prelude.{◌≡◌, ◌↔◌, IsTrue, neg_ℤ, pos, ◌+ℤ◌, ◌-ℤ◌, ◌*ℤ◌};
 ghost use Rattle.plane_spec.specs.Vectors.{InRange, IsDirection, IsWithin, cross_of, dot_of, is_in_range, orient_of};
 
 use plane_spec::Point;
@@ -104,3 +104,14 @@ pub fn dot(d: Point, e: Point) -> i128
 {
     i128::from(plus(product(d.x, e.x), product(d.y, e.y)))
 }
+
+/// Orientation of any three points changes its sign where two of them are exchanged, and stays where they are taken
+/// from another one on.
+///
+/// Proofs cite these laws from `proofs/Orientation.antt`.
+pub fn orient_laws()
+    ensures first_exchanged { (a b c : Point) → orient_of b a c ≡ neg_ℤ (orient_of a b c) }
+    ensures last_exchanged { (a b c : Point) → orient_of a c b ≡ neg_ℤ (orient_of a b c) }
+    ensures ends_exchanged { (a b c : Point) → orient_of c b a ≡ neg_ℤ (orient_of a b c) }
+    ensures cycled { (a b c : Point) → orient_of b c a ≡ orient_of a b c }
+{}

@@ -1,5 +1,5 @@
 -- Signs of products and sums.
-use Rattle.std.proofs.Common.{◌≡◌, ℕ, ◌+◌, ◌-◌, ◌*◌, ◌≤◌, ℤ, pos, ◌+ℤ◌, ◌-ℤ◌, ◌*ℤ◌, neg_ℤ, ◌<ℤ◌, ◌≤ℤ◌, arith}
+use Rattle.std.proofs.Common.{◌≡◌, ℕ, ◌+◌, ◌-◌, ◌*◌, ◌≤◌, ℤ, pos, ◌+ℤ◌, ◌*ℤ◌, neg_ℤ, ◌<ℤ◌, ◌≤ℤ◌, arith}
 use Rattle.std.proofs.lemmas.Int.{ints, by_lt_z}
 use borrow.Author.Differences.{up, down}
 use Rattle.int_laws.proofs.Ring.{neg_times, times_neg, times_zero}
@@ -47,8 +47,8 @@ negative_product a b h k =
 pub not_negative_product : (a b : ℤ) → pos 0 ≤ℤ a → pos 0 ≤ℤ b → pos 0 ≤ℤ (a *ℤ b)
 not_negative_product a b h k =
     by_lt_z (pos 0) b
-        (λ p. let g = not_positive_product (neg_ℤ a) b (omega (arith, ints)) p in let e = neg_times a b in omega (arith, ints, g, e))
-        (λ q. let none : b ≡ pos 0 = omega (arith, ints) in rw (none, times_zero a) (omega (arith, ints)))
+    (λ p. let g = not_positive_product (neg_ℤ a) b (omega (arith, ints)) p in let e = neg_times a b in omega (arith, ints, g, e))
+    (λ q. let none : b ≡ pos 0 = omega (arith, ints) in rw (none, times_zero a) (omega (arith, ints)))
 
 -- a number that isn't positive, times one that isn't negative, isn't positive
 pub opposite_product : (a b : ℤ) → a ≤ℤ pos 0 → pos 0 ≤ℤ b → (a *ℤ b) ≤ℤ pos 0
@@ -61,9 +61,9 @@ opposite_product a b h k =
 pub square : (z : ℤ) → pos 0 ≤ℤ (z *ℤ z)
 square z =
     by_lt_z z (pos 0)
-        (λ p. let g = not_negative_product (neg_ℤ z) (neg_ℤ z) (omega (arith, ints)) (omega (arith, ints)) in
-            let e = neg_times z (neg_ℤ z) in let f = times_neg z z in omega (arith, ints, g, e, f))
-        (λ q. not_negative_product z z q q)
+    (λ p. let g = not_negative_product (neg_ℤ z) (neg_ℤ z) (omega (arith, ints)) (omega (arith, ints)) in
+    let e = neg_times z (neg_ℤ z) in let f = times_neg z z in omega (arith, ints, g, e, f))
+    (λ q. not_negative_product z z q q)
 
 -- ---- factors
 
