@@ -11,7 +11,9 @@
 #![tactic(auto)]
 
 mod draft;
+mod grid;
 mod plan;
+mod polygons;
 mod sharing;
 
 pub use plan::Plan;
