@@ -8,6 +8,7 @@
 #![tactic(auto)]
 
 mod cone;
+mod hits;
 mod openness;
 mod parts;
 mod rounds;

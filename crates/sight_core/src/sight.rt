@@ -28,7 +28,7 @@ fn are_alike(s: i128, t: i128) -> bool
 }
 
 /// Whether `p` lies on the wall, not at its ends.
-fn is_on_middle(p: Point, wall: &Segment) -> bool
+pub(crate) fn is_on_middle(p: Point, wall: &Segment) -> bool
     requires p_in { InRange p }
     requires wall_in { IsWallInRange wall.now }
     ensures { result ≡ sight.is_on_middle p wall.now }

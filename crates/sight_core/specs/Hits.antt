@@ -1,0 +1,23 @@
+-- The first of the least fractions, sought one after another.
+use Rattle.std.specs.Prelude.{ℤ, pos, ◌≤ℤ◌, ◌^◌, List, Option, Some, None, if◌then◌else◌}
+use Rattle.std.specs.List.{best_of}
+use Rattle.plane_spec.specs.Lists.{least}
+use Rattle.plane_spec.specs.Vectors.{IsWithin}
+use Rattle.plane_spec.specs.Fractions.{Fraction, is_before}
+
+-- a fraction over a denominator of at least 1 whose parts are at most 10^12 in size
+pub record IsHit (f : Fraction) : Type 0 where
+  pub num : IsWithin (pos (10 ^ 12)) f.num
+  pub den : IsWithin (pos (10 ^ 12)) f.den
+  pub positive : pos 1 ≤ℤ f.den
+
+-- the hit that comes before the best so far, or the best so far
+unfoldable pub nearer : Option Fraction → Option Fraction → Option Fraction
+nearer None hit = hit
+nearer (Some best) None = Some best
+nearer (Some best) (Some hit) = Some (if is_before hit best then hit else best)
+
+-- the first of the least among the best so far and the hits after it
+unfoldable pub least_from : Option Fraction → List Fraction → Option Fraction
+least_from None hits = least is_before hits
+least_from (Some best) hits = Some (best_of is_before best hits)
