@@ -10,7 +10,7 @@ use lib.IntN.{negsuc}
 use Rattle.int_laws.proofs.Divisors.{coprime_quotients, positive_divisor}
 use Rattle.plane_spec.specs.Vectors.{IsWithin}
 use Rattle.plane_spec.specs.Fractions.{Fraction, divisor_within, common_divisor, divided, reduced, IsReduced, fraction}
-use Rattle.exact_geom.specs.Sizes.{HasPartsWithin}
+use Rattle.exact_geom.specs.Parts.{HasPartsWithin}
 use Rattle.exact_geom.proofs.Bounds.{size_within, within_size}
 
 -- ---- the greatest common divisor

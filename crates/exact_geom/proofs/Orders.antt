@@ -27,8 +27,8 @@ greater_factor x y k up less =
 pub same_test : (x y k : ℤ) → pos 1 ≤ℤ k → int_lt (x *ℤ k) (y *ℤ k) ≡ int_lt x y
 same_test x y k up =
     agree (int_lt (x *ℤ k) (y *ℤ k)) (int_lt x y)
-      (λ h. true-int_lt x y (smaller_factor x y k up (int_lt-true (x *ℤ k) (y *ℤ k) h)))
-      (λ h. true-int_lt (x *ℤ k) (y *ℤ k) (greater_factor x y k up (int_lt-true x y h)))
+    (λ h. true-int_lt x y (smaller_factor x y k up (int_lt-true (x *ℤ k) (y *ℤ k) h)))
+    (λ h. true-int_lt (x *ℤ k) (y *ℤ k) (greater_factor x y k up (int_lt-true x y h)))
 
 products_mixed : (a b c d : ℤ) → (a *ℤ b) *ℤ (c *ℤ d) ≡ (a *ℤ c) *ℤ (b *ℤ d)
 products_mixed a b c d =
@@ -48,10 +48,10 @@ reduced_keeps_before f g f_up g_up =
     let m_some = divisor_is_positive f f_up in
     let n_some = divisor_is_positive g g_up in
     let left : (p.num *ℤ q.den) *ℤ (m *ℤ n) ≡ f.num *ℤ g.den =
-      sym (products_mixed p.num m q.den n) ∙ ap (λ t. t *ℤ (q.den *ℤ n)) (numerator_is f) ∙ ap (λ t. f.num *ℤ t) (denominator_is g) in
+    sym (products_mixed p.num m q.den n) ∙ ap (λ t. t *ℤ (q.den *ℤ n)) (numerator_is f) ∙ ap (λ t. f.num *ℤ t) (denominator_is g) in
     let right : (q.num *ℤ p.den) *ℤ (m *ℤ n) ≡ g.num *ℤ f.den =
-      ap (λ t. (q.num *ℤ p.den) *ℤ t) (product_swapped m n)
-      ∙ sym (products_mixed q.num n p.den m) ∙ ap (λ t. t *ℤ (p.den *ℤ m)) (numerator_is g) ∙ ap (λ t. g.num *ℤ t) (denominator_is f) in
+    ap (λ t. (q.num *ℤ p.den) *ℤ t) (product_swapped m n)
+    ∙ sym (products_mixed q.num n p.den m) ∙ ap (λ t. t *ℤ (p.den *ℤ m)) (numerator_is g) ∙ ap (λ t. g.num *ℤ t) (denominator_is f) in
     sym (same_test (p.num *ℤ q.den) (q.num *ℤ p.den) (m *ℤ n) (factor_is_positive m n (omega (arith, ints)) (omega (arith, ints))))
     ∙ ap (λ t. int_lt t ((q.num *ℤ p.den) *ℤ (m *ℤ n))) left
     ∙ ap (λ t. int_lt (f.num *ℤ g.den) t) right

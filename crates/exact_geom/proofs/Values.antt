@@ -147,13 +147,15 @@ parts_tell_values f g f_low g_low = agree (int_eq f.num g.num && int_eq f.den g.
   where
     law : (f ≡ g) ↔ (same_value f g ≡ true)
     law = equal_where_values_are f g f_low g_low
+
     there : (int_eq f.num g.num && int_eq f.den g.den) ≡ true → same_value f g ≡ true
     there h =
-      let parts = both (int_eq f.num g.num) (int_eq f.den g.den) h in
-      law.0 (ap (λ n. record { num = n; den = f.den }) (int_eq-true f.num g.num parts.0) ∙ ap (λ d. record { num = g.num; den = d }) (int_eq-true f.den g.den parts.1))
+        let parts = both (int_eq f.num g.num) (int_eq f.den g.den) h in
+        law.0 (ap (λ n. record { num = n; den = f.den }) (int_eq-true f.num g.num parts.0) ∙ ap (λ d. record { num = g.num; den = d }) (int_eq-true f.den g.den parts.1))
+
     back : same_value f g ≡ true → (int_eq f.num g.num && int_eq f.den g.den) ≡ true
     back h =
-      let e = law.1 h in
-      let first : int_eq f.num g.num ≡ true = true-int_eq f.num g.num (ap (λ t. t.num) e) in
-      let second : int_eq f.den g.den ≡ true = true-int_eq f.den g.den (ap (λ t. t.den) e) in
-      ap (λ t. t && int_eq f.den g.den) first ∙ second
+        let e = law.1 h in
+        let first : int_eq f.num g.num ≡ true = true-int_eq f.num g.num (ap (λ t. t.num) e) in
+        let second : int_eq f.den g.den ≡ true = true-int_eq f.den g.den (ap (λ t. t.den) e) in
+        ap (λ t. t && int_eq f.den g.den) first ∙ second

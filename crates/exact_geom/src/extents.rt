@@ -1,10 +1,10 @@
 //! Parts of lines between points with fractions, and the boxes that they meet.
 
-ghost use Rattle.std.specs.Prelude.{◌≡◌, ◌^◌, pos, ◌*ℤ◌, int_le};
+ghost use Rattle.std.specs.Prelude.{◌≡◌, ◌≢◌, ◌^◌, pos, ◌*ℤ◌, int_le};
 ghost use Rattle.plane_spec.specs.Vectors.{InRange, IsWithin};
 ghost use Rattle.plane_spec.specs.Fractions.{is_at_least, is_at_most};
 ghost use Rattle.plane_spec.specs.Boxes.{fractions_overlap, does_extent_meet_box};
-ghost use Rattle.exact_geom.specs.Sizes.{HasPartsWithin, HasCoordinatesWithin};
+ghost use Rattle.exact_geom.specs.Parts.{HasPartsWithin, HasCoordinatesWithin};
 
 use crate::boxes::line_reaches_box;
 use crate::fractions::Frac;
@@ -71,4 +71,54 @@ pub fn extent_meets_box(a: Point, b: Point, from: &RPoint, to: &RPoint, area: Pl
     overlap(&from.x, &to.x, area.low.x, area.high.x)
         && overlap(&from.y, &to.y, area.low.y, area.high.y)
         && line_reaches_box(a, b, area)
+}
+
+#[cfg(test)]
+mod tests {
+    use super::*;
+
+    /// The place after `num / den` steps from (1,0) by (3,1).
+    fn place(num: i128, den: i128) -> RPoint
+        requires num_in { IsWithin (pos (10 ^ 12)) num }
+        requires den_in { IsWithin (pos (10 ^ 12)) den }
+        requires some { den ≢ pos 0 }
+        ensures { HasCoordinatesWithin (pos (10 ^ 18)) result }
+    {
+        RPoint::along(
+            Point { x: 1, y: 0 },
+            Point { x: 3, y: 1 },
+            &Frac::new(num, den),
+        )
+    }
+
+    /// Whether the stretch from `from` to `to` meets the box from (2,0) to (4,2) moved by `shift` to the right.
+    fn meets(from: &RPoint, to: &RPoint, shift: i64) -> bool
+        requires from_in { HasCoordinatesWithin (pos (10 ^ 18)) from.now }
+        requires to_in { HasCoordinatesWithin (pos (10 ^ 18)) to.now }
+        requires shift_in { IsWithin (pos 100) shift }
+    {
+        let area = PlanBox {
+            low: Point { x: 2 + shift, y: 0 },
+            high: Point { x: 4 + shift, y: 2 },
+        };
+        extent_meets_box(Point { x: 1, y: 0 }, Point { x: 4, y: 1 }, from, to, area)
+    }
+
+    #[test]
+    fn stretches_and_boxes(rt: HostRuntime) {
+        let start = place(0, 1);
+        let before = place(1, 4);
+        let border = place(2, 6);
+        let after = place(-2, -3);
+        assert!(rt; border.x == Frac::new(2, 1) && border.y == Frac::new(1, 3));
+        assert!(rt; border == place(1, 3) && border != after);
+        assert!(rt; !meets(&start, &before, 0));
+        assert!(rt; meets(&start, &border, 0));
+        assert!(rt; meets(&border, &after, 0));
+        assert!(rt; meets(&after, &start, 0));
+        assert!(rt; meets(&start, &before, -3));
+        assert!(rt; !meets(&border, &after, 2));
+        let copied = border;
+        assert!(rt; copied == border);
+    }
 }

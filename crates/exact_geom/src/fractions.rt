@@ -8,7 +8,7 @@ ghost use Prim.Native.Nat.{◌∣◌};
 ghost use Rattle.std.specs.Int.{IsGcd, int_div_euclid};
 ghost use Rattle.plane_spec.specs.Vectors.{IsWithin};
 ghost use Rattle.plane_spec.specs.Fractions as fractions;
-ghost use Rattle.exact_geom.specs.Sizes.{HasPartsWithin};
+ghost use Rattle.exact_geom.specs.Parts.{HasPartsWithin, same_parts};
 
 use std::cmp::Ordering;
 use std::marker::Model;
@@ -33,12 +33,13 @@ impl Model for Frac {
 }
 
 impl PartialEq for Frac {
-    ghost eq = { λ f g. int_eq f.num g.num && int_eq f.den g.den };
+    ghost eq = { same_parts };
 
     ghost laws = { Prim.search (comparing, rules) };
 
+    /// Whether the two have one value: in lowest terms, that is one numerator and one denominator.
     fn eq(&self, other: &Self) -> bool
-        ensures by_parts { result ≡ (int_eq self.now.num other.now.num && int_eq self.now.den other.now.den) }
+        ensures by_parts { result ≡ same_parts self.now other.now }
         ensures by_value { result ≡ fractions.same_value self.now other.now }
     {
         are_same(self.num, self.den, other.num, other.den)

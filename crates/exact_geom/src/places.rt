@@ -1,16 +1,19 @@
 //! Points whose coordinates are fractions.
 
-ghost use Rattle.std.specs.Prelude.{◌≡◌, ◌^◌, ◌*◌, pos, ◌*ℤ◌, ◌+ℤ◌};
+ghost use Rattle.std.specs.Prelude.{◌≡◌, ◌^◌, ◌*◌, pos, ◌*ℤ◌, ◌+ℤ◌, ◌&&◌};
+ghost use Rattle.std.specs.Ordering.{eq_of_both, on};
+ghost use Rattle.std.specs.Cmp.Rules.{comparing};
+ghost use Rattle.std.proofs.Common.{rules};
 ghost use Rattle.plane_spec.specs.Vectors.{InRange, IsDirection, IsWithin};
 ghost use Rattle.plane_spec.specs.Fractions as fractions;
-ghost use Rattle.exact_geom.specs.Sizes.{HasPartsWithin, HasCoordinatesWithin};
+ghost use Rattle.exact_geom.specs.Parts.{HasPartsWithin, HasCoordinatesWithin, same_parts};
 
 use crate::fractions::{Frac, lowest};
 use plane_spec::Point;
 use std::marker::Model;
 
 /// A point whose coordinates are fractions.
-#[derive(Clone, Copy, Debug, PartialEq, Eq)]
+#[derive(Clone, Copy, Debug)]
 pub struct RPoint {
     pub x: Frac,
     pub y: Frac,
@@ -24,6 +27,24 @@ impl Model for RPoint {
     ghost view = { λ a. record { x = a.x; y = a.y } };
 
     ghost inverse = { λ p. record { x = p.x; y = p.y } };
+}
+
+impl PartialEq for RPoint {
+    ghost eq = { eq_of_both (on (λ p. p.x) same_parts) (on (λ p. p.y) same_parts) };
+
+    ghost laws = { Prim.search (comparing, rules) };
+
+    /// Whether the two are one point.
+    fn eq(&self, other: &Self) -> bool
+        ensures by_parts { result ≡ (same_parts self.now.x other.now.x && same_parts self.now.y other.now.y) }
+        ensures by_value { result ≡ fractions.same_place self.now other.now }
+    {
+        self.x == other.x && self.y == other.y
+    }
+}
+
+impl Eq for RPoint {
+    ghost laws = { Prim.search (comparing, rules) };
 }
 
 /// A coordinate or a component of a direction, times a part of a fraction.

@@ -4,7 +4,7 @@ use Rattle.std.proofs.lemmas.Int.{to_z-of_z}
 use mir.Syntax.{w64, w128}
 use Rattle.plane_spec.specs.Vectors.{IsWithin}
 use Rattle.plane_spec.specs.Fractions as fractions
-use Rattle.exact_geom.specs.Sizes.{HasPartsWithin}
+use Rattle.exact_geom.specs.Parts.{HasPartsWithin}
 use Rattle.exact_geom.proofs.Lowest.{within_more, reduced_no_larger}
 use Rattle.exact_geom.proofs.places.shifted.Goals as goal
 

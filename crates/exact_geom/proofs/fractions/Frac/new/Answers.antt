@@ -7,10 +7,12 @@ pub returns-then-den-gt0-clause-no_larger : goal.returns-then-den-gt0-clause-no_
 returns-then-den-gt0-clause-no_larger c = λ most num_in den_in.
     rw c.lowest.ensures (reduced_no_larger most _ (record {
       num = record { low = omega (arith, ints); high = omega (arith, ints) };
-      den = record { low = omega (arith, ints); high = omega (arith, ints) } }))
+      den = record { low = omega (arith, ints); high = omega (arith, ints) };
+    }))
 
 pub returns-else-den-gt0-clause-no_larger : goal.returns-else-den-gt0-clause-no_larger
 returns-else-den-gt0-clause-no_larger c = λ most num_in den_in.
     rw c.lowest-else-den-gt0.ensures (reduced_no_larger most _ (record {
       num = record { low = omega (arith, ints); high = omega (arith, ints) };
-      den = record { low = omega (arith, ints); high = omega (arith, ints) } }))
+      den = record { low = omega (arith, ints); high = omega (arith, ints) };
+    }))
