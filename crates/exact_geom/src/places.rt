@@ -2,6 +2,7 @@
 
 ghost use Rattle.std.specs.Prelude.{◌≡◌, ◌^◌, ◌*◌, pos, ◌*ℤ◌, ◌+ℤ◌, ◌&&◌};
 ghost use Rattle.std.specs.Ordering.{eq_of_both, on};
+ghost use Rattle.std.specs.Cmp.{partial_equiv_from_equiv};
 ghost use Rattle.std.specs.Cmp.Rules.{comparing};
 ghost use Rattle.std.proofs.Common.{rules};
 ghost use Rattle.plane_spec.specs.Vectors.{InRange, IsDirection, IsWithin};
@@ -32,7 +33,7 @@ impl Model for RPoint {
 impl PartialEq for RPoint {
     ghost eq = { eq_of_both (on (λ p. p.x) same_parts) (on (λ p. p.y) same_parts) };
 
-    ghost laws = { Prim.search (comparing, rules) };
+    ghost laws = { partial_equiv_from_equiv (Prim.search (comparing, rules)) };
 
     /// Whether the two are one point.
     fn eq(&self, other: &Self) -> bool
