@@ -1,5 +1,7 @@
 pub mod Sides
 pub mod Ways
 pub mod Along
+pub mod Squares
+pub mod Nearest
 pub mod Sound
 pub mod Seen
