@@ -5,27 +5,8 @@ use Rattle.std.proofs.lemmas.Int.{ints, by_lt_z}
 use Rattle.plane_spec.specs.declared.Point.{Point}
 use Rattle.plane_spec.specs.Vectors.{cross_of, dot_of, is_left, is_upper, turns_by, turns_before, IsDirected}
 use Rattle.int_laws.proofs.Ring.{times_zero, neg_times, times_neg, neg_twice, cross_of_three, dot_times}
-use Rattle.int_laws.proofs.Signs.{positive_product, not_negative_product, opposite_product, square, positive_factor, not_positive_factor, positive_sum, not_positive_sum}
+use Rattle.int_laws.proofs.Signs.{not_positive_tested, tested_not_positive, positive_product, not_negative_product, opposite_product, square, positive_factor, not_positive_factor, positive_sum, not_positive_sum}
 use Rattle.exact_geom.proofs.Turns.{cross_of_exchanged}
-
--- ---- tests
-
--- either way of a test
-pub by_cases : {P : Type 0} (b : Bool) → (b ≡ true → P) → (b ≡ false → P) → P
-by_cases true f g = f refl
-by_cases false f g = g refl
-
-pub positive_tested : (z : ℤ) → pos 0 <ℤ z → int_lt (pos 0) z ≡ true
-positive_tested z h = grind (arith, ints)
-
-pub tested_positive : (z : ℤ) → int_lt (pos 0) z ≡ true → pos 0 <ℤ z
-tested_positive z h = omega (arith, ints)
-
-pub not_positive_tested : (z : ℤ) → z ≤ℤ pos 0 → int_lt (pos 0) z ≡ false
-not_positive_tested z h = grind (arith, ints)
-
-pub tested_not_positive : (z : ℤ) → int_lt (pos 0) z ≡ false → z ≤ℤ pos 0
-tested_not_positive z h = omega (arith, ints)
 
 -- ---- the half turn that begins at (1,0)
 
@@ -216,7 +197,4 @@ cross_itself d = omega (arith, ints)
 
 -- the square of a direction is positive
 pub dot_itself : (d : Point) → IsDirected d → pos 0 <ℤ dot_of d d
-dot_itself d d_some =
-    by_cases (is_upper d)
-    (λ h. in_line_within d d true d_some d_some h h (cross_itself d))
-    (λ h. in_line_within d d false d_some d_some h h (cross_itself d))
+dot_itself d d_some = in_line_within d d (is_upper d) d_some d_some refl refl (cross_itself d)

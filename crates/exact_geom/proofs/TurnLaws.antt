@@ -5,14 +5,15 @@ use Rattle.std.specs.Cmp.{IsStrictWeakOrder, IsTotalOrder}
 use Rattle.std.specs.Ordering.{is_lt, ordering_reverse}
 use Rattle.std.specs.declared.cmp.Ordering.{Ordering}
 use Rattle.std.specs.declared.cmp.Ordering.TheVariants.{Less, Equal, Greater}
+use Rattle.std.proofs.lemmas.Bool.{true_from_ne_false}
 use Rattle.std.proofs.lemmas.Int.{ints}
 use Rattle.plane_spec.specs.declared.Point.{Point}
 use Rattle.plane_spec.specs.Vectors.{point, cross_of, dot_of, is_left, is_upper, turns_by, turns_before, turn_order_of, IsDirected}
 use Rattle.int_laws.proofs.Ring.{times_zero, times_one, times_minus, times_sum, product_grouped, product_turned, product_swapped, dot_times, dot_times_across}
-use Rattle.int_laws.proofs.Signs.{positive_product, positive_factor, zero_factor}
+use Rattle.int_laws.proofs.Signs.{not_positive_tested, tested_not_positive, positive_product, positive_factor, zero_factor}
 use Rattle.exact_geom.specs.Directions.{PointAlike}
 use Rattle.exact_geom.proofs.Turns.{order_by, order_by_halves, order_within, cross_of_exchanged}
-use Rattle.exact_geom.proofs.Circle.{by_cases, turns_chain, turns_one_way, in_line_within, in_line_across, dot_itself, not_positive_tested, tested_not_positive, not_down, upper_is}
+use Rattle.exact_geom.proofs.Circle.{turns_chain, turns_one_way, in_line_within, in_line_across, dot_itself, not_down, upper_is}
 
 -- the order, by which of the two comes before the other
 abbrev ordered_by : Bool → Bool → Ordering
@@ -70,20 +71,16 @@ order_reversed d e = rw (order_is d e, order_is e d) (reversed_by (turns_before 
 
 -- ---- an order
 
-true_of_not_false : (b : Bool) → (b ≡ false → ⊥) → b ≡ true
-true_of_not_false true h = refl
-true_of_not_false false h = absurd (h refl)
-
 -- what comes before one that comes before a third, comes before the third
 pub before_transitive : (a b c : Point) → IsDirected a → IsDirected b → IsDirected c → turns_before a b ≡ true → turns_before b c ≡ true → turns_before a c ≡ true
 before_transitive a b c a_some b_some c_some h k =
-    true_of_not_false (turns_before a c)
+    true_from_ne_false (turns_before a c)
     (λ n. let e = turns_chain a c b a_some c_some b_some n (turns_one_way b c k) in let f : true ≡ false = sym h ∙ e in cc)
 
 -- what comes before one that isn't after a third, comes before the third
 before_then_not_after : (a b c : Point) → IsDirected a → IsDirected b → IsDirected c → turns_before a b ≡ true → turns_before c b ≡ false → turns_before a c ≡ true
 before_then_not_after a b c a_some b_some c_some h k =
-    true_of_not_false (turns_before a c) (λ n. let e = turns_chain a c b a_some c_some b_some n k in let f : true ≡ false = sym h ∙ e in cc)
+    true_from_ne_false (turns_before a c) (λ n. let e = turns_chain a c b a_some c_some b_some n k in let f : true ≡ false = sym h ∙ e in cc)
 
 same_test : (a b : Bool) → (a ≡ true → b ≡ true) → (b ≡ true → a ≡ true) → a ≡ b
 same_test true b h k = sym (h refl)
@@ -95,11 +92,11 @@ pub equal_compares_alike : (a b c : Point) → IsDirected a → IsDirected b →
 equal_compares_alike a b c a_some b_some c_some h =
     let n = neither_before a b h in
     let before = same_test (turns_before a c) (turns_before b c)
-    (λ e. true_of_not_false (turns_before b c) (λ f. let g = turns_chain a b c a_some b_some c_some n.first f in let x : true ≡ false = sym e ∙ g in cc))
-    (λ e. true_of_not_false (turns_before a c) (λ f. let g = turns_chain b a c b_some a_some c_some n.second f in let x : true ≡ false = sym e ∙ g in cc)) in
+    (λ e. true_from_ne_false (turns_before b c) (λ f. let g = turns_chain a b c a_some b_some c_some n.first f in let x : true ≡ false = sym e ∙ g in cc))
+    (λ e. true_from_ne_false (turns_before a c) (λ f. let g = turns_chain b a c b_some a_some c_some n.second f in let x : true ≡ false = sym e ∙ g in cc)) in
     let after = same_test (turns_before c a) (turns_before c b)
-    (λ e. true_of_not_false (turns_before c b) (λ f. let g = turns_chain c b a c_some b_some a_some f n.second in let x : true ≡ false = sym e ∙ g in cc))
-    (λ e. true_of_not_false (turns_before c a) (λ f. let g = turns_chain c a b c_some a_some b_some f n.first in let x : true ≡ false = sym e ∙ g in cc)) in
+    (λ e. true_from_ne_false (turns_before c b) (λ f. let g = turns_chain c b a c_some b_some a_some f n.second in let x : true ≡ false = sym e ∙ g in cc))
+    (λ e. true_from_ne_false (turns_before c a) (λ f. let g = turns_chain c a b c_some a_some b_some f n.first in let x : true ≡ false = sym e ∙ g in cc)) in
     order_is a c ∙ ap (λ t. ordered_by t (turns_before c a)) before ∙ ap (ordered_by (turns_before b c)) after ∙ sym (order_is b c)
 
 -- Less, one after another
@@ -186,16 +183,15 @@ in_line_exchanged d e l =
     let h = l.line in let k = l.ahead in let x = cross_of_exchanged d e in
     record { line = omega (arith, ints, h, x); ahead = omega (arith, ints, k) }
 
+equal_by_halves : (d e : Point) → IsDirected d → IsDirected e → InLine d e → (upper upper_too : Bool) → is_upper d ≡ upper → is_upper e ≡ upper_too → turn_order_of d e ≡ Equal
+equal_by_halves d e d_some e_some l true true h k = order_within d e true h k ∙ turned_equal (cross_of d e) l.line
+equal_by_halves d e d_some e_some l true false h k = absurd (opposed d e e_some l h k)
+equal_by_halves d e d_some e_some l false true h k = absurd (opposed e d d_some (in_line_exchanged d e l) k h)
+equal_by_halves d e d_some e_some l false false h k = order_within d e false h k ∙ turned_equal (cross_of d e) l.line
+
 -- directions in line are equal
 pub equal_of_in_line : (d e : Point) → IsDirected d → IsDirected e → InLine d e → turn_order_of d e ≡ Equal
-equal_of_in_line d e d_some e_some l =
-    by_cases (is_upper d)
-    (λ h. by_cases (is_upper e)
-    (λ k. order_within d e true h k ∙ turned_equal (cross_of d e) l.line)
-    (λ k. absurd (opposed d e e_some l h k)))
-    (λ h. by_cases (is_upper e)
-    (λ k. absurd (opposed e d d_some (in_line_exchanged d e l) k h))
-    (λ k. order_within d e false h k ∙ turned_equal (cross_of d e) l.line))
+equal_of_in_line d e d_some e_some l = equal_by_halves d e d_some e_some l (is_upper d) (is_upper e) refl refl
 
 add_nothing : (x y z : ℤ) → x ≡ y +ℤ z → z ≡ pos 0 → x ≡ y
 add_nothing x y z e h = omega (arith, ints)

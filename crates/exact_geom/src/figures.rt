@@ -3,8 +3,8 @@
 ghost use Rattle.plane_spec.specs.Vectors.{InRange};
 
 use crate::{
-    box_of, crosses, edge, in_range, inside, meets_box, on_border, on_segment, orient, touch,
-    turn_order,
+    box_of, cross, crosses, dot, edge, in_range, inside, meets_box, on_border, on_segment, orient,
+    touch, turn_order,
 };
 use plane_spec::{PlanBox, Point};
 use std::cmp::Ordering;
@@ -95,6 +95,8 @@ fn polygons(rt: &impl Abort) {
 }
 
 fn directions(rt: &impl Abort) {
+    assert!(rt; cross(known(rt, at(1, 2)), known(rt, at(3, 4))) == -2);
+    assert!(rt; dot(known(rt, at(1, 2)), known(rt, at(3, 4))) == 11);
     // two directions, and how they compare round the circle from (1,0)
     let pairs = [
         (at(1, 0), at(5, 1), Ordering::Less),

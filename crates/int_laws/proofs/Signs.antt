@@ -1,5 +1,6 @@
 -- Signs of products and sums.
 use Rattle.std.proofs.Common.{◌≡◌, ℕ, ◌+◌, ◌-◌, ◌*◌, ◌≤◌, ℤ, pos, ◌+ℤ◌, ◌*ℤ◌, neg_ℤ, ◌<ℤ◌, ◌≤ℤ◌, arith}
+use Rattle.std.specs.Prelude.{true, false, int_lt}
 use Rattle.std.proofs.lemmas.Int.{ints, by_lt_z}
 use borrow.Author.Differences.{up, down}
 use Rattle.int_laws.proofs.Ring.{neg_times, times_neg, times_zero}
@@ -91,3 +92,21 @@ positive_sum a b h k = omega (arith, ints)
 -- the sum of numbers that aren't positive isn't positive
 pub not_positive_sum : (a b : ℤ) → a ≤ℤ pos 0 → b ≤ℤ pos 0 → (a +ℤ b) ≤ℤ pos 0
 not_positive_sum a b h k = omega (arith, ints)
+
+-- ---- tests
+
+-- a positive number passes the test
+pub positive_tested : (z : ℤ) → pos 0 <ℤ z → int_lt (pos 0) z ≡ true
+positive_tested z h = grind (arith, ints)
+
+-- a number that passes the test is positive
+pub tested_positive : (z : ℤ) → int_lt (pos 0) z ≡ true → pos 0 <ℤ z
+tested_positive z h = omega (arith, ints)
+
+-- a number that isn't positive doesn't pass the test
+pub not_positive_tested : (z : ℤ) → z ≤ℤ pos 0 → int_lt (pos 0) z ≡ false
+not_positive_tested z h = grind (arith, ints)
+
+-- a number that doesn't pass the test isn't positive
+pub tested_not_positive : (z : ℤ) → int_lt (pos 0) z ≡ false → z ≤ℤ pos 0
+tested_not_positive z h = omega (arith, ints)
