@@ -1,5 +1,5 @@
 -- Fractions of one value have one form in lowest terms.
-use Rattle.std.proofs.Common.{◌≡◌, ℕ, zero, suc, ◌+◌, ◌*◌, ◌/◌, ◌<◌, ◌≤◌, refl, sym, ◌∙◌, ap, subst, arith, Bool, true, false, ℤ, pos, neg_ℤ, ◌*ℤ◌, ◌≤ℤ◌, ◌↔◌}
+use Rattle.std.proofs.Common.{◌≡◌, ℕ, suc, ◌*◌, ◌/◌, ◌<◌, refl, sym, ◌∙◌, ap, subst, arith, Bool, true, false, ℤ, pos, neg_ℤ, ◌*ℤ◌, ◌≤ℤ◌, ◌↔◌}
 use Prim.Native.Nat.{◌∣◌}
 use Rattle.std.specs.Prelude.{unsigned_abs, ◌&&◌}
 use Rattle.std.proofs.lemmas.Bool.{false≢true}
@@ -11,7 +11,7 @@ use Rattle.std.proofs.Math.Nat.{div-mul_cancel, div-one, mul-pos, eq_of_mul-eq-m
 use lib.IntN.{negsuc}
 use Rattle.int_laws.proofs.Divisors.{coprime_quotients, one_in_lowest}
 use Rattle.int_laws.proofs.Ring.{neg_times, product_grouped, product_swapped}
-use Rattle.plane_spec.specs.Fractions.{Fraction, common_divisor, divided, reduced, IsReduced, same_value}
+use Rattle.plane_spec.specs.Fractions.{Fraction, divided, reduced, IsReduced, same_value}
 use Rattle.exact_geom.proofs.Lowest.{divisor_of, divisor_is_positive, common_divisor_is, divided_natural, quotient_is_positive, size_is_positive}
 
 -- ---- tests

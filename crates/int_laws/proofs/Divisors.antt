@@ -1,8 +1,8 @@
 -- Greatest common divisors: Euclid's lemma, and what is left after the common divisor is taken out.
-use Rattle.std.proofs.Common.{◌≡◌, ℕ, zero, suc, ◌+◌, ◌-◌, ◌*◌, ◌/◌, ◌%◌, ◌<◌, ◌≤◌, refl, sym, ◌∙◌, ap, subst, arith}
+use Rattle.std.proofs.Common.{◌≡◌, ℕ, zero, suc, ◌-◌, ◌*◌, ◌/◌, ◌%◌, ◌<◌, refl, sym, ◌∙◌, ap, subst, arith}
 use Prim.Native.Nat.{◌∣◌}
 use Rattle.std.specs.Int.{IsGcd}
-use Rattle.std.proofs.lemmas.Nat.Gcd.{dvd_refl, dvd-zero, dvd_trans, dvd_antisymm, IsGcd-from_zero, IsGcd-from_mod, IsGcd-swap, same_from_IsGcd}
+use Rattle.std.proofs.lemmas.Nat.Gcd.{dvd-zero, dvd_antisymm, IsGcd-from_zero, IsGcd-from_mod, IsGcd-swap, same_from_IsGcd}
 use Rattle.std.proofs.Math.Nat.{dvd-mod_iff, dvd-mul_left, dvd-mul_right, mod_def, mul-sub, mul-div-mul_left, mul_assoc, mul_comm, mod-lt, eq_of_mul-eq-mul_right, div-mul_cancel, dvd_of_mul-dvd-mul_right, mul-dvd-mul_right, pos_of_dvd_of_pos}
 
 -- ---- Euclid's lemma
@@ -28,7 +28,7 @@ scaled_within (suc steps) a (suc b) g c few some h =
     let less : a % suc b < suc b = mod-lt a (omega arith) in
     let rest = scaled_within steps (suc b) (a % suc b) g c (omega arith) some (onto_remainder a (suc b) g h) in
     IsGcd-from_mod (c * a) (c * suc b) (c * g)
-      (subst (λ t. IsGcd (c * suc b) t (c * g)) (sym (remainder_of_multiples c a (suc b) some)) rest)
+    (subst (λ t. IsGcd (c * suc b) t (c * g)) (sym (remainder_of_multiples c a (suc b) some)) rest)
 
 -- the greatest common divisor of multiples is the multiple of the greatest common divisor
 pub IsGcd-scaled : (a b g c : ℕ) → 0 < c → IsGcd a b g → IsGcd (c * a) (c * b) (c * g)
@@ -53,11 +53,12 @@ coprime_quotients a b g some h = (divides_all (a / g), divides_all (b / g), λ d
   where
     multiple : (n d : ℕ) → g ∣ n → d ∣ n / g → d * g ∣ n
     multiple n d whole p = subst (λ t. d * g ∣ t) (div-mul_cancel g whole) (mul-dvd-mul_right d p g)
+
     only_one : (d : ℕ) → d ∣ a / g → d ∣ b / g → d ∣ 1
     only_one d p q =
-      let both : d * g ∣ g = h.2 (d * g) (multiple a d h.0 p) (multiple b d h.1 q) in
-      let e : g ≡ 1 * g = omega arith in
-      dvd_of_mul-dvd-mul_right d {n = 1} some (subst (λ t. d * g ∣ t) e both)
+        let both : d * g ∣ g = h.2 (d * g) (multiple a d h.0 p) (multiple b d h.1 q) in
+        let e : g ≡ 1 * g = omega arith in
+        dvd_of_mul-dvd-mul_right d {n = 1} some (subst (λ t. d * g ∣ t) e both)
 
 -- two fractions in lowest terms that have one value are one fraction
 pub one_in_lowest : (p q r s : ℕ) → 0 < q → IsGcd p q 1 → IsGcd r s 1 → p * s ≡ r * q → (p ≡ r) × (q ≡ s)

@@ -1,9 +1,9 @@
-use Rattle.std.proofs.Common.{◌≡◌, neg_ℤ, true, sym, subst, rules}
+use Rattle.std.proofs.Common.{◌≡◌, neg_ℤ, rules}
 use Rattle.std.specs.Prelude.{FitsSigned}
 use Rattle.std.specs.Int.{int_div_euclid}
 use Rattle.std.proofs.lemmas.Int.{to_z-of_z}
 use mir.Syntax.{w128}
-use Rattle.plane_spec.specs.Fractions.{Fraction, is_at_most}
+use Rattle.plane_spec.specs.Fractions.{Fraction}
 use Rattle.exact_geom.proofs.Rounding.{ceil_not_below, ceil_least}
 use Rattle.exact_geom.proofs.fractions.Frac.ceil.Goals as goal
 

@@ -1,6 +1,6 @@
 use Rattle.std.proofs.Common.{arith}
 use Rattle.std.proofs.lemmas.Int.{ints}
-use Rattle.exact_geom.proofs.Lowest.{reduced_no_larger, fraction_is_positive}
+use Rattle.exact_geom.proofs.Lowest.{reduced_no_larger}
 use Rattle.exact_geom.proofs.fractions.Frac.new.Goals as goal
 
 pub returns-then-den-gt0-clause-no_larger : goal.returns-then-den-gt0-clause-no_larger
