@@ -61,7 +61,7 @@ least_from-append best (x ∷ xs) ys =
 -- the walls, the screens, the corners, and the walls again
 pub nearest_of_parts : (scene : Scene) (p d : Point) → nearest_of scene p d
     ≡ least_from (least_from (least_from (least_from None (filter_map (line_hit p d) scene.walls)) (filter_map (line_hit p d) scene.screens))
-        (filter_map (corner_hit p d) scene.corners)) (filter_map (start_hit p d) scene.walls)
+    (filter_map (corner_hit p d) scene.corners)) (filter_map (start_hit p d) scene.walls)
 nearest_of_parts scene p d =
     let lines = filter_map-append (line_hit p d) scene.walls scene.screens in
     let corners = filter_map (corner_hit p d) scene.corners in

@@ -12,9 +12,10 @@ ghost use Rattle.sight_core.specs.Ranges.{IsCornerInRange, IsWallInRange};
 
 use crate::cone::in_cone;
 use crate::sight::is_on_middle;
+use crate::signs::{are_opposite, is_at_least_zero, is_less, is_zero};
 use crate::vectors::{is_left, vector};
 use exact_geom::{Frac, cross, dot};
-use plane_spec::{Corner, Point, Segment};
+use plane_spec::{Corner, Point, Segment as Wall};
 use std::marker::Model;
 
 /// A `t` at which a ray is stopped: a fraction that isn't reduced, over a denominator of at least 1.
@@ -43,12 +44,6 @@ fn product(a: i128, b: i128) -> i128
     ensures { result ≡ a *ℤ b }
 {
     a * b
-}
-
-fn is_less(a: i128, b: i128) -> bool
-    ensures { result ≡ int_lt a b }
-{
-    a < b
 }
 
 fn is_before(f: &Hit, g: &Hit) -> bool
@@ -101,25 +96,6 @@ pub(crate) fn nearer(best: Option<Hit>, hit: Option<Hit>) -> Option<Hit>
     }
 }
 
-fn is_zero(z: i128) -> bool
-    ensures { result ≡ int_eq z (pos 0) }
-{
-    z == 0
-}
-
-fn is_at_least_zero(z: i128) -> bool
-    ensures { result ≡ int_le (pos 0) z }
-{
-    0 <= z
-}
-
-/// Whether one is positive and the other negative.
-fn are_opposite(s: i128, t: i128) -> bool
-    ensures { result ≡ segments.are_opposite s t }
-{
-    (s < 0 && 0 < t) || (0 < s && t < 0)
-}
-
 /// How far `x` lies to the left of the ray, and to its right where it is negative.
 fn turn_to(p: Point, d: Point, x: Point) -> i128
     requires p_in { InRange p }
@@ -132,7 +108,7 @@ fn turn_to(p: Point, d: Point, x: Point) -> i128
 }
 
 /// Twice the area of the triangle from `p` to the wall or screen.
-fn spread(p: Point, wall: &Segment) -> i128
+fn spread(p: Point, wall: &Wall) -> i128
     requires p_in { InRange p }
     requires wall_in { IsWallInRange wall.now }
     ensures value { result ≡ cross_of (vectors.vector p wall.now.a) (vectors.vector p wall.now.b) }
@@ -142,7 +118,7 @@ fn spread(p: Point, wall: &Segment) -> i128
 }
 
 /// Whether the ends of the wall or screen lie strictly on both sides of the ray's line.
-fn is_across(p: Point, d: Point, wall: &Segment) -> bool
+fn is_across(p: Point, d: Point, wall: &Wall) -> bool
     requires p_in { InRange p }
     requires d_in { IsDirection d }
     requires wall_in { IsWallInRange wall.now }
@@ -152,7 +128,7 @@ fn is_across(p: Point, d: Point, wall: &Segment) -> bool
 }
 
 /// How far the wall or screen that is across the ray reaches from its right to its left.
-fn width(p: Point, d: Point, wall: &Segment) -> i128
+fn width(p: Point, d: Point, wall: &Wall) -> i128
     requires p_in { InRange p }
     requires d_in { IsDirection d }
     requires wall_in { IsWallInRange wall.now }
@@ -165,7 +141,7 @@ fn width(p: Point, d: Point, wall: &Segment) -> i128
 }
 
 /// Where the ray's line meets the wall or screen, which is across it.
-fn meeting(p: Point, d: Point, wall: &Segment) -> Hit
+fn meeting(p: Point, d: Point, wall: &Wall) -> Hit
     requires p_in { InRange p }
     requires d_in { IsDirection d }
     requires wall_in { IsWallInRange wall.now }
@@ -177,7 +153,7 @@ fn meeting(p: Point, d: Point, wall: &Segment) -> Hit
 
 /// Where the ray meets the wall or screen between its ends, if it does so after its beginning.
 #[tactic(auto, unfolding(plan_spec::specs::Stops::line_hit))]
-pub(crate) fn line_hit(p: Point, d: Point, wall: &Segment) -> Option<Hit>
+pub(crate) fn line_hit(p: Point, d: Point, wall: &Wall) -> Option<Hit>
     requires p_in { InRange p }
     requires d_in { IsDirection d }
     requires wall_in { IsWallInRange wall.now }
@@ -233,7 +209,7 @@ pub(crate) fn corner_hit(p: Point, d: Point, corner: &Corner) -> Option<Hit>
 
 /// Where the ray begins, if it begins on the wall, not at its ends, and leads to its left.
 #[tactic(auto, unfolding(plan_spec::specs::Stops::start_hit))]
-pub(crate) fn start_hit(p: Point, d: Point, wall: &Segment) -> Option<Hit>
+pub(crate) fn start_hit(p: Point, d: Point, wall: &Wall) -> Option<Hit>
     requires p_in { InRange p }
     requires d_in { IsDirection d }
     requires wall_in { IsWallInRange wall.now }

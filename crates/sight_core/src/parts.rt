@@ -8,7 +8,7 @@ ghost use Rattle.plan_spec.specs.Scene as scenes;
 
 use crate::rounds::{append, append_corners, append_walls};
 use plan_check::Plan;
-use plane_spec::{Corner, Point, Segment};
+use plane_spec::{Corner, Point, Segment as Wall};
 use std::alloc::Global;
 use text_spec::NoMemory;
 
@@ -22,7 +22,7 @@ fn outer_of(plan: &Plan) -> &[Point]
 }
 
 /// The walls of the outer polygon and then of the obstacles.
-pub(crate) fn walls_of(alloc: Global, plan: &Plan) -> Result<Vec<Segment>, NoMemory>
+pub(crate) fn walls_of(alloc: Global, plan: &Plan) -> Result<Vec<Wall>, NoMemory>
     ensures walls { IfOk result (λ walls. walls.items ≡ scenes.walls_of plan.now) }
     ensures sound { IsTrue (is_sound plan.now) }
 {
@@ -35,7 +35,7 @@ pub(crate) fn walls_of(alloc: Global, plan: &Plan) -> Result<Vec<Segment>, NoMem
 }
 
 /// The screens, each from its first end to its second.
-pub(crate) fn screens_of(alloc: Global, plan: &Plan) -> Result<Vec<Segment>, NoMemory>
+pub(crate) fn screens_of(alloc: Global, plan: &Plan) -> Result<Vec<Wall>, NoMemory>
     ensures { IfOk result (λ screens. screens.items ≡ scenes.screens_of plan.now) }
 {
     let mut screens = Vec::new(alloc);
@@ -43,7 +43,7 @@ pub(crate) fn screens_of(alloc: Global, plan: &Plan) -> Result<Vec<Segment>, NoM
         let screen = plan.screen(k);
         append(
             &mut screens,
-            Segment {
+            Wall {
                 a: screen.from,
                 b: screen.to,
             },

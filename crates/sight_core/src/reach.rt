@@ -10,10 +10,10 @@ ghost use Rattle.sight_core.specs.Ranges.{IsCornerInRange, IsWallInRange};
 use crate::hits::{Hit, corner_hit, line_hit, nearer, start_hit};
 use crate::scene::Scene;
 use exact_geom::Frac;
-use plane_spec::{Corner, Point, Segment};
+use plane_spec::{Corner, Point, Segment as Wall};
 
 /// The first of the least among the best so far and where the ray meets walls or screens.
-fn nearest_line(best: Option<Hit>, lines: &[Segment], p: Point, d: Point) -> Option<Hit>
+fn nearest_line(best: Option<Hit>, lines: &[Wall], p: Point, d: Point) -> Option<Hit>
     requires lines_in { All IsWallInRange lines.now }
     requires p_in { InRange p }
     requires d_in { IsDirection d }
@@ -42,7 +42,7 @@ fn nearest_corner(best: Option<Hit>, corners: &[Corner], p: Point, d: Point) -> 
 }
 
 /// The first of the least among the best so far and where the ray begins, for each wall that it leaves to its left.
-fn nearest_start(best: Option<Hit>, walls: &[Segment], p: Point, d: Point) -> Option<Hit>
+fn nearest_start(best: Option<Hit>, walls: &[Wall], p: Point, d: Point) -> Option<Hit>
     requires walls_in { All IsWallInRange walls.now }
     requires p_in { InRange p }
     requires d_in { IsDirection d }

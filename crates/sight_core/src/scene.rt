@@ -7,7 +7,7 @@ ghost use Rattle.sight_core.specs.Scenes.{IsOfSoundPlan};
 
 use crate::parts::{corners_of, screens_of, walls_of};
 use plan_check::Plan;
-use plane_spec::{Corner, Segment};
+use plane_spec::{Corner, Segment as Wall};
 use std::alloc::Global;
 use std::marker::Model;
 use text_spec::NoMemory;
@@ -16,8 +16,8 @@ use text_spec::NoMemory;
 /// those of the screens, each in plan order. What is blocked lies left of each wall. Contracts see the three lists.
 #[derive(Drop)]
 pub struct Scene {
-    walls: Vec<Segment>,
-    screens: Vec<Segment>,
+    walls: Vec<Wall>,
+    screens: Vec<Wall>,
     corners: Vec<Corner>,
 }
 
@@ -34,7 +34,7 @@ impl Model for Scene {
 
 impl Scene {
     /// The walls, directed so that what is blocked lies on their left.
-    pub fn walls(&self) -> &[Segment]
+    pub fn walls(&self) -> &[Wall]
         ensures walls { result.now ≡ self.now.walls }
         ensures in_range { All IsWallInRange result.now }
         ensures of_plan { IsOfSoundPlan self.now }
@@ -43,7 +43,7 @@ impl Scene {
     }
 
     /// The screens, each from its first end to its second.
-    pub fn screens(&self) -> &[Segment]
+    pub fn screens(&self) -> &[Wall]
         ensures screens { result.now ≡ self.now.screens }
         ensures in_range { All IsWallInRange result.now }
         ensures of_plan { IsOfSoundPlan self.now }
