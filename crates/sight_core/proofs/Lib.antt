@@ -1,5 +1,6 @@
 pub mod Sides
 pub mod Ways
+pub mod Mutual
 pub mod Along
 pub mod Squares
 pub mod Nearest

@@ -7,6 +7,7 @@
 //! | [`Scene`], [`scene_of`] | the walls, screens and corners of an accepted plan, in order |
 //! | [`in_cone`] | whether a direction leads from a corner into what is blocked |
 //! | [`free`] | whether two points see each other |
+//! | [`sight_is_mutual`] | sight goes both ways |
 //! | [`stop`] | how far a ray reaches |
 //! | [`is_open`] | whether a point is open: in the outer polygon, and inside no obstacle |
 //! | [`types_are_shared`] | a scene may be moved to a thread and shared between threads |
@@ -40,4 +41,4 @@ pub use plane_spec::{Corner, Segment as Wall};
 pub use reach::stop;
 pub use scene::{Scene, scene_of};
 pub use sharing::types_are_shared;
-pub use sight::free;
+pub use sight::{free, sight_is_mutual};

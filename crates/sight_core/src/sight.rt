@@ -4,6 +4,8 @@ ghost use Rattle.std.specs.Prelude.{All, ◌≡◌, ◌&&◌, ◌||◌, not, pos
 ghost use Rattle.std.specs.List.{list_any};
 ghost use Rattle.plane_spec.specs.Vectors as vectors;
 ghost use Rattle.plane_spec.specs.Vectors.{InRange};
+ghost use Rattle.plane_spec.specs.declared.Point.{Point};
+ghost use Rattle.plan_spec.specs.Scene.{Scene};
 ghost use Rattle.plan_spec.specs.Sight as sight;
 ghost use Rattle.sight_core.specs.Blocks as blocks;
 ghost use Rattle.sight_core.specs.Ranges.{IsWallInRange, IsCornerInRange};
@@ -151,3 +153,8 @@ pub fn free(scene: &Scene, p: Point, q: Point) -> bool
 {
     !same_point(p, q) && !is_blocked(scene.walls(), scene.screens(), scene.corners(), p, q)
 }
+
+/// Sight goes both ways.
+pub fn sight_is_mutual()
+    ensures { (scene : Scene) (p q : Point) → sight.are_in_sight scene p q ≡ sight.are_in_sight scene q p }
+{}
