@@ -1,34 +1,15 @@
 -- Reducing changes no order of values.
-use Rattle.std.proofs.Common.{◌≡◌, sym, ◌∙◌, ap, subst, arith, true, ℤ, pos, ◌-ℤ◌, ◌*ℤ◌, ◌≤ℤ◌, ◌<ℤ◌}
+use Rattle.std.proofs.Common.{◌≡◌, sym, ◌∙◌, ap, arith, ℤ, pos, ◌*ℤ◌, ◌≤ℤ◌}
 use Rattle.std.specs.Prelude.{int_lt}
 use Rattle.std.proofs.lemmas.Int.{ints}
 use Rattle.std.specs.declared.cmp.Ordering.TheVariants.{Less, Equal, Greater}
 use Rattle.std.specs.Prelude.{if◌then◌else◌}
-use Rattle.int_laws.proofs.Ring.{product_grouped, product_swapped, minus_times}
+use Rattle.int_laws.proofs.Ring.{product_grouped, product_swapped}
 use Rattle.int_laws.proofs.Signs.{positive_product}
+use Rattle.int_laws.proofs.Tests.{same_test}
 use Rattle.plane_spec.specs.Fractions.{Fraction, reduced, is_before, value_order_of}
 use Rattle.exact_geom.proofs.Lowest.{divisor_of, divisor_is_positive}
-use Rattle.exact_geom.proofs.Values.{agree, numerator_is, denominator_is}
-use Rattle.exact_geom.proofs.Rounding.{smaller_factor}
-
-int_lt-true : (x y : ℤ) → int_lt x y ≡ true → x <ℤ y
-int_lt-true x y h = omega (arith, ints, h)
-
-true-int_lt : (x y : ℤ) → x <ℤ y → int_lt x y ≡ true
-true-int_lt x y h = grind (arith, ints)
-
-greater_factor : (x y k : ℤ) → pos 1 ≤ℤ k → x <ℤ y → (x *ℤ k) <ℤ (y *ℤ k)
-greater_factor x y k up less =
-    let more = positive_product (y -ℤ x) k (omega (arith, ints)) (omega (arith, ints)) in
-    let apart : pos 0 <ℤ (y *ℤ k -ℤ x *ℤ k) = subst (λ t. pos 0 <ℤ t) (minus_times y x k) more in
-    omega (arith, ints)
-
--- a positive factor on both sides changes no test
-pub same_test : (x y k : ℤ) → pos 1 ≤ℤ k → int_lt (x *ℤ k) (y *ℤ k) ≡ int_lt x y
-same_test x y k up =
-    agree (int_lt (x *ℤ k) (y *ℤ k)) (int_lt x y)
-    (λ h. true-int_lt x y (smaller_factor x y k up (int_lt-true (x *ℤ k) (y *ℤ k) h)))
-    (λ h. true-int_lt (x *ℤ k) (y *ℤ k) (greater_factor x y k up (int_lt-true x y h)))
+use Rattle.exact_geom.proofs.Values.{numerator_is, denominator_is}
 
 products_mixed : (a b c d : ℤ) → (a *ℤ b) *ℤ (c *ℤ d) ≡ (a *ℤ c) *ℤ (b *ℤ d)
 products_mixed a b c d =

@@ -11,16 +11,9 @@ use Rattle.std.proofs.Math.Nat.{div-mul_cancel, div-one, mul-pos, eq_of_mul-eq-m
 use lib.IntN.{negsuc}
 use Rattle.int_laws.proofs.Divisors.{coprime_quotients, one_in_lowest}
 use Rattle.int_laws.proofs.Ring.{neg_times, product_grouped, product_swapped}
+use Rattle.int_laws.proofs.Tests.{tested_equal, equal_tested, agree}
 use Rattle.plane_spec.specs.Fractions.{Fraction, divided, reduced, IsReduced, same_value}
 use Rattle.exact_geom.proofs.Lowest.{divisor_of, divisor_is_positive, common_divisor_is, divided_natural, quotient_is_positive, size_is_positive}
-
--- ---- tests
-
-pub int_eq-true : (x y : ℤ) → int_eq x y ≡ true → x ≡ y
-int_eq-true x y h = grind (arith, ints)
-
-pub true-int_eq : (x y : ℤ) → x ≡ y → int_eq x y ≡ true
-true-int_eq x y h = grind (arith, ints)
 
 -- ---- numerator and denominator are multiples of what is left of them
 
@@ -43,7 +36,7 @@ reduced_keeps_value f =
     let n = (reduced f).num in
     let d = (reduced f).den in
     let g = pos (divisor_of f) in
-    true-int_eq (f.num *ℤ d) (n *ℤ f.den)
+    equal_tested (f.num *ℤ d) (n *ℤ f.den)
     (ap (λ t. t *ℤ d) (sym (numerator_is f)) ∙ product_grouped n g d ∙ ap (λ t. n *ℤ t) (product_swapped g d ∙ denominator_is f))
 
 -- ---- one form for each value
@@ -97,7 +90,7 @@ same_divided (negsuc a) (pos b) d e g h d_up e_up same sizes = absurd (opposite 
 pub same_reduced : (f g : Fraction) → pos 1 ≤ℤ f.den → pos 1 ≤ℤ g.den → same_value f g ≡ true → reduced f ≡ reduced g
 unfolding reduced
 same_reduced f g f_up g_up same =
-    let e : f.num *ℤ g.den ≡ g.num *ℤ f.den = int_eq-true (f.num *ℤ g.den) (g.num *ℤ f.den) same in
+    let e : f.num *ℤ g.den ≡ g.num *ℤ f.den = tested_equal (f.num *ℤ g.den) (g.num *ℤ f.den) same in
     let left = same_quotients (unsigned_abs f.num) (unsigned_abs f.den) (unsigned_abs g.num) (unsigned_abs g.den) (divisor_of f) (divisor_of g)
     (size_is_positive f.den f_up) (divisor_is_positive f f_up) (divisor_is_positive g g_up)
     (common_divisor_is (unsigned_abs f.num) (unsigned_abs f.den)) (common_divisor_is (unsigned_abs g.num) (unsigned_abs g.den)) (sizes_agree f g e) in
@@ -125,17 +118,12 @@ pub equal_where_values_are : (f g : Fraction) → IsReduced f → IsReduced g �
 equal_where_values_are f g f_low g_low = (there, back)
   where
     there : f ≡ g → same_value f g ≡ true
-    there e = subst (λ t. same_value f t ≡ true) e (true-int_eq (f.num *ℤ f.den) (f.num *ℤ f.den) refl)
+    there e = subst (λ t. same_value f t ≡ true) e (equal_tested (f.num *ℤ f.den) (f.num *ℤ f.den) refl)
 
     back : same_value f g ≡ true → f ≡ g
     back same = sym (reduced_again f f_low) ∙ same_reduced f g f_low.positive g_low.positive same ∙ reduced_again g g_low
 
 -- ---- equality by parts is equality of values
-
-pub agree : (x y : Bool) → (x ≡ true → y ≡ true) → (y ≡ true → x ≡ true) → x ≡ y
-agree true y there back = sym (there refl)
-agree false true there back = back refl
-agree false false there back = refl
 
 both : (x y : Bool) → x && y ≡ true → (x ≡ true) × (y ≡ true)
 both true true h = (refl, refl)
@@ -151,11 +139,11 @@ parts_tell_values f g f_low g_low = agree (int_eq f.num g.num && int_eq f.den g.
     there : (int_eq f.num g.num && int_eq f.den g.den) ≡ true → same_value f g ≡ true
     there h =
         let parts = both (int_eq f.num g.num) (int_eq f.den g.den) h in
-        law.0 (ap (λ n. record { num = n; den = f.den }) (int_eq-true f.num g.num parts.0) ∙ ap (λ d. record { num = g.num; den = d }) (int_eq-true f.den g.den parts.1))
+        law.0 (ap (λ n. record { num = n; den = f.den }) (tested_equal f.num g.num parts.0) ∙ ap (λ d. record { num = g.num; den = d }) (tested_equal f.den g.den parts.1))
 
     back : same_value f g ≡ true → (int_eq f.num g.num && int_eq f.den g.den) ≡ true
     back h =
         let e = law.1 h in
-        let first : int_eq f.num g.num ≡ true = true-int_eq f.num g.num (ap (λ t. t.num) e) in
-        let second : int_eq f.den g.den ≡ true = true-int_eq f.den g.den (ap (λ t. t.den) e) in
+        let first : int_eq f.num g.num ≡ true = equal_tested f.num g.num (ap (λ t. t.num) e) in
+        let second : int_eq f.den g.den ≡ true = equal_tested f.den g.den (ap (λ t. t.den) e) in
         ap (λ t. t && int_eq f.den g.den) first ∙ second
