@@ -2,7 +2,7 @@
 use Rattle.std.specs.Prelude.{◌≡◌, ℕ, ◌+◌, nat_le, Bool, true, false, not, ◌&&◌, List, [], ◌∷◌, count_by, cond, Option, Some, None, is_none, Result, Ok, Err, is_ok, if◌then◌else◌}
 use Rattle.std.specs.List.{list_any}
 use Rattle.std.proofs.Common.{refl, sym, ap, ◌∙◌, arith, zero-add}
-use Rattle.std.proofs.Math.Bool.{and_assoc}
+use Rattle.std.proofs.Math.Bool.{and_assoc, and-true}
 use Rattle.std.proofs.lemmas.Bool.Decides.{nat_tests}
 use Rattle.std.proofs.lemmas.List.Sums.{sum_by-cons}
 use Rattle.plane_spec.specs.declared.Point.{Point}
@@ -15,7 +15,6 @@ use Rattle.plan_spec.specs.Plan.{Plan, empty_plan, with_item, with_items, with_o
 use Rattle.plan_spec.specs.Accepted.{is_outer, is_grid, are_in_order, is_sound, is_accepted}
 use Rattle.plan_spec.specs.Refusals.{why_not_item, why_not_grid, why_not_outer, why_not_obstacle, why_not_screen, why_not_route, refused_at, checked_from, checked}
 use Rattle.plan_laws.specs.Order.{may_follow}
-use Rattle.plan_laws.proofs.Tests.{and_true}
 use Rattle.plan_laws.proofs.Adding.Causes.{outer_test_drops}
 use Rattle.plan_laws.proofs.Adding.Items.{sound_with_item}
 use Rattle.plan_laws.proofs.Adding.Outers.{sound_with_outer}
@@ -23,7 +22,7 @@ use Rattle.plan_laws.proofs.Adding.Outers.{sound_with_outer}
 -- ---- the order of the items
 
 -- each item may follow those before it
-pub may_all_follow : Plan → List Item → Bool
+unfoldable pub may_all_follow : Plan → List Item → Bool
 may_all_follow p [] = true
 may_all_follow p (i ∷ items) = may_follow p i && may_all_follow (with_item p i) items
 
@@ -97,7 +96,7 @@ ok_with_outer number p = ap is_ok (checked_at_end number p) ∙ step (has_outer 
 pub accepted_from : (number : ℕ) (p : Plan) (items : List Item)
     → (may_all_follow p items && is_sound (with_items p items)) ≡ (is_sound p && is_ok (checked_from number p items))
 unfolding may_all_follow with_items
-accepted_from number p [] = sym (ap (λ t. is_sound p && t) (ok_with_outer number p) ∙ (simp and_true at (outer_test_drops p true)))
+accepted_from number p [] = sym (ap (λ t. is_sound p && t) (ok_with_outer number p) ∙ (simp and-true at (outer_test_drops p true)))
 accepted_from number p (i ∷ items) =
     and_assoc (may_follow p i) (may_all_follow (with_item p i) items) (is_sound (with_items (with_item p i) items))
     ∙ ap (λ t. may_follow p i && t) (accepted_from (number + 1) (with_item p i) items)
@@ -107,13 +106,19 @@ accepted_from number p (i ∷ items) =
     ∙ ap (λ t. is_sound p && t) (sym (ok_unless_refused number (why_not_item p i) (checked_from (number + 1) (with_item p i) items)))
     ∙ ap (λ t. is_sound p && is_ok t) (sym (checked_next number p i items))
 
+-- behind an outer polygon, items are in order where each may follow those before it
+pub order_after_outer : (points : List Point) (items : List Item) → are_in_order (Outer points ∷ items) ≡ may_all_follow (with_outer empty_plan points) items
+unfolding are_in_order grid_count
+order_after_outer points items =
+    ap (λ n. not (list_any is_outer items) && nat_le n 1) (sym (zero-add (count_by is_grid items)))
+    ∙ sym (in_order (with_outer empty_plan points) items)
+
 -- the outer polygon comes first
 accepted_with_outer : (points : List Point) (items : List Item) → is_accepted (Outer points ∷ items) ≡ is_ok (checked (Outer points ∷ items))
-unfolding is_accepted are_in_order with_items with_item grid_count
+unfolding is_accepted with_items with_item
 accepted_with_outer points items =
     let plan : Plan = with_outer empty_plan points in
-    ap (λ n. (not (list_any is_outer items) && nat_le n 1) && is_sound (with_items plan items)) (sym (zero-add (count_by is_grid items)))
-    ∙ ap (λ t. t && is_sound (with_items plan items)) (sym (in_order plan items))
+    ap (λ t. t && is_sound (with_items plan items)) (order_after_outer points items)
     ∙ accepted_from 1 plan items
     ∙ ap (λ t. t && is_ok (checked_from 1 plan items)) (sound_with_outer points)
     ∙ sym (ok_unless_refused 0 (why_not_outer empty_plan points) (checked_from 1 plan items))

@@ -7,3 +7,7 @@ pub mod Parts
 pub mod Ranges
 pub mod Grids
 pub mod Shifts
+pub mod Meeting
+pub mod Names
+pub mod Edits
+pub mod Again

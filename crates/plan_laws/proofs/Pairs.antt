@@ -1,14 +1,15 @@
 -- Tests of each two elements of a list.
-use Rattle.std.specs.Prelude.{◌≡◌, ℕ, ◌+◌, Bool, ◌&&◌, List, [], ◌∷◌, ◌++◌, map}
+use Rattle.std.specs.Prelude.{◌≡◌, ℕ, ◌+◌, Bool, true, false, cond, ◌&&◌, List, [], ◌∷◌, ◌++◌, map, filter}
 use Rattle.std.specs.List.{list_all, enumerate_from}
 use Rattle.std.proofs.Common.{refl, sym, ap, ◌∙◌}
+use Rattle.std.proofs.lemmas.Bool.{and_from, and_parts}
 use Rattle.std.proofs.lemmas.List.{map-append}
 use Rattle.std.proofs.Math.Bool.{and_assoc}
 use Rattle.plan_laws.proofs.Tests.{and_left_comm}
 use Rattle.std.proofs.lemmas.List.Folds.{list_all-append, list_all-map}
 use Rattle.plane_spec.specs.Lists.{pairs, with_each, numbered_pairs}
 use Rattle.plan_spec.specs.Accepted.{each_two}
-use Rattle.plan_laws.proofs.Lists.{list_all_push, list_all_middle}
+use Rattle.plan_laws.proofs.Lists.{list_all_push, list_all_middle, list_all_filter}
 
 pub each_two_cons : {X : Type 0} (r : X → X → Bool) (x : X) (xs : List X) → each_two r (x ∷ xs) ≡ (list_all (r x) xs && each_two r xs)
 each_two_cons r x xs =
@@ -55,3 +56,16 @@ numbers_map f n (x ∷ xs) = ap (λ t. (n, f x) ∷ t) (numbers_map f (n + 1) xs
 
 pub numbered_pairs_map : {X Y : Type 0} (f : X → Y) (xs : List X) → numbered_pairs (map f xs) ≡ map (each_of_pair (beside_number f)) (numbered_pairs xs)
 numbered_pairs_map f xs = ap pairs (numbers_map f 0 xs) ∙ pairs_map (beside_number f) (enumerate_from 0 xs)
+
+-- what each two elements pass, each two of those that are kept pass
+pub each_two_filter : {X : Type 0} (r : X → X → Bool) (q : X → Bool) (xs : List X) → each_two r xs ≡ true → each_two r (filter q xs) ≡ true
+each_two_filter r q [] h = refl
+each_two_filter r q (x ∷ xs) h =
+    by_test (q x) (list_all_filter (r x) q xs (and_parts (list_all (r x) xs) (each_two r xs) parts).0) (each_two_filter r q xs (and_parts (list_all (r x) xs) (each_two r xs) parts).1)
+  where
+    parts : (list_all (r x) xs && each_two r xs) ≡ true
+    parts = sym (each_two_cons r x xs) ∙ h
+
+    by_test : (t : Bool) → list_all (r x) (filter q xs) ≡ true → each_two r (filter q xs) ≡ true → each_two r (cond t (x ∷ filter q xs) (filter q xs)) ≡ true
+    by_test true first rest = each_two_cons r x (filter q xs) ∙ and_from (list_all (r x) (filter q xs)) (each_two r (filter q xs)) first rest
+    by_test false first rest = rest

@@ -1,20 +1,17 @@
 -- What a sound plan's parts are, one by one, and back.
 use Rattle.std.specs.Prelude.{◌≡◌, Bool, true, not, ◌&&◌}
 use Rattle.std.specs.List.{list_all, list_any}
-use Rattle.std.proofs.Common.{arith}
+use Rattle.std.proofs.lemmas.Bool.{and_from, and_parts}
 use Rattle.plan_spec.specs.Plan.{Plan}
 use Rattle.plan_spec.specs.Accepted.{each_two, is_polygon, is_line, lies_within, line_lies_within, line_meets_polygon, obstacles_apart, screens_apart, routes_apart, is_grid_sound, do_obstacles_stand, do_screens_stand, do_routes_stand, is_within_limits, is_sound}
 
 -- ---- the tests of a conjunction
 
 pub first_of_both : (a b : Bool) → (a && b) ≡ true → a ≡ true
-first_of_both a b h = grind arith
+first_of_both a b h = (and_parts a b h).0
 
 pub second_of_both : (a b : Bool) → (a && b) ≡ true → b ≡ true
-second_of_both a b h = grind arith
-
-pub both_hold : (a b : Bool) → a ≡ true → b ≡ true → (a && b) ≡ true
-both_hold a b h k = grind arith
+second_of_both a b h = (and_parts a b h).1
 
 -- ---- the plan
 
@@ -45,11 +42,11 @@ parts_of_sound p h =
 pub sound_from_parts : (p : Plan) → SoundParts p → is_sound p ≡ true
 unfolding is_sound
 sound_from_parts p s =
-    both_hold (is_polygon p.outer && is_grid_sound p.grid) ((do_obstacles_stand p && do_screens_stand p) && (do_routes_stand p && is_within_limits p))
-    (both_hold (is_polygon p.outer) (is_grid_sound p.grid) s.outer s.grid)
-    (both_hold (do_obstacles_stand p && do_screens_stand p) (do_routes_stand p && is_within_limits p)
-    (both_hold (do_obstacles_stand p) (do_screens_stand p) s.obstacles s.screens)
-    (both_hold (do_routes_stand p) (is_within_limits p) s.routes s.limits))
+    and_from (is_polygon p.outer && is_grid_sound p.grid) ((do_obstacles_stand p && do_screens_stand p) && (do_routes_stand p && is_within_limits p))
+    (and_from (is_polygon p.outer) (is_grid_sound p.grid) s.outer s.grid)
+    (and_from (do_obstacles_stand p && do_screens_stand p) (do_routes_stand p && is_within_limits p)
+    (and_from (do_obstacles_stand p) (do_screens_stand p) s.obstacles s.screens)
+    (and_from (do_routes_stand p) (is_within_limits p) s.routes s.limits))
 
 -- ---- the obstacles, the screens, the routes
 
@@ -66,7 +63,7 @@ parts_of_obstacles p h = record {
 
 pub obstacles_from_parts : (p : Plan) → ObstacleParts p → do_obstacles_stand p ≡ true
 unfolding do_obstacles_stand
-obstacles_from_parts p o = both_hold (list_all (λ o. is_polygon o.points && lies_within p.outer o.points) p.obstacles) (each_two obstacles_apart p.obstacles) o.polygons o.apart
+obstacles_from_parts p o = and_from (list_all (λ o. is_polygon o.points && lies_within p.outer o.points) p.obstacles) (each_two obstacles_apart p.obstacles) o.polygons o.apart
 
 pub record ScreenParts (p : Plan) : Type 0 where
   pub lines : list_all (λ s. is_line s.from s.to && line_lies_within p.outer s.from s.to) p.screens ≡ true
@@ -90,7 +87,7 @@ unfolding do_screens_stand
 screens_from_parts p s =
     let lines : Bool = list_all (λ s. is_line s.from s.to && line_lies_within p.outer s.from s.to) p.screens in
     let clear : Bool = list_all (λ s. not (list_any (λ o. line_meets_polygon s.from s.to o.points) p.obstacles)) p.screens in
-    both_hold lines (clear && each_two screens_apart p.screens) s.lines (both_hold clear (each_two screens_apart p.screens) s.clear s.apart)
+    and_from lines (clear && each_two screens_apart p.screens) s.lines (and_from clear (each_two screens_apart p.screens) s.clear s.apart)
 
 pub record RouteParts (p : Plan) : Type 0 where
   pub lines : list_all (λ r. is_line r.from r.to) p.routes ≡ true
@@ -105,4 +102,4 @@ parts_of_routes p h = record {
 
 pub routes_from_parts : (p : Plan) → RouteParts p → do_routes_stand p ≡ true
 unfolding do_routes_stand
-routes_from_parts p r = both_hold (list_all (λ r. is_line r.from r.to) p.routes) (each_two routes_apart p.routes) r.lines r.apart
+routes_from_parts p r = and_from (list_all (λ r. is_line r.from r.to) p.routes) (each_two routes_apart p.routes) r.lines r.apart

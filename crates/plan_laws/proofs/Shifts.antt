@@ -1,18 +1,17 @@
 -- What stays the same where all points are shifted alike.
-use Rattle.std.specs.Prelude.{◌≡◌, ℕ, ◌+◌, ◌<◌, ◌≤◌, ◌%◌, ◌==◌, nat_le, count_by, ℤ, pos, neg_ℤ, ◌+ℤ◌, ◌-ℤ◌, ◌*ℤ◌, ◌≤ℤ◌, int_le, int_lt, Bool, true, false, not, ◌&&◌, ◌||◌, List, [], ◌∷◌, ◌++◌, length, map, if◌then◌else◌}
-use Rattle.std.specs.List.{list_all, list_any, enumerate_from}
+use Rattle.std.specs.Prelude.{◌≡◌, ℕ, ◌%◌, ◌==◌, count_by, ℤ, ◌+ℤ◌, ◌-ℤ◌, int_le, int_lt, not, ◌&&◌, List, [], ◌∷◌, length, map}
+use Rattle.std.specs.List.{list_all, list_any}
 use Rattle.std.specs.Ordering.{int_eq}
-use Rattle.std.proofs.Common.{refl, sym, ap, ◌∙◌, arith}
+use Rattle.std.proofs.Common.{refl, ap, ◌∙◌, arith}
 use Rattle.std.proofs.lemmas.Int.{ints}
-use Rattle.std.proofs.lemmas.Bool.Decides.{nat_tests, same_from_decides, Decides-int_eq}
 use Rattle.std.proofs.lemmas.List.{length-map}
 use Rattle.std.proofs.lemmas.List.Folds.{list_all-map}
 use Rattle.plane_spec.specs.declared.Point.{Point}
 use Rattle.plane_spec.specs.declared.Segment.{Segment}
-use Rattle.plane_spec.specs.Lists.{pairs, with_each, numbered_pairs}
-use Rattle.plane_spec.specs.Vectors.{point, orient_of, same_point}
-use Rattle.plane_spec.specs.Segments.{is_between, is_on_segment, are_opposite, cross_properly, do_touch}
-use Rattle.plane_spec.specs.Polygons.{edges_to, edges_of, is_on_edge, is_on_border, edges_touch, passes_right, is_inside, borders_touch, is_nothing, has_repeat, folds_back, may_stand, crosses_nowhere}
+use Rattle.plane_spec.specs.Lists.{numbered_pairs}
+use Rattle.plane_spec.specs.Vectors.{orient_of, same_point}
+use Rattle.plane_spec.specs.Segments.{is_on_segment, cross_properly, do_touch}
+use Rattle.plane_spec.specs.Polygons.{edges_to, edges_of, is_on_edge, is_on_border, passes_right, is_inside, borders_touch, is_nothing, has_repeat, may_stand, crosses_nowhere}
 use Rattle.plan_spec.specs.Edits.{shifted_point}
 use Rattle.plan_laws.proofs.Lists.{list_all_agree, list_any_map, list_any_agree, count_map}
 use Rattle.plan_laws.proofs.Pairs.{each_of_pair, beside_number, numbered_pairs_map}

@@ -8,14 +8,12 @@ and_left_comm true false c = refl
 and_left_comm false true c = refl
 and_left_comm false false c = refl
 
-pub and_again : (a b : Bool) → (a && (a && b)) ≡ (a && b)
-and_again true b = refl
-and_again false b = refl
-
 pub not_or : (a b : Bool) → not (a || b) ≡ (not a && not b)
 not_or true b = refl
 not_or false b = refl
 
-pub and_true : (a : Bool) → (a && true) ≡ a
-and_true true = refl
-and_true false = refl
+pub or_left_comm : (a b c : Bool) → (a || (b || c)) ≡ (b || (a || c))
+or_left_comm true true c = refl
+or_left_comm true false c = refl
+or_left_comm false true c = refl
+or_left_comm false false c = refl

@@ -1,13 +1,13 @@
 -- A grid.
 use Rattle.std.specs.Prelude.{◌≡◌, Bool, true, false, ◌&&◌, Option, Some, None, is_none}
 use Rattle.std.proofs.Common.{refl}
-use Rattle.std.proofs.Math.Bool.{and_assoc, and_comm, not-not}
+use Rattle.std.proofs.Math.Bool.{and_assoc, and_comm, not-not, and-true}
 use Rattle.plan_spec.specs.declared.kinds.GridSpec.{GridSpec}
 use Rattle.plan_spec.specs.declared.kinds.Item.TheVariants.{Grid}
 use Rattle.plan_spec.specs.Plan.{Plan, with_grid, with_item, has_outer}
 use Rattle.plan_spec.specs.Accepted.{is_polygon, is_grid_in_range, is_grid_small, is_grid_sound, do_obstacles_stand, do_screens_stand, do_routes_stand, is_within_limits, is_sound}
 use Rattle.plan_spec.specs.Refusals.{why_not_grid}
-use Rattle.plan_laws.proofs.Tests.{and_left_comm, and_true, not_or}
+use Rattle.plan_laws.proofs.Tests.{and_left_comm, not_or}
 use Rattle.plan_laws.proofs.Adding.Causes.{none_after_test, outer_test_drops}
 
 -- the grid passes each test for which it might be refused
@@ -15,7 +15,7 @@ pub fits_as_grid : (p : Plan) (g : GridSpec)
     → is_none (why_not_grid p g) ≡ (has_outer p && (is_none p.grid && (is_grid_in_range g && is_grid_small g)))
 unfolding why_not_grid
 fits_as_grid p g =
-    simp (none_after_test, not_or, not-not, and_assoc, and_true, and_left_comm)
+    simp (none_after_test, not_or, not-not, and_assoc, and-true, and_left_comm)
 
 -- nothing else is compared with the grid
 pub obstacles_with_grid : (p : Plan) (grid : Option GridSpec) → do_obstacles_stand (with_grid p grid) ≡ do_obstacles_stand p

@@ -31,11 +31,11 @@ sound_with_item p (RouteItem name from to) = sound_with_route p name from to
 
 -- ---- what isn't refused leaves a sound plan
 
-no_cause : (o : Option Why) → o ≡ None → is_none o ≡ true
+pub no_cause : (o : Option Why) → o ≡ None → is_none o ≡ true
 no_cause None e = refl
 no_cause (Some why) e = cc
 
-a_cause : (o : Option Why) (why : Why) → o ≡ Some why → is_none o ≡ false
+pub a_cause : (o : Option Why) (why : Why) → o ≡ Some why → is_none o ≡ false
 a_cause None why e = cc
 a_cause (Some first) why e = refl
 

@@ -3,14 +3,14 @@ use Rattle.std.specs.Prelude.{◌≡◌, ℕ, ◌+◌, nat_le, nat_lt, Bool, not
 use Rattle.std.specs.List.{list_all, list_any}
 use Rattle.std.specs.Str.{bytes_eq}
 use Rattle.std.proofs.Common.{refl, ap, ◌∙◌}
-use Rattle.std.proofs.Math.Bool.{and_assoc, and_comm, not-not}
+use Rattle.std.proofs.Math.Bool.{and_assoc, and_comm, not-not, and-true}
 use Rattle.plane_spec.specs.declared.Point.{Point}
 use Rattle.plan_spec.specs.declared.kinds.Screen.{Screen}
 use Rattle.plan_spec.specs.declared.kinds.Item.TheVariants.{Obstacle as ObstacleItem}
 use Rattle.plan_spec.specs.Plan.{Obstacle, Plan, obstacle, with_obstacles, with_item, has_outer, corner_count, is_obstacle_named}
 use Rattle.plan_spec.specs.Accepted.{is_polygon, lies_within, polygons_meet, line_meets_polygon, obstacles_apart, do_obstacles_stand, do_screens_stand, do_routes_stand, is_sound}
 use Rattle.plan_spec.specs.Refusals.{why_not_obstacle}
-use Rattle.plan_laws.proofs.Tests.{and_left_comm, not_or, and_true}
+use Rattle.plan_laws.proofs.Tests.{and_left_comm, not_or}
 use Rattle.plan_laws.proofs.Lists.{list_all_push, list_any_push, list_all_and, list_all_not, list_all_agree}
 use Rattle.plan_laws.proofs.Pairs.{each_two_push}
 use Rattle.plan_laws.proofs.Adding.Causes.{none_after_test, none_after_obstacles, none_after_screens, not_below, outer_test_drops}
@@ -75,7 +75,7 @@ pub fits_as_obstacle : (p : Plan) (name : List ℕ) (points : List Point)
     && (not (nat_le 256 (length p.obstacles)) && not (nat_lt 1024 (corner_count p + length points)))))))))
 unfolding why_not_obstacle
 fits_as_obstacle p name points =
-    simp (none_after_test, none_after_obstacles, none_after_screens, not_below, not-not, and_assoc, and_true)
+    simp (none_after_test, none_after_obstacles, none_after_screens, not_below, not-not, and_assoc, and-true)
 
 new_tests_last : (a g o s r w p l m x n f c : Bool)
     → ((a && g) && (((o && ((p && l) && (m && n))) && (s && x)) && (r && (w && (f && c)))))

@@ -3,7 +3,7 @@ use Rattle.std.specs.Prelude.{◌≡◌, ℕ, ◌+◌, nat_le, nat_lt, Bool, not
 use Rattle.std.specs.List.{list_all, list_any}
 use Rattle.std.specs.Str.{bytes_eq}
 use Rattle.std.proofs.Common.{refl}
-use Rattle.std.proofs.Math.Bool.{and_assoc, and_comm, not-not}
+use Rattle.std.proofs.Math.Bool.{and_assoc, not-not, and-true}
 use Rattle.plane_spec.specs.declared.Point.{Point}
 use Rattle.plane_spec.specs.Segments.{do_touch}
 use Rattle.plan_spec.specs.declared.kinds.Screen.{Screen}
@@ -11,7 +11,7 @@ use Rattle.plan_spec.specs.declared.kinds.Item.TheVariants.{Screen as ScreenItem
 use Rattle.plan_spec.specs.Plan.{Plan, screen, with_screens, with_item, has_outer, corner_count, is_screen_named}
 use Rattle.plan_spec.specs.Accepted.{is_line, line_lies_within, line_meets_polygon, screens_apart, do_obstacles_stand, do_screens_stand, do_routes_stand, is_sound}
 use Rattle.plan_spec.specs.Refusals.{why_not_screen}
-use Rattle.plan_laws.proofs.Tests.{and_left_comm, and_true}
+use Rattle.plan_laws.proofs.Tests.{and_left_comm}
 use Rattle.plan_laws.proofs.Lists.{list_all_push, list_all_and, list_all_not}
 use Rattle.plan_laws.proofs.Pairs.{each_two_push}
 use Rattle.plan_laws.proofs.Adding.Causes.{none_after_test, none_after_obstacles, none_after_screens, outer_test_drops}
@@ -62,12 +62,12 @@ pub fits_as_screen : (p : Plan) (name : List ℕ) (from to : Point)
     && (not (nat_le 256 (length p.screens)) && not (nat_lt 1024 (corner_count p + 2)))))))))
 unfolding why_not_screen
 fits_as_screen p name from to =
-    simp (none_after_test, none_after_obstacles, none_after_screens, not-not, and_assoc, and_true)
+    simp (none_after_test, none_after_obstacles, none_after_screens, not-not, and_assoc, and-true)
 
 new_tests_last : (a o s r w l i m t n f c : Bool)
     → (a && ((o && (s && ((l && i) && (m && (t && n))))) && (r && (w && (f && c)))))
     ≡ ((a && ((o && s) && (r && w))) && (l && (i && (m && (t && (n && (f && c)))))))
-new_tests_last a o s r w l i m t n f c = simp (and_assoc, and_left_comm, and_comm)
+new_tests_last a o s r w l i m t n f c = simp (and_assoc, and_left_comm)
 
 -- a plan with one more screen is sound where the plan is and the screen isn't refused
 pub sound_with_screen : (p : Plan) (name : List ℕ) (from to : Point)

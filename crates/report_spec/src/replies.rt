@@ -1,0 +1,26 @@
+//! How replies and tables are printed.
+
+use crate::readings::TextWhy;
+use plan_spec::Why;
+
+/// How the fields of a record are joined: by a space, or by a comma.
+#[derive(Clone, Copy, Debug, PartialEq, Eq)]
+pub enum Form {
+    Text,
+    Csv,
+}
+
+/// Why a line of a script is refused.
+#[derive(Drop)]
+pub enum Reason {
+    /// It is outside the grammar.
+    Text(TextWhy),
+    /// Its edit or its question is refused for a cause of plans.
+    Edit(Why),
+    /// No grid point stands there.
+    NoPoint,
+    /// The point isn't open.
+    Closed,
+    /// There are more than 16384 axial lines.
+    Lines,
+}
