@@ -1,8 +1,9 @@
 -- A list made of the entries of a table: at one of them, and searched.
-use Rattle.std.specs.Prelude.{◌≡◌, ℕ, ◌+◌, zero, suc, Bool, not, List, [], ◌∷◌, map, drop, position, Some}
-use Rattle.std.specs.List.{slice_get, prefix_len}
+use Rattle.std.specs.Prelude.{Option, cond, None, ◌||◌, true, false, is_some, ◌≡◌, ℕ, ◌+◌, zero, suc, Bool, not, List, [], ◌∷◌, map, drop, position, Some}
+use Rattle.std.specs.List.{slice_get, prefix_len, list_any}
+use Rattle.std.specs.Map.{lookup}
 use Rattle.std.specs.Str.{bytes_eq}
-use Rattle.std.proofs.Common.{refl, ap, add-one}
+use Rattle.std.proofs.Common.{refl, sym, ap, ◌∙◌, add-one}
 use Rattle.std.proofs.lemmas.Option.{same_Some}
 use Rattle.std.proofs.lemmas.List.{length-map}
 use Rattle.std.proofs.lemmas.Cmp.{nat_list_eq_equiv}
@@ -30,3 +31,24 @@ module _ {X Y Z : Type 0} (p : Y → Bool) (q : Z → Bool) (f : X → Y) (g : X
 pub route_position : (name : List ℕ) (es : List (List ℕ × Segment)) → position (bytes_eq name) (map (λ e. e.0) es) ≡ position (is_route_named name) (map kept_route es)
 route_position name es =
     position_agrees (bytes_eq name) (is_route_named name) (λ (e : List ℕ × Segment). e.0) kept_route (λ e. nat_list_eq_equiv.symm name e.0) es
+
+-- ---- names
+
+module _ {V Y : Type 0} (f : List ℕ × V → Y) (test : Y → Bool) (name : List ℕ) (same : (e : List ℕ × V) → test (f e) ≡ bytes_eq e.0 name) where
+  -- a part of the name is in the list where the name is in the table
+  pub named_is : (es : List (List ℕ × V)) → list_any test (map f es) ≡ is_some (lookup (bytes_eq name) es)
+  named_is [] = refl
+  named_is (e ∷ es) = by (bytes_eq name e.0) (same e ∙ nat_list_eq_equiv.symm e.0 name) (named_is es)
+    where
+      by : (t : Bool) → test (f e) ≡ t → list_any test (map f es) ≡ is_some (lookup (bytes_eq name) es)
+          → (test (f e) || list_any test (map f es)) ≡ is_some (cond t (Some e.1) (lookup (bytes_eq name) es))
+      by true h rest = ap (λ b. b || list_any test (map f es)) h
+      by false h rest = ap (λ b. b || list_any test (map f es)) h ∙ rest
+
+  -- no part has a name that isn't in the table
+  pub not_named : (es : List (List ℕ × V)) → list_any test (map f es) ≡ false → lookup (bytes_eq name) es ≡ None
+  not_named es h = by (lookup (bytes_eq name) es) (sym (named_is es) ∙ h)
+    where
+      by : (o : Option V) → is_some o ≡ false → o ≡ None
+      by None h = refl
+      by (Some v) h = cc

@@ -1,7 +1,8 @@
 //! The parts of a plan, which need not be sound yet.
 
-ghost use Rattle.std.specs.Prelude.{◌≡◌, ◌<◌, ◌+◌, ◌∷◌, drop, length, position};
-ghost use Rattle.plan_spec.specs.Plan.{empty_plan, has_outer, is_route_named};
+ghost use Rattle.std.specs.Prelude.{◌≡◌, ◌<◌, ◌≤◌, ◌+◌, ◌∷◌, ◌++◌, [], OnErr, OnOk, drop, false, length, position};
+ghost use Rattle.std.specs.List.{list_any};
+ghost use Rattle.plan_spec.specs.Plan.{corner_count, empty_plan, has_outer, is_obstacle_named, is_route_named, is_screen_named, obstacle, route, screen, with_grid, with_obstacles, with_outer, with_routes, with_screens};
 ghost use Rattle.plan_check.specs.Kept.{kept_route, kept_screen, obstacle_at};
 
 use indexmap::IndexMap;
@@ -9,7 +10,7 @@ use plan_spec::{GridSpec, Points, Route, Screen};
 use plane_spec::{Point, Segment};
 use std::alloc::Global;
 use std::marker::Model;
-use text_spec::Name;
+use text_spec::{Name, NoMemory};
 
 /// The parts of a plan, each kind in plan order. Contracts see the plan that they make.
 #[derive(Drop)]
@@ -138,6 +139,86 @@ impl Draft {
         match self.routes.get_index(k) {
             Some((name, line)) => make_route(name, line),
             None => unreachable!(),
+        }
+    }
+
+    pub(crate) fn has_obstacle(&self, name: &Name) -> bool
+        ensures { result ≡ list_any (is_obstacle_named name.now) self.now.obstacles }
+    {
+        self.obstacles.contains_key(name)
+    }
+
+    pub(crate) fn has_screen(&self, name: &Name) -> bool
+        ensures { result ≡ list_any (is_screen_named name.now) self.now.screens }
+    {
+        self.screens.contains_key(name)
+    }
+
+    pub(crate) fn has_route(&self, name: &Name) -> bool
+        ensures { result ≡ list_any (is_route_named name.now) self.now.routes }
+    {
+        self.routes.contains_key(name)
+    }
+
+    /// The corners of the outer polygon and of all obstacles, and the two ends of each screen.
+    pub(crate) fn corners(&self) -> usize
+        requires { corner_count self.now ≤ 1024 }
+        ensures { result ≡ corner_count self.now }
+    {
+        let mut corners = self.outer().len() + 2 * self.screens();
+        for k in 0..self.obstacles() {
+            corners += self.obstacle(k).len();
+        }
+        corners
+    }
+
+    /// Sets the outer polygon.
+    pub(crate) fn set_outer(&mut self, points: Points)
+        ensures { self.new ≡ with_outer self.old points }
+    {
+        self.outer = points;
+    }
+
+    /// Sets the grid.
+    pub(crate) fn set_grid(&mut self, grid: Option<GridSpec>)
+        ensures { self.new ≡ with_grid self.old grid }
+    {
+        self.grid = grid;
+    }
+
+    /// Adds an obstacle of a new name after the others. Without memory nothing changes.
+    pub(crate) fn add_obstacle(&mut self, name: Name, points: Points) -> Result<(), NoMemory>
+        requires { list_any (is_obstacle_named name) self.old.obstacles ≡ false }
+        ensures ok { OnOk result (self.new ≡ with_obstacles self.old (self.old.obstacles ++ obstacle name points ∷ [])) }
+        ensures unchanged { OnErr result (self.new ≡ self.old) }
+    {
+        match self.obstacles.insert(name, points) {
+            Ok(_) => Ok(()),
+            Err(_) => Err(NoMemory),
+        }
+    }
+
+    /// Adds a screen of a new name after the others. Without memory nothing changes.
+    pub(crate) fn add_screen(&mut self, name: Name, from: Point, to: Point) -> Result<(), NoMemory>
+        requires { list_any (is_screen_named name) self.old.screens ≡ false }
+        ensures ok { OnOk result (self.new ≡ with_screens self.old (self.old.screens ++ screen name from to ∷ [])) }
+        ensures unchanged { OnErr result (self.new ≡ self.old) }
+    {
+        match self.screens.insert(name, Segment { a: from, b: to }) {
+            Ok(_) => Ok(()),
+            Err(_) => Err(NoMemory),
+        }
+    }
+
+    /// Adds a route of a new name after the others. Without memory nothing changes.
+    pub(crate) fn add_route(&mut self, name: Name, from: Point, to: Point) -> Result<(), NoMemory>
+        requires { list_any (is_route_named name) self.old.routes ≡ false }
+        ensures ok { OnOk result (self.new ≡ with_routes self.old (self.old.routes ++ route name from to ∷ [])) }
+        ensures unchanged { OnErr result (self.new ≡ self.old) }
+    {
+        match self.routes.insert(name, Segment { a: from, b: to }) {
+            Ok(_) => Ok(()),
+            Err(_) => Err(NoMemory),
         }
     }
 

@@ -14,6 +14,7 @@ mod draft;
 mod grid;
 mod plan;
 mod polygons;
+mod refusals;
 mod sharing;
 
 pub use plan::Plan;
