@@ -1,5 +1,7 @@
 //! What may be moved to another thread, and shared between threads.
 
+use crate::fractions::Frac;
+use crate::places::RPoint;
 use plane_spec::{Corner, PlanBox, Point, Segment};
 use text_spec::{Name, NoMemory};
 
@@ -11,6 +13,8 @@ pub fn types_are_shared() {
     is_shared::<Segment>();
     is_shared::<Corner>();
     is_shared::<PlanBox>();
+    is_shared::<Frac>();
+    is_shared::<RPoint>();
     is_shared::<Name>();
     is_shared::<NoMemory>();
 }

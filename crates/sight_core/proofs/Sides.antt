@@ -78,12 +78,6 @@ not_both_left dx dy ux uy vx vy flat hx hy hs ht =
     let straight = rw (x.first, y.first) at hs in
     omega (arith, ints)
 
-le-true : (a b : ℤ) → int_le a b ≡ true → a ≤ℤ b
-le-true a b h = grind (arith, ints)
-
-lt-true : (a b : ℤ) → int_lt a b ≡ true → a <ℤ b
-lt-true a b h = grind (arith, ints)
-
 between-true : (m a b : ℤ) → is_between m a b ≡ true → AreApart (a -ℤ m) (b -ℤ m)
 between-true m a b h = grind (arith, ints)
 

@@ -16,7 +16,7 @@ use Rattle.plan_spec.specs.Sight.{crosses, enters_wall, corner_stops, corner_blo
 use Rattle.sight_core.specs.Blocks.{wall_blocks, turns_from}
 use Rattle.sight_core.proofs.Sides.{orient-turned}
 
-or_turned : (x y : Bool) → (x || y) ≡ (y || x)
+pub or_turned : (x y : Bool) → (x || y) ≡ (y || x)
 or_turned true true = refl
 or_turned true false = refl
 or_turned false true = refl

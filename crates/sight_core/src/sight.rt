@@ -4,15 +4,18 @@ ghost use Rattle.std.specs.Prelude.{All, ◌≡◌, ◌&&◌, ◌||◌, not, pos
 ghost use Rattle.std.specs.List.{list_any};
 ghost use Rattle.plane_spec.specs.Vectors as vectors;
 ghost use Rattle.plane_spec.specs.Vectors.{InRange};
+ghost use Rattle.plane_spec.specs.declared.Point.{Point};
+ghost use Rattle.plan_spec.specs.Scene.{Scene};
 ghost use Rattle.plan_spec.specs.Sight as sight;
 ghost use Rattle.sight_core.specs.Blocks as blocks;
 ghost use Rattle.sight_core.specs.Ranges.{IsWallInRange, IsCornerInRange};
 
 use crate::cone::in_cone;
 use crate::scene::Scene;
+use crate::signs::are_alike;
 use crate::vectors::{lies_left, vector};
 use exact_geom::{crosses, on_segment, orient};
-use plane_spec::{Corner, Point, Segment};
+use plane_spec::{Corner, Point, Segment as Wall};
 
 fn same_point(p: Point, q: Point) -> bool
     ensures { result ≡ vectors.same_point p q }
@@ -20,15 +23,8 @@ fn same_point(p: Point, q: Point) -> bool
     p.x == q.x && p.y == q.y
 }
 
-/// Whether both are positive, or both are negative.
-fn are_alike(s: i128, t: i128) -> bool
-    ensures { result ≡ blocks.are_alike s t }
-{
-    (0 < s && 0 < t) || (s < 0 && t < 0)
-}
-
 /// Whether `p` lies on the wall, not at its ends.
-fn is_on_middle(p: Point, wall: &Segment) -> bool
+pub(crate) fn is_on_middle(p: Point, wall: &Wall) -> bool
     requires p_in { InRange p }
     requires wall_in { IsWallInRange wall.now }
     ensures { result ≡ sight.is_on_middle p wall.now }
@@ -38,7 +34,7 @@ fn is_on_middle(p: Point, wall: &Segment) -> bool
 
 /// Whether the segment from `p` to `q` begins on the wall, not at its ends, and leads to its left.
 #[tactic(auto, unfolding(plan_spec::specs::Sight::leaves_wall))]
-fn leaves_wall(p: Point, q: Point, wall: &Segment) -> bool
+fn leaves_wall(p: Point, q: Point, wall: &Wall) -> bool
     requires p_in { InRange p }
     requires q_in { InRange q }
     requires wall_in { IsWallInRange wall.now }
@@ -48,7 +44,7 @@ fn leaves_wall(p: Point, q: Point, wall: &Segment) -> bool
 }
 
 /// Whether the segment begins or ends on the wall and is on its left.
-fn enters_wall(p: Point, q: Point, wall: &Segment) -> bool
+fn enters_wall(p: Point, q: Point, wall: &Wall) -> bool
     requires p_in { InRange p }
     requires q_in { InRange q }
     requires wall_in { IsWallInRange wall.now }
@@ -59,7 +55,7 @@ fn enters_wall(p: Point, q: Point, wall: &Segment) -> bool
 
 /// Whether the wall's ends lie strictly on one side of the line through `p` and `q`.
 #[tactic(auto, unfolding(crate::specs::Blocks::lies_aside))]
-fn lies_aside(wall: &Segment, p: Point, q: Point) -> bool
+fn lies_aside(p: Point, q: Point, wall: &Wall) -> bool
     requires p_in { InRange p }
     requires q_in { InRange q }
     requires wall_in { IsWallInRange wall.now }
@@ -70,18 +66,18 @@ fn lies_aside(wall: &Segment, p: Point, q: Point) -> bool
 
 /// Whether the wall is in the way. Most walls lie strictly on one side of the segment's line, so this is tried first.
 #[tactic(auto, using(crate::proofs::Sides::wall_blocks_is))]
-fn wall_blocks(wall: &Segment, p: Point, q: Point) -> bool
+fn wall_blocks(p: Point, q: Point, wall: &Wall) -> bool
     requires p_in { InRange p }
     requires q_in { InRange q }
     requires wall_in { IsWallInRange wall.now }
     ensures { result ≡ blocks.wall_blocks p q wall.now }
 {
-    !lies_aside(wall, p, q) && (crosses(wall.a, wall.b, p, q) || enters_wall(p, q, wall))
+    !lies_aside(p, q, wall) && (crosses(wall.a, wall.b, p, q) || enters_wall(p, q, wall))
 }
 
-/// Whether the corner isn't `to`, and has the direction to it in its cone.
+/// Whether the corner isn't `to` and has the direction to it in its cone.
 #[tactic(auto, unfolding(crate::specs::Blocks::turns_from))]
-fn turns_from(corner: &Corner, to: Point) -> bool
+fn turns_from(to: Point, corner: &Corner) -> bool
     requires to_in { InRange to }
     requires corner_in { IsCornerInRange corner.now }
     ensures { result ≡ blocks.turns_from to corner.now }
@@ -90,25 +86,25 @@ fn turns_from(corner: &Corner, to: Point) -> bool
 }
 
 /// Whether the corner is in the way. Few corners lie on the segment, so this is tried first.
-fn corner_blocks(corner: &Corner, p: Point, q: Point) -> bool
+fn corner_blocks(p: Point, q: Point, corner: &Corner) -> bool
     requires p_in { InRange p }
     requires q_in { InRange q }
     requires corner_in { IsCornerInRange corner.now }
     ensures { result ≡ sight.corner_blocks p q corner.now }
 {
-    on_segment(corner.here, p, q) && (turns_from(corner, q) || turns_from(corner, p))
+    on_segment(corner.here, p, q) && (turns_from(q, corner) || turns_from(p, corner))
 }
 
-fn any_wall_blocks(walls: &[Segment], p: Point, q: Point) -> bool
+fn any_wall_blocks(walls: &[Wall], p: Point, q: Point) -> bool
     requires walls_in { All IsWallInRange walls.now }
     requires p_in { InRange p }
     requires q_in { InRange q }
     ensures { result ≡ list_any (blocks.wall_blocks p q) walls.now }
 {
-    walls.iter().any(|wall| wall_blocks(wall, p, q))
+    walls.iter().any(|wall| wall_blocks(p, q, wall))
 }
 
-fn any_screen_blocks(screens: &[Segment], p: Point, q: Point) -> bool
+fn any_screen_blocks(screens: &[Wall], p: Point, q: Point) -> bool
     requires screens_in { All IsWallInRange screens.now }
     requires p_in { InRange p }
     requires q_in { InRange q }
@@ -125,17 +121,11 @@ fn any_corner_blocks(corners: &[Corner], p: Point, q: Point) -> bool
     requires q_in { InRange q }
     ensures { result ≡ list_any (sight.corner_blocks p q) corners.now }
 {
-    corners.iter().any(|corner| corner_blocks(corner, p, q))
+    corners.iter().any(|corner| corner_blocks(p, q, corner))
 }
 
 /// Whether something is in the way of the segment from `p` to `q`.
-fn is_blocked(
-    walls: &[Segment],
-    screens: &[Segment],
-    corners: &[Corner],
-    p: Point,
-    q: Point,
-) -> bool
+fn is_blocked(walls: &[Wall], screens: &[Wall], corners: &[Corner], p: Point, q: Point) -> bool
     requires walls_in { All IsWallInRange walls.now }
     requires screens_in { All IsWallInRange screens.now }
     requires corners_in { All IsCornerInRange corners.now }
@@ -163,3 +153,8 @@ pub fn free(scene: &Scene, p: Point, q: Point) -> bool
 {
     !same_point(p, q) && !is_blocked(scene.walls(), scene.screens(), scene.corners(), p, q)
 }
+
+/// Sight goes both ways.
+pub fn sight_is_mutual()
+    ensures { (scene : Scene) (p q : Point) → sight.are_in_sight scene p q ≡ sight.are_in_sight scene q p }
+{}

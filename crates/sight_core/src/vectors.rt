@@ -1,9 +1,10 @@
 //! Directions between points, and what lies left of them.
 
-ghost use Rattle.std.specs.Prelude.{◌≡◌, pos, ◌-ℤ◌, int_lt};
+ghost use Rattle.std.specs.Prelude.{◌≡◌, pos, ◌-ℤ◌};
 ghost use Rattle.plane_spec.specs.Vectors as vectors;
 ghost use Rattle.plane_spec.specs.Vectors.{InRange, IsDirection, IsWithin};
 
+use crate::signs::is_positive;
 use exact_geom::{cross, orient};
 use plane_spec::Point;
 
@@ -30,12 +31,6 @@ pub(crate) fn vector(a: Point, b: Point) -> Point
         x: difference(a.x, b.x),
         y: difference(a.y, b.y),
     }
-}
-
-fn is_positive(z: i128) -> bool
-    ensures { result ≡ int_lt (pos 0) z }
-{
-    0 < z
 }
 
 /// Whether `e` is strictly left of `d`.
