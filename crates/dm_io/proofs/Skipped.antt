@@ -217,11 +217,21 @@ reads-end {old} {mid} {before} {after} {long} {gone} new next s was_open ended n
     λ f g. e ∙ ap (λ l. answer_at_end l (length (waiting mid))) f ∙ ap (λ t. if t then End else Line) g in
     rw e (ends-as new long s was_open ended none short told nothing counted (λ f g. shown (as_line f g)))
 
+none-or-many : (long : Bool) (gone : List ℕ) → (long ≡ true → 20000 < length gone) → (long ≡ false → gone ≡ []) → (gone ≡ []) ⊎ (20000 < length gone)
+none-or-many true gone many none = inr (many refl)
+none-or-many false gone many none = inl (none refl)
+
 -- no whole line came: what was dropped and what waits is a part of one
-pub reads-part : {old mid : LineReader} {before after : Option (List ℕ)} {long : Bool} {gone : List ℕ}
-    → Skipped old mid before after long gone → saw_end old ≡ false → has_newline (waiting mid) ≡ false → Stopped old before after (gone ++ waiting mid)
-reads-part {old} {mid} {before} {after} {long} {gone} s was_open none = record {
+pub reads-part : {old mid : LineReader} {before after : Option (List ℕ)} {long : Bool} {gone : List ℕ} (new : LineReader)
+    → Skipped old mid before after long gone → saw_end old ≡ false → saw_end new ≡ false → has_newline (waiting mid) ≡ false → waiting new ≡ waiting mid → answered new ≡ answered mid
+    → Stopped old new before after (gone ++ waiting mid)
+reads-part {old} {mid} {before} {after} {long} {gone} new s was_open goes_on none same counted = record {
   was_open = was_open;
+  goes_on = goes_on;
   plain = plain-both gone (waiting mid) s.plain none;
   taken = ahead-skipped s;
+  gone = gone;
+  waits = ap (λ w. gone ++ w) (sym same);
+  counted = counted ∙ s.counted;
+  dropped = none-or-many long gone s.when_long s.when_short;
 }

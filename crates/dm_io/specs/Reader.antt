@@ -67,19 +67,24 @@ pub record NothingAhead (old new : LineReader) (before after : Option (List ℕ)
   pub nothing_taken : after ≡ before
   pub nothing_left : saw_end old ≡ false → IsIfTold [] after
 
--- no whole line was ahead in what was taken: this part of one, of which so many bytes were within the limit
-pub record Stopped (old : LineReader) (before after : Option (List ℕ)) (part : List ℕ) : Type 0 where
+-- no whole line came: this part of one waited or was taken, and all of it waits but for the front that was dropped where it is too long
+pub record Stopped (old new : LineReader) (before after : Option (List ℕ)) (part : List ℕ) : Type 0 where
   pub was_open : saw_end old ≡ false
+  pub goes_on : saw_end new ≡ false
   pub plain : has_newline part ≡ false
   pub taken : IsFront (ahead old before) part after
+  pub gone : List ℕ
+  pub waits : part ≡ gone ++ waiting new
+  pub counted : answered new ≡ answered old + length gone
+  pub dropped : (gone ≡ []) ⊎ (20000 < length gone)
 
 -- what each answer says of the bytes
 abbrev pub Reads : LineReader → LineReader → Option (List ℕ) → Option (List ℕ) → Next → Type 0
 Reads old new before after Line = (line : List ℕ) × Answered old new before after line × (is_long line ≡ false) × (line_in new ≡ without_return line)
 Reads old new before after Long = (line : List ℕ) × Answered old new before after line × (is_long line ≡ true)
 Reads old new before after End = NothingAhead old new before after
-Reads old new before after Failed = (part : List ℕ) × Stopped old before after part × (answered old + length part ≤ limit_of old)
-Reads old new before after Over = (part extra : List ℕ) × (rest : Option (List ℕ)) × Stopped old before rest part × (answered old + length part ≡ limit_of old) × (length extra ≡ 1) × IsFront rest extra after
+Reads old new before after Failed = (part : List ℕ) × Stopped old new before after part × (answered old + length part ≤ limit_of old)
+Reads old new before after Over = (part extra : List ℕ) × (rest : Option (List ℕ)) × Stopped old new before rest part × (answered old + length part ≡ limit_of old) × (length extra ≡ 1) × IsFront rest extra after
 
 -- while a whole line waits, it is answered and nothing is taken
 abbrev pub Waits : LineReader → Option (List ℕ) → Option (List ℕ) → Next → Type 0

@@ -14,7 +14,7 @@ pub struct Calls {
 }
 
 impl Calls {
-    ghost use Rattle.dm_io.specs.Calls.{fault_count, next_fails, GoesOn, IsFresh};
+    ghost use Rattle.dm_io.specs.Calls.{failing_calls, fault_count, next_fails, next_number, GoesOn, IsFresh};
     ghost use Rattle.dm_io.specs.Streams.{Rose};
 
     /// No call was made yet.
@@ -42,8 +42,8 @@ impl Calls {
     /// Counts a fault.
     pub fn fail(&mut self)
         ensures rose { Rose (fault_count self.old) (fault_count self.new) }
-        ensures fails { self.new.fails.items ≡ self.old.fails.items }
-        ensures number { self.new.number ≡ self.old.number }
+        ensures fails { failing_calls self.new ≡ failing_calls self.old }
+        ensures number { next_number self.new ≡ next_number self.old }
     {
         self.faults = self.faults.saturating_add(1);
     }

@@ -25,6 +25,8 @@ mod mem_sink;
 mod mem_source;
 mod streams;
 mod system;
+#[cfg(test)]
+mod tests;
 mod waiting;
 mod whole;
 

@@ -26,9 +26,11 @@ impl<R: Read + Drop> StdSource<R> {
 }
 
 impl<R: Read + Drop> Source for StdSource<R> {
+    ghost use Rattle.dm_io.specs.System.{source_faults};
+
     ghost left = { λ _. None };
 
-    ghost faults = { λ s. s.faults };
+    ghost faults = { λ s. source_faults s };
 
     fn take(&mut self, into: &mut [u8]) -> Take {
         match self.input.read(into) {
@@ -74,9 +76,11 @@ impl<W: Write + Drop> StdSink<W> {
 }
 
 impl<W: Write + Drop> Sink for StdSink<W> {
+    ghost use Rattle.dm_io.specs.System.{sink_faults};
+
     ghost written = { λ _. None };
 
-    ghost faults = { λ s. s.faults };
+    ghost faults = { λ s. sink_faults s };
 
     fn put(&mut self, piece: &[u8]) -> Put {
         match self.write_some(piece) {
@@ -117,9 +121,11 @@ impl<R: rt::Files + Drop> DirFiles<R> {
 }
 
 impl<R: rt::Files + Drop> Source for DirFiles<R> {
+    ghost use Rattle.dm_io.specs.System.{files_faults};
+
     ghost left = { λ _. None };
 
-    ghost faults = { λ s. s.faults };
+    ghost faults = { λ s. files_faults s };
 
     fn take(&mut self, into: &mut [u8]) -> Take {
         let Some(file) = &mut self.file else {

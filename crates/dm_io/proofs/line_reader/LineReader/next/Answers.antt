@@ -1,4 +1,4 @@
-use Rattle.std.proofs.Common.{◌≡◌, ◌-◌, ◌||◌, ◌++◌, ℕ, List, false, length, take, ap, sym, ◌∙◌, length-append, length-drop, arith}
+use Rattle.std.proofs.Common.{◌≡◌, ◌-◌, ◌||◌, ◌++◌, ℕ, List, false, length, take, ap, refl, sym, ◌∙◌, length-append, length-drop, arith}
 use Rattle.std.proofs.lemmas.Grind.{common_steps}
 use Rattle.std.proofs.lemmas.List.{take_at}
 use Rattle.dm_io.specs.Lines.{has_newline}
@@ -59,11 +59,11 @@ returns-in-Broken-clause-reads g c =
     let skipped = skipped-more c.if-long.long c.pieces.invariant.skipped.1 none skips.1 long in
     let plain = skips-plain skips.1 none in
     let gets = c.in-Broken.ensures.gets in
-    let same = skipped-same c.more.new.self skipped plain gets.0 gets.1 c.more.ensures.answered in
-    let gone : List ℕ = c.pieces.invariant.skipped.0 ++ skips.0 in
-    let new = c.more.new.self in (
+    let new = c.more.new.self in
+    let same = skipped-same new skipped plain gets.0 gets.1 c.more.ensures.answered in
+    let gone : List ℕ = c.pieces.invariant.skipped.0 ++ skips.0 in (
       gone ++ waiting new,
-      reads-part same c.pieces.invariant.was_open (ap has_newline gets.0 ∙ plain),
+      reads-part new same c.pieces.invariant.was_open c.more.ensures.goes_on (ap has_newline gets.0 ∙ plain) refl refl,
       omega (arith, same.counted, length-append gone (waiting new), new.kept, length-drop new.start new.held.items, c.more.ensures.limit, c.skip_full-full.ensures.limit, c.pieces.invariant.limit),
     )
 
@@ -81,7 +81,7 @@ returns-in-Beyond-clause-reads g c =
       gone ++ waiting mid,
       gets.1,
       g.S.Source.left c.pieces.source,
-      reads-part skipped c.pieces.invariant.was_open plain,
+      reads-part c.more.new.self skipped c.pieces.invariant.was_open c.more.ensures.goes_on plain gets.0 c.more.ensures.answered,
       omega (arith, skipped.counted, length-append gone (waiting mid), gets.4, c.skip_full-full.ensures.limit, c.pieces.invariant.limit),
       gets.2,
       gets.3,
