@@ -3,6 +3,7 @@
 
 mod edges;
 mod grid;
+mod messages;
 mod plan_file;
 mod status;
 mod words;

@@ -69,3 +69,7 @@ keeps_all-front before mid now bytes waiting first second =
     omega (arith, ap length first.1, length-append first.0 waiting, second.1),
     second.2 ∙ ap (λ o. with_end o (take second.0 waiting)) first.2 ∙ with_end-append before first.0 (take second.0 waiting)
     ∙ ap (with_end before) (sym (take-append-add first.0 waiting second.0) ∙ ap (take (length first.0 + second.0)) first.1))
+
+-- a piece was put, and nothing waits
+pub keeps-put : (before mid now : Option (List ℕ)) (bytes piece rest : List ℕ) → PutsAndKeeps before mid bytes (piece ++ rest) → now ≡ with_end mid piece → PutsAndKeeps before now bytes rest
+keeps-put before mid now bytes piece rest first second = keeps-more before mid now bytes [] piece rest [] first (piece, append-nil piece, second)
