@@ -4,6 +4,7 @@
 mod edges;
 mod grid;
 mod messages;
+mod output;
 mod plan_file;
 mod status;
 mod words;
