@@ -6,6 +6,7 @@ mod grid;
 mod messages;
 mod output;
 mod plan_file;
+mod run;
 mod status;
 mod words;
 
