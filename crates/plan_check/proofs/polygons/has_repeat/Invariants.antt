@@ -1,0 +1,10 @@
+use Rattle.std.specs.Prelude.{◌≡◌, drop, length}
+use Rattle.std.specs.List.{enumerate_from, list_all, list_any}
+use Rattle.plane_spec.specs.Lists.{pairs}
+use Rattle.plane_spec.specs.Polygons.{edges_of, edges_touch, is_nothing, has_repeat, may_stand, crosses_nowhere, borders_touch}
+use Rattle.plane_spec.specs.Segments.{do_touch}
+use Rattle.plan_spec.specs.Accepted.{touches_border}
+use Rattle.plan_check.proofs.polygons.has_repeat.Given as goal
+
+abbrev pub invariant-loop-k : goal.invariant-loop-k
+invariant-loop-k l = has_repeat l.points ≡ list_any is_nothing (drop l.k (edges_of l.points))

@@ -1,0 +1,10 @@
+use Rattle.std.specs.Prelude.{◌≡◌, ◌+◌, drop, length}
+use Rattle.std.specs.List.{enumerate_from, list_all, list_any}
+use Rattle.plane_spec.specs.Lists.{pairs}
+use Rattle.plane_spec.specs.Polygons.{edges_of, edges_touch, is_nothing, has_repeat, may_stand, crosses_nowhere, borders_touch}
+use Rattle.plane_spec.specs.Segments.{do_touch}
+use Rattle.plan_spec.specs.Accepted.{touches_border}
+use Rattle.plan_check.proofs.polygons.stands_beside.Given as goal
+
+abbrev pub invariant-loop-j : goal.invariant-loop-j
+invariant-loop-j l = list_all (λ f. may_stand (length l.points) ((l.i, l.e), f)) (enumerate_from (l.i + 1) (drop (l.i + 1) (edges_of l.points))) ≡ list_all (λ f. may_stand (length l.points) ((l.i, l.e), f)) (enumerate_from l.j (drop l.j (edges_of l.points)))

@@ -1,0 +1,31 @@
+-- What the entries of a table by name stand for.
+use Rattle.std.specs.Prelude.{ℕ, List, [], map, Option, slice_index_or}
+use Rattle.plane_spec.specs.declared.Point.{Point}
+use Rattle.plane_spec.specs.declared.Segment.{Segment}
+use Rattle.plan_spec.specs.declared.kinds.GridSpec.{GridSpec}
+use Rattle.plan_spec.specs.declared.kinds.Screen.{Screen}
+use Rattle.plan_spec.specs.declared.kinds.Route.{Route}
+use Rattle.plan_spec.specs.Plan.{Obstacle, Plan, obstacle, screen, route}
+
+abbrev pub kept_obstacle : List ℕ × List Point → Obstacle
+kept_obstacle e = obstacle e.0 e.1
+
+abbrev pub kept_screen : List ℕ × Segment → Screen
+kept_screen e = screen e.0 e.1.a e.1.b
+
+abbrev pub kept_route : List ℕ × Segment → Route
+kept_route e = route e.0 e.1.a e.1.b
+
+-- the plan of these parts
+abbrev pub kept_plan : List Point → Option GridSpec → List (List ℕ × List Point) → List (List ℕ × Segment) → List (List ℕ × Segment) → Plan
+kept_plan outer grid obstacles screens routes = record {
+  outer = outer;
+  grid = grid;
+  obstacles = map kept_obstacle obstacles;
+  screens = map kept_screen screens;
+  routes = map kept_route routes;
+}
+
+-- the k-th obstacle, counted from 0; past the last one it has no points
+abbrev pub obstacle_at : Plan → ℕ → Obstacle
+obstacle_at plan k = slice_index_or plan.obstacles k (obstacle [] [])

@@ -1,0 +1,29 @@
+//! Accepted floor plans and their edits.
+//!
+//! | item | what it is |
+//! |---|---|
+//! | [`Plan`] | a plan that is accepted, and what can be read from one |
+//! | [`check`], [`CheckFault`] | the plan that items make, or the first item that is refused and why |
+//! | [`Item`], [`Items`], [`PlanData`], [`Points`] | a plan as it is given, item by item |
+//! | [`GridSpec`], [`Screen`], [`Route`] | the parts of a plan that aren't polygons |
+//! | [`Edit`], [`Changed`] | a change of a plan, and the boxes in which something changes |
+//! | [`Why`], [`Limit`] | why an item or an edit is refused |
+//! | [`Name`], [`NoMemory`] | a name; the answer for want of memory |
+#![tactic(auto)]
+
+mod checking;
+mod copies;
+mod draft;
+mod grid;
+mod plan;
+mod polygons;
+mod refusals;
+mod sharing;
+
+pub use checking::{CheckFault, check};
+pub use plan::Plan;
+pub use plan_spec::{
+    Changed, Edit, GridSpec, Item, Items, Limit, PlanData, Points, Route, Screen, Why,
+};
+pub use sharing::types_are_shared;
+pub use text_spec::{Name, NoMemory};

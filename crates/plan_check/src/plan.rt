@@ -1,0 +1,120 @@
+//! The type of accepted plans, and what can be read from one.
+
+ghost use Rattle.std.specs.Prelude.{◌≡◌, ◌<◌, ◌+◌, ◌∷◌, IsTrue, drop, length, position};
+ghost use Rattle.plan_spec.specs.Accepted.{is_sound};
+ghost use Rattle.plan_spec.specs.Plan.{is_route_named};
+ghost use Rattle.plan_check.specs.Kept.{obstacle_at};
+
+use crate::draft::Draft;
+use plan_spec::{GridSpec, Route, Screen};
+use plane_spec::Point;
+use std::marker::Model;
+use text_spec::Name;
+
+/// A plan that is accepted. Contracts see its outer polygon, its grid, and its obstacles, screens and routes in order.
+#[derive(Drop)]
+pub struct Plan {
+    draft: Draft,
+}
+
+impl Model for Plan {
+    ghost use Rattle.std.specs.Prelude.{IsTrue};
+    ghost use Rattle.plan_spec.specs.Plan.{Plan as PlanParts};
+    ghost use Rattle.plan_spec.specs.Accepted.{is_sound};
+
+    ghost Value = { PlanParts };
+
+    ghost view = { λ a. a.draft };
+
+    ghost invariant = { λ a. IsTrue (is_sound a.draft) };
+}
+
+impl Plan {
+    /// The plan of sound parts.
+    pub(crate) fn of_sound(draft: Draft) -> Plan
+        requires { IsTrue (is_sound draft) }
+        ensures { result ≡ draft }
+    {
+        Plan { draft }
+    }
+
+    /// The points of the outer polygon, as they were given.
+    pub fn outer(&self) -> &[Point]
+        ensures points { result.now ≡ self.now.outer }
+        ensures sound { IsTrue (is_sound self.now) }
+    {
+        self.draft.outer()
+    }
+
+    /// The grid, or `None` exactly where there is none.
+    pub fn grid(&self) -> Option<GridSpec>
+        ensures grid { result ≡ self.now.grid }
+        ensures sound { IsTrue (is_sound self.now) }
+    {
+        self.draft.grid()
+    }
+
+    /// The number of obstacles.
+    pub fn obstacles(&self) -> usize
+        ensures count { result ≡ length self.now.obstacles }
+        ensures sound { IsTrue (is_sound self.now) }
+    {
+        self.draft.obstacles()
+    }
+
+    /// The name of the `k`-th obstacle, counted from 0.
+    pub fn obstacle_name(&self, k: usize) -> Name
+        requires { k < length self.now.obstacles }
+        ensures { result ≡ (obstacle_at self.now k).name }
+    {
+        self.draft.obstacle_name(k).copy()
+    }
+
+    /// The points of the `k`-th obstacle, counted from 0, as they were given.
+    pub fn obstacle(&self, k: usize) -> &[Point]
+        requires { k < length self.now.obstacles }
+        ensures points { result.now ≡ (obstacle_at self.now k).points }
+        ensures next { drop k self.now.obstacles ≡ obstacle_at self.now k ∷ drop (k + 1) self.now.obstacles }
+    {
+        self.draft.obstacle(k)
+    }
+
+    /// The number of screens.
+    pub fn screens(&self) -> usize
+        ensures count { result ≡ length self.now.screens }
+        ensures sound { IsTrue (is_sound self.now) }
+    {
+        self.draft.screens()
+    }
+
+    /// The `k`-th screen, counted from 0.
+    pub fn screen(&self, k: usize) -> Screen
+        requires { k < length self.now.screens }
+        ensures { drop k self.now.screens ≡ result ∷ drop (k + 1) self.now.screens }
+    {
+        self.draft.screen(k)
+    }
+
+    /// The number of routes.
+    pub fn routes(&self) -> usize
+        ensures count { result ≡ length self.now.routes }
+        ensures sound { IsTrue (is_sound self.now) }
+    {
+        self.draft.routes()
+    }
+
+    /// The `k`-th route, counted from 0.
+    pub fn route(&self, k: usize) -> Route
+        requires { k < length self.now.routes }
+        ensures { drop k self.now.routes ≡ result ∷ drop (k + 1) self.now.routes }
+    {
+        self.draft.route(k)
+    }
+
+    /// The number of the route of this name, or `None` exactly where there is none.
+    pub fn route_named(&self, name: &Name) -> Option<usize>
+        ensures { result ≡ position (is_route_named name.now) self.now.routes }
+    {
+        self.draft.route_named(name)
+    }
+}

@@ -1,0 +1,87 @@
+//! How far a ray reaches.
+
+ghost use Rattle.std.specs.Prelude.{All, ◌≡◌};
+ghost use Rattle.std.specs.List.{filter_map};
+ghost use Rattle.plane_spec.specs.Vectors.{InRange, IsDirected, IsDirection};
+ghost use Rattle.plan_spec.specs.Stops as stops;
+ghost use Rattle.sight_core.specs.Hits as hits;
+ghost use Rattle.sight_core.specs.Ranges.{IsCornerInRange, IsWallInRange};
+
+use crate::hits::{Hit, corner_hit, line_hit, nearer, start_hit};
+use crate::scene::Scene;
+use exact_geom::Frac;
+use plane_spec::{Corner, Point, Segment as Wall};
+
+/// The first of the least among the best so far and where the ray meets walls or screens.
+fn nearest_line(best: Option<Hit>, lines: &[Wall], p: Point, d: Point) -> Option<Hit>
+    requires lines_in { All IsWallInRange lines.now }
+    requires p_in { InRange p }
+    requires d_in { IsDirection d }
+    ensures { result ≡ hits.least_from best (filter_map (stops.line_hit p d) lines.now) }
+{
+    let mut nearest = best;
+    for line in lines {
+        nearest = nearer(nearest, line_hit(p, d, line));
+    }
+    nearest
+}
+
+/// The first of the least among the best so far and where the ray passes through corners into what is blocked.
+fn nearest_corner(best: Option<Hit>, corners: &[Corner], p: Point, d: Point) -> Option<Hit>
+    requires corners_in { All IsCornerInRange corners.now }
+    requires p_in { InRange p }
+    requires d_in { IsDirection d }
+    requires directed { IsDirected d }
+    ensures { result ≡ hits.least_from best (filter_map (stops.corner_hit p d) corners.now) }
+{
+    let mut nearest = best;
+    for corner in corners {
+        nearest = nearer(nearest, corner_hit(p, d, corner));
+    }
+    nearest
+}
+
+/// The first of the least among the best so far and where the ray begins, for each wall that it leaves to its left.
+fn nearest_start(best: Option<Hit>, walls: &[Wall], p: Point, d: Point) -> Option<Hit>
+    requires walls_in { All IsWallInRange walls.now }
+    requires p_in { InRange p }
+    requires d_in { IsDirection d }
+    ensures { result ≡ hits.least_from best (filter_map (stops.start_hit p d) walls.now) }
+{
+    let mut nearest = best;
+    for wall in walls {
+        nearest = nearer(nearest, start_hit(p, d, wall));
+    }
+    nearest
+}
+
+/// The first of the least `t` at which the ray is stopped.
+fn nearest_of(scene: &Scene, p: Point, d: Point) -> Option<Hit>
+    requires p_in { InRange p }
+    requires d_in { IsDirection d }
+    requires directed { IsDirected d }
+    ensures { result ≡ hits.nearest_of scene.now p d }
+{
+    let across_walls = nearest_line(None, scene.walls(), p, d);
+    let across = nearest_line(across_walls, scene.screens(), p, d);
+    let ahead = nearest_corner(across, scene.corners(), p, d);
+    nearest_start(ahead, scene.walls(), p, d)
+}
+
+/// How far a ray reaches: the least `t` of at least 0 for which `p + t d` is where it meets a wall or a screen between its
+/// ends, where it passes through a corner into what is blocked, or where it begins, if that is on a wall, not at its ends,
+/// with what is blocked ahead. `None` exactly where nothing stops it.
+///
+/// Cost: two passes over the walls and one over the screens and corners, and the reduction of one fraction.
+#[tactic(auto, unfolding(plan_spec::specs::Stops::stop_of))]
+pub fn stop(scene: &Scene, p: Point, d: Point) -> Option<Frac>
+    requires p_in { InRange p }
+    requires d_in { IsDirection d }
+    requires directed { IsDirected d }
+    ensures { result ≡ stops.stop_of scene.now p d }
+{
+    match nearest_of(scene, p, d) {
+        Some(hit) => Some(hit.reduced()),
+        None => None,
+    }
+}

@@ -1,0 +1,160 @@
+//! Which points see each other.
+
+ghost use Rattle.std.specs.Prelude.{All, ◌≡◌, ◌&&◌, ◌||◌, not, pos, int_lt};
+ghost use Rattle.std.specs.List.{list_any};
+ghost use Rattle.plane_spec.specs.Vectors as vectors;
+ghost use Rattle.plane_spec.specs.Vectors.{InRange};
+ghost use Rattle.plane_spec.specs.declared.Point.{Point};
+ghost use Rattle.plan_spec.specs.Scene.{Scene};
+ghost use Rattle.plan_spec.specs.Sight as sight;
+ghost use Rattle.sight_core.specs.Blocks as blocks;
+ghost use Rattle.sight_core.specs.Ranges.{IsWallInRange, IsCornerInRange};
+
+use crate::cone::in_cone;
+use crate::scene::Scene;
+use crate::signs::are_alike;
+use crate::vectors::{lies_left, vector};
+use exact_geom::{crosses, on_segment, orient};
+use plane_spec::{Corner, Point, Segment as Wall};
+
+fn same_point(p: Point, q: Point) -> bool
+    ensures { result ≡ vectors.same_point p q }
+{
+    p.x == q.x && p.y == q.y
+}
+
+/// Whether `p` lies on the wall, not at its ends.
+pub(crate) fn is_on_middle(p: Point, wall: &Wall) -> bool
+    requires p_in { InRange p }
+    requires wall_in { IsWallInRange wall.now }
+    ensures { result ≡ sight.is_on_middle p wall.now }
+{
+    on_segment(p, wall.a, wall.b) && !same_point(p, wall.a) && !same_point(p, wall.b)
+}
+
+/// Whether the segment from `p` to `q` begins on the wall, not at its ends, and leads to its left.
+#[tactic(auto, unfolding(plan_spec::specs::Sight::leaves_wall))]
+fn leaves_wall(p: Point, q: Point, wall: &Wall) -> bool
+    requires p_in { InRange p }
+    requires q_in { InRange q }
+    requires wall_in { IsWallInRange wall.now }
+    ensures { result ≡ sight.leaves_wall p q wall.now }
+{
+    is_on_middle(p, wall) && lies_left(wall.a, wall.b, q)
+}
+
+/// Whether the segment begins or ends on the wall and is on its left.
+fn enters_wall(p: Point, q: Point, wall: &Wall) -> bool
+    requires p_in { InRange p }
+    requires q_in { InRange q }
+    requires wall_in { IsWallInRange wall.now }
+    ensures { result ≡ sight.enters_wall p q wall.now }
+{
+    leaves_wall(p, q, wall) || leaves_wall(q, p, wall)
+}
+
+/// Whether the wall's ends lie strictly on one side of the line through `p` and `q`.
+#[tactic(auto, unfolding(crate::specs::Blocks::lies_aside))]
+fn lies_aside(p: Point, q: Point, wall: &Wall) -> bool
+    requires p_in { InRange p }
+    requires q_in { InRange q }
+    requires wall_in { IsWallInRange wall.now }
+    ensures { result ≡ blocks.lies_aside p q wall.now }
+{
+    are_alike(orient(p, q, wall.a), orient(p, q, wall.b))
+}
+
+/// Whether the wall is in the way. Most walls lie strictly on one side of the segment's line, so this is tried first.
+#[tactic(auto, using(crate::proofs::Sides::wall_blocks_is))]
+fn wall_blocks(p: Point, q: Point, wall: &Wall) -> bool
+    requires p_in { InRange p }
+    requires q_in { InRange q }
+    requires wall_in { IsWallInRange wall.now }
+    ensures { result ≡ blocks.wall_blocks p q wall.now }
+{
+    !lies_aside(p, q, wall) && (crosses(wall.a, wall.b, p, q) || enters_wall(p, q, wall))
+}
+
+/// Whether the corner isn't `to` and has the direction to it in its cone.
+#[tactic(auto, unfolding(crate::specs::Blocks::turns_from))]
+fn turns_from(to: Point, corner: &Corner) -> bool
+    requires to_in { InRange to }
+    requires corner_in { IsCornerInRange corner.now }
+    ensures { result ≡ blocks.turns_from to corner.now }
+{
+    !same_point(corner.here, to) && in_cone(*corner, vector(corner.here, to))
+}
+
+/// Whether the corner is in the way. Few corners lie on the segment, so this is tried first.
+fn corner_blocks(p: Point, q: Point, corner: &Corner) -> bool
+    requires p_in { InRange p }
+    requires q_in { InRange q }
+    requires corner_in { IsCornerInRange corner.now }
+    ensures { result ≡ sight.corner_blocks p q corner.now }
+{
+    on_segment(corner.here, p, q) && (turns_from(q, corner) || turns_from(p, corner))
+}
+
+fn any_wall_blocks(walls: &[Wall], p: Point, q: Point) -> bool
+    requires walls_in { All IsWallInRange walls.now }
+    requires p_in { InRange p }
+    requires q_in { InRange q }
+    ensures { result ≡ list_any (blocks.wall_blocks p q) walls.now }
+{
+    walls.iter().any(|wall| wall_blocks(p, q, wall))
+}
+
+fn any_screen_blocks(screens: &[Wall], p: Point, q: Point) -> bool
+    requires screens_in { All IsWallInRange screens.now }
+    requires p_in { InRange p }
+    requires q_in { InRange q }
+    ensures { result ≡ list_any (sight.crosses p q) screens.now }
+{
+    screens
+        .iter()
+        .any(|screen| crosses(screen.a, screen.b, p, q))
+}
+
+fn any_corner_blocks(corners: &[Corner], p: Point, q: Point) -> bool
+    requires corners_in { All IsCornerInRange corners.now }
+    requires p_in { InRange p }
+    requires q_in { InRange q }
+    ensures { result ≡ list_any (sight.corner_blocks p q) corners.now }
+{
+    corners.iter().any(|corner| corner_blocks(p, q, corner))
+}
+
+/// Whether something is in the way of the segment from `p` to `q`.
+fn is_blocked(walls: &[Wall], screens: &[Wall], corners: &[Corner], p: Point, q: Point) -> bool
+    requires walls_in { All IsWallInRange walls.now }
+    requires screens_in { All IsWallInRange screens.now }
+    requires corners_in { All IsCornerInRange corners.now }
+    requires p_in { InRange p }
+    requires q_in { InRange q }
+    ensures { result ≡ sight.is_blocked (record { walls = walls.now; screens = screens.now; corners = corners.now }) p q }
+{
+    any_wall_blocks(walls, p, q)
+        || any_screen_blocks(screens, p, q)
+        || any_corner_blocks(corners, p, q)
+}
+
+/// Whether `p` and `q` see each other: they differ, the segment between them crosses no wall and no screen, it leaves no
+/// wall to its left and passes through no corner into what is blocked. Grazing a wall, a screen or a corner is free.
+///
+/// Cost: one pass over the walls, screens and corners, up to the first that is in the way, and mostly two orientations a
+/// wall.
+///
+/// Source: mutual visibility after Turner, Doxa, O'Sullivan and Penn (2001); the rule at corners is this project's own.
+#[tactic(auto, unfolding(plan_spec::specs::Sight::are_in_sight))]
+pub fn free(scene: &Scene, p: Point, q: Point) -> bool
+    requires p_in { InRange p }
+    requires q_in { InRange q }
+    ensures { result ≡ sight.are_in_sight scene.now p q }
+{
+    !same_point(p, q) && !is_blocked(scene.walls(), scene.screens(), scene.corners(), p, q)
+}
+
+/// Sight goes both ways.
+pub fn sight_is_mutual()
+    ensures { (scene : Scene) (p q : Point) → sight.are_in_sight scene p q ≡ sight.are_in_sight scene q p }
+{}
