@@ -1,0 +1,12 @@
+pub mod Bounds
+pub mod Circle
+pub mod Edges
+pub mod LeastBox
+pub mod Orientation
+pub mod Parity
+pub mod Lowest
+pub mod Values
+pub mod Rounding
+pub mod Turns
+pub mod TurnLaws
+pub mod Orders

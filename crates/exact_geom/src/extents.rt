@@ -1,1 +1,124 @@
-//! See the crate's first page.
+//! Parts of lines between points with fractions, and the boxes that they meet.
+
+ghost use Rattle.std.specs.Prelude.{◌≡◌, ◌≢◌, ◌^◌, pos, ◌*ℤ◌, int_le};
+ghost use Rattle.plane_spec.specs.Vectors.{InRange, IsWithin};
+ghost use Rattle.plane_spec.specs.Fractions.{is_at_least, is_at_most};
+ghost use Rattle.plane_spec.specs.Boxes.{fractions_overlap, does_extent_meet_box};
+ghost use Rattle.exact_geom.specs.Parts.{HasPartsWithin, HasCoordinatesWithin};
+
+use crate::boxes::line_reaches_box;
+use crate::fractions::Frac;
+use crate::places::RPoint;
+use plane_spec::{PlanBox, Point};
+
+/// A coordinate times a denominator.
+fn product(z: i64, den: i128) -> i128
+    requires z_in { IsWithin (pos 100000) z }
+    requires den_in { IsWithin (pos (10 ^ 18)) den }
+    ensures { result ≡ z *ℤ den }
+{
+    i128::from(z) * den
+}
+
+fn at_most(a: i128, b: i128) -> bool
+    ensures { result ≡ int_le a b }
+{
+    a <= b
+}
+
+/// Whether the whole number is at most the fraction.
+fn begins_by(f: &Frac, z: i64) -> bool
+    requires f_in { HasPartsWithin (pos (10 ^ 18)) f.now }
+    requires z_in { IsWithin (pos 100000) z }
+    ensures { result ≡ is_at_least f.now z }
+{
+    at_most(product(z, f.den()), f.num())
+}
+
+/// Whether the fraction is at most the whole number.
+fn ends_by(f: &Frac, z: i64) -> bool
+    requires f_in { HasPartsWithin (pos (10 ^ 18)) f.now }
+    requires z_in { IsWithin (pos 100000) z }
+    ensures { result ≡ is_at_most f.now z }
+{
+    at_most(f.num(), product(z, f.den()))
+}
+
+/// Whether the stretch between `m` and `n` shares a number with the one from `low` to `high`.
+fn overlap(m: &Frac, n: &Frac, low: i64, high: i64) -> bool
+    requires m_in { HasPartsWithin (pos (10 ^ 18)) m.now }
+    requires n_in { HasPartsWithin (pos (10 ^ 18)) n.now }
+    requires low_in { IsWithin (pos 100000) low }
+    requires high_in { IsWithin (pos 100000) high }
+    ensures { result ≡ fractions_overlap m.now n.now low high }
+{
+    (begins_by(m, low) || begins_by(n, low)) && (ends_by(m, high) || ends_by(n, high))
+}
+
+/// Whether the part of the line through `a` and `b` that lies between `from` and `to` meets `area`, borders counted: their
+/// extents overlap, and the corners of `area` don't all lie strictly on one side of the line.
+///
+/// Cost: eight products, and at most eight orientations where the extents overlap.
+pub fn extent_meets_box(a: Point, b: Point, from: &RPoint, to: &RPoint, area: PlanBox) -> bool
+    requires a_in { InRange a }
+    requires b_in { InRange b }
+    requires from_in { HasCoordinatesWithin (pos (10 ^ 18)) from.now }
+    requires to_in { HasCoordinatesWithin (pos (10 ^ 18)) to.now }
+    requires low_in { InRange area.low }
+    requires high_in { InRange area.high }
+    ensures { result ≡ does_extent_meet_box a b from.now to.now area }
+{
+    overlap(&from.x, &to.x, area.low.x, area.high.x)
+        && overlap(&from.y, &to.y, area.low.y, area.high.y)
+        && line_reaches_box(a, b, area)
+}
+
+#[cfg(test)]
+mod tests {
+    use super::*;
+
+    /// The place after `num / den` steps from (1,0) by (3,1).
+    fn place(num: i128, den: i128) -> RPoint
+        requires num_in { IsWithin (pos (10 ^ 12)) num }
+        requires den_in { IsWithin (pos (10 ^ 12)) den }
+        requires some { den ≢ pos 0 }
+        ensures { HasCoordinatesWithin (pos (10 ^ 18)) result }
+    {
+        RPoint::along(
+            Point { x: 1, y: 0 },
+            Point { x: 3, y: 1 },
+            &Frac::new(num, den),
+        )
+    }
+
+    /// Whether the stretch from `from` to `to` meets the box from (2,0) to (4,2) moved by `shift` to the right.
+    fn meets(from: &RPoint, to: &RPoint, shift: i64) -> bool
+        requires from_in { HasCoordinatesWithin (pos (10 ^ 18)) from.now }
+        requires to_in { HasCoordinatesWithin (pos (10 ^ 18)) to.now }
+        requires shift_in { IsWithin (pos 100) shift }
+    {
+        let area = PlanBox {
+            low: Point { x: 2 + shift, y: 0 },
+            high: Point { x: 4 + shift, y: 2 },
+        };
+        extent_meets_box(Point { x: 1, y: 0 }, Point { x: 4, y: 1 }, from, to, area)
+    }
+
+    #[test]
+    fn stretches_and_boxes(rt: HostRuntime) {
+        let start = place(0, 1);
+        let before = place(1, 4);
+        let border = place(2, 6);
+        let after = place(-2, -3);
+        assert!(rt; border.x == Frac::new(2, 1) && border.y == Frac::new(1, 3));
+        assert!(rt; border == place(1, 3) && border != after);
+        assert!(rt; !meets(&start, &before, 0));
+        assert!(rt; meets(&start, &border, 0));
+        assert!(rt; meets(&border, &after, 0));
+        assert!(rt; meets(&after, &start, 0));
+        assert!(rt; meets(&start, &before, -3));
+        assert!(rt; !meets(&border, &after, 2));
+        let copied = border;
+        assert!(rt; copied == border);
+    }
+}

@@ -1,1 +1,254 @@
-//! See the crate's first page.
+//! Fractions in lowest terms.
+
+ghost use Rattle.std.specs.Prelude.{◌≡◌, ◌≢◌, ◌<◌, ◌≤◌, ◌^◌, pos, unsigned_abs, ◌≤ℤ◌, ◌*◌, ◌↔◌, ℕ, true, ℤ, neg_ℤ, ◌*ℤ◌, ◌&&◌};
+ghost use Rattle.std.specs.Ordering.{int_cmp, int_eq};
+ghost use Rattle.std.specs.Cmp.Rules.{comparing};
+ghost use Rattle.std.proofs.Common.{rules};
+ghost use Prim.Native.Nat.{◌∣◌};
+ghost use Rattle.std.specs.Int.{IsGcd, int_div_euclid};
+ghost use Rattle.plane_spec.specs.Vectors.{IsWithin};
+ghost use Rattle.plane_spec.specs.Fractions as fractions;
+ghost use Rattle.exact_geom.specs.Parts.{HasPartsWithin, same_parts};
+
+use std::cmp::Ordering;
+use std::marker::Model;
+
+/// A fraction in lowest terms, over a denominator of at least 1.
+#[derive(Clone, Copy, Debug)]
+pub struct Frac {
+    num: i128,
+    den: i128,
+}
+
+impl Model for Frac {
+    ghost use Rattle.plane_spec.specs.Fractions.{Fraction, IsReduced};
+
+    ghost Value = { Fraction };
+
+    ghost view = { λ a. record { num = a.num; den = a.den } };
+
+    ghost invariant = { λ a. IsReduced (record { num = a.num; den = a.den }) };
+
+    ghost inverse = { λ f. record { num = f.num; den = f.den } };
+}
+
+impl PartialEq for Frac {
+    ghost eq = { same_parts };
+
+    ghost laws = { Prim.search (comparing, rules) };
+
+    /// Whether the two have one value: in lowest terms, that is one numerator and one denominator.
+    fn eq(&self, other: &Self) -> bool
+        ensures by_parts { result ≡ same_parts self.now other.now }
+        ensures by_value { result ≡ fractions.same_value self.now other.now }
+    {
+        are_same(self.num, self.den, other.num, other.den)
+    }
+}
+
+fn is_equal(a: i128, b: i128) -> bool
+    ensures { result ≡ int_eq a b }
+{
+    a == b
+}
+
+fn are_same(a: i128, b: i128, c: i128, d: i128) -> bool
+    ensures { result ≡ (int_eq a c && int_eq b d) }
+{
+    is_equal(a, c) && is_equal(b, d)
+}
+
+impl Eq for Frac {
+    ghost laws = { Prim.search (comparing, rules) };
+}
+
+/// The greatest common divisor, by remainders: the number of steps grows with the number of digits.
+fn common_divisor(a: u128, b: u128) -> u128
+    ensures { result ≡ fractions.common_divisor a b }
+{
+    let mut greater = a;
+    let mut lesser = b;
+    while lesser != 0 {
+        let rest = greater % lesser;
+        greater = lesser;
+        lesser = rest;
+    }
+    greater
+}
+
+/// The greatest common divisor of a numerator and a denominator of at least 1.
+fn divisor_of(num: i128, den: i128) -> u128
+    requires { pos 1 ≤ℤ den }
+    ensures value { result ≡ fractions.common_divisor (unsigned_abs num) (unsigned_abs den) }
+    ensures some { 0 < result }
+{
+    common_divisor(num.unsigned_abs(), den.unsigned_abs())
+}
+
+/// `z` divided by a divisor of its size.
+fn divided(z: i128, divisor: u128) -> i128
+    requires small { IsWithin (pos (10 ^ 36)) z }
+    requires some { 0 < divisor }
+    ensures { result ≡ fractions.divided z divisor }
+{
+    let size = (z.unsigned_abs() / divisor) as i128;
+    if z < 0 { -size } else { size }
+}
+
+/// `num / den` in lowest terms, for a denominator of at least 1.
+pub(crate) fn lowest(num: i128, den: i128) -> Frac
+    requires num_in { IsWithin (pos (10 ^ 36)) num }
+    requires den_in { IsWithin (pos (10 ^ 36)) den }
+    requires positive { pos 1 ≤ℤ den }
+    ensures { result ≡ fractions.reduced (record { num = num; den = den }) }
+{
+    let divisor = divisor_of(num, den);
+    Frac {
+        num: divided(num, divisor),
+        den: divided(den, divisor),
+    }
+}
+
+/// The least whole number that isn't below `num / den`. Nothing is negated, since the least value has no opposite.
+fn ceiling(num: i128, den: i128) -> i128
+    requires { pos 1 ≤ℤ den }
+    ensures { result ≡ neg_ℤ (int_div_euclid (neg_ℤ num) den) }
+{
+    if 0 < num {
+        (num - 1) / den + 1
+    } else {
+        num / den
+    }
+}
+
+fn product(a: i128, b: i128) -> i128
+    requires a_in { IsWithin (pos (10 ^ 18)) a }
+    requires b_in { IsWithin (pos (10 ^ 18)) b }
+    ensures { result ≡ a *ℤ b }
+{
+    a * b
+}
+
+fn order(a: i128, b: i128) -> Ordering
+    ensures { result ≡ int_cmp a b }
+{
+    a.cmp(&b)
+}
+
+impl Frac {
+    /// `num / den` in lowest terms.
+    ///
+    /// Cost: one division for each step of Euclid's algorithm, at most about five for each decimal digit.
+    pub fn new(num: i128, den: i128) -> Frac
+        requires num_in { IsWithin (pos (10 ^ 36)) num }
+        requires den_in { IsWithin (pos (10 ^ 36)) den }
+        requires some { den ≢ pos 0 }
+        ensures value { result ≡ fractions.reduced (fractions.fraction num den) }
+        ensures no_larger { (most : ℕ) → IsWithin (pos most) num → IsWithin (pos most) den → HasPartsWithin (pos most) result }
+    {
+        if 0 < den {
+            lowest(num, den)
+        } else {
+            lowest(-num, -den)
+        }
+    }
+
+    /// The numerator, which has the sign of the value.
+    pub fn num(&self) -> i128
+        ensures { result ≡ self.now.num }
+    {
+        self.num
+    }
+
+    /// The denominator, at least 1.
+    pub fn den(&self) -> i128
+        ensures value { result ≡ self.now.den }
+        ensures positive { pos 1 ≤ℤ result }
+        ensures lowest { fractions.IsReduced self.now }
+    {
+        self.den
+    }
+
+    /// The greatest whole number that isn't above the value, for negative values too.
+    pub fn floor(&self) -> i128
+        ensures value { result ≡ fractions.floor_of self.now }
+        ensures not_above { fractions.is_at_least self.now result ≡ true }
+        ensures greatest { (z : ℤ) → fractions.is_at_least self.now z ≡ true → z ≤ℤ result }
+    {
+        self.num.div_euclid(self.den)
+    }
+
+    /// The least whole number that isn't below the value, for negative values too.
+    pub fn ceil(&self) -> i128
+        ensures value { result ≡ fractions.ceil_of self.now }
+        ensures not_below { fractions.is_at_most self.now result ≡ true }
+        ensures least { (z : ℤ) → fractions.is_at_most self.now z ≡ true → result ≤ℤ z }
+    {
+        ceiling(self.num, self.den)
+    }
+
+    /// Which of two values is less, by products across; both fit since all four parts are at most 10^18 in size.
+    pub fn compare(&self, other: &Frac) -> Ordering
+        requires self_in { HasPartsWithin (pos (10 ^ 18)) self.now }
+        requires other_in { HasPartsWithin (pos (10 ^ 18)) other.now }
+        ensures { result ≡ fractions.value_order_of self.now other.now }
+    {
+        order(product(self.num, other.den), product(other.num, self.den))
+    }
+}
+
+/// The laws of lowest terms, for fractions over denominators of at least 1: a fraction in lowest terms is the only one of
+/// its value, so that two of them are equal exactly where their values are.
+pub fn lowest_terms()
+    ensures is_reduced { (f : fractions.Fraction) → pos 1 ≤ℤ f.den → fractions.IsReduced (fractions.reduced f) }
+    ensures keeps_value { (f : fractions.Fraction) → fractions.same_value f (fractions.reduced f) ≡ true }
+    ensures one_form { (f g : fractions.Fraction) → pos 1 ≤ℤ f.den → pos 1 ≤ℤ g.den → fractions.same_value f g ≡ true → fractions.reduced f ≡ fractions.reduced g }
+    ensures stays { (f : fractions.Fraction) → fractions.IsReduced f → fractions.reduced f ≡ f }
+    ensures equal { (f g : fractions.Fraction) → fractions.IsReduced f → fractions.IsReduced g → (f ≡ g) ↔ (fractions.same_value f g ≡ true) }
+    ensures keeps_order { (f g : fractions.Fraction) → pos 1 ≤ℤ f.den → pos 1 ≤ℤ g.den → fractions.value_order_of (fractions.reduced f) (fractions.reduced g) ≡ fractions.value_order_of f g }
+    ensures no_larger { (most : ℕ) (f : fractions.Fraction) → HasPartsWithin (pos most) f → HasPartsWithin (pos most) (fractions.reduced f) }
+    ensures over_positive { (num den : ℤ) → den ≢ pos 0 → pos 1 ≤ℤ (fractions.fraction num den).den }
+    ensures divides_other_factor { (a b c : ℕ) → IsGcd a b 1 → a ∣ b * c → a ∣ c }
+{}
+
+#[cfg(test)]
+mod tests {
+    use super::*;
+
+    /// Whether `num / den` has these parts in lowest terms, this floor and this ceiling.
+    fn is(num: i128, den: i128, parts: (i128, i128), floor: i128, ceil: i128) -> bool
+        requires num_in { IsWithin (pos (10 ^ 36)) num }
+        requires den_in { IsWithin (pos (10 ^ 36)) den }
+        requires some { den ≢ pos 0 }
+    {
+        let f = Frac::new(num, den);
+        f.num() == parts.0 && f.den() == parts.1 && f.floor() == floor && f.ceil() == ceil
+    }
+
+    fn ordered(a: i128, b: i128, c: i128, d: i128) -> Ordering
+        requires a_in { IsWithin (pos (10 ^ 18)) a }
+        requires b_in { IsWithin (pos (10 ^ 18)) b }
+        requires b_some { b ≢ pos 0 }
+        requires c_in { IsWithin (pos (10 ^ 18)) c }
+        requires d_in { IsWithin (pos (10 ^ 18)) d }
+        requires d_some { d ≢ pos 0 }
+    {
+        Frac::new(a, b).compare(&Frac::new(c, d))
+    }
+
+    #[test]
+    fn fractions_by_hand(rt: HostRuntime) {
+        assert!(rt; is(4, -6, (-2, 3), -1, 0));
+        assert!(rt; is(-4, -6, (2, 3), 0, 1));
+        assert!(rt; is(0, -5, (0, 1), 0, 0));
+        assert!(rt; is(7, 2, (7, 2), 3, 4));
+        assert!(rt; is(-7, 2, (-7, 2), -4, -3));
+        assert!(rt; is(-12, 4, (-3, 1), -3, -3));
+        assert!(rt; is(832040, 514229, (832040, 514229), 1, 2));
+        assert!(rt; ordered(1, 2, -1, 3) == Ordering::Greater);
+        assert!(rt; ordered(-1, 2, -1, 3) == Ordering::Less);
+        assert!(rt; ordered(-2, 6, 1, -3) == Ordering::Equal);
+        assert!(rt; Frac::new(-2, 6) == Frac::new(1, -3));
+        assert!(rt; Frac::new(1, 2) != Frac::new(-1, 2));
+    }
+}

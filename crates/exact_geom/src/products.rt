@@ -1,1 +1,117 @@
-//! See the crate's first page.
+//! Orientation, cross and dot products.
+//!
+//! Bounds prove that each step fits in 64 bits, so only the result is widened.
+
+ghost use Rattle.std.specs.Prelude.{◌≡◌, ◌↔◌, IsTrue, neg_ℤ, pos, ◌+ℤ◌, ◌-ℤ◌, ◌*ℤ◌};
+ghost use Rattle.plane_spec.specs.Vectors.{InRange, IsDirection, IsWithin, cross_of, dot_of, is_in_range, orient_of};
+
+use plane_spec::Point;
+
+/// Whether both coordinates are from -100000 to 100000. `p` may have any.
+pub fn in_range(p: Point) -> bool
+    ensures value { result ≡ is_in_range p }
+    ensures meaning { IsTrue result ↔ InRange p }
+{
+    is_coordinate(p.x) && is_coordinate(p.y)
+}
+
+/// Whether `z` is from -100000 to 100000.
+fn is_coordinate(z: i64) -> bool
+    ensures value { result ≡ Rattle.plane_spec.specs.Vectors.is_coordinate z }
+    ensures meaning { IsTrue result ↔ IsWithin (pos 100000) z }
+{
+    -100_000 <= z && z <= 100_000
+}
+
+/// `b - a`, of two coordinates.
+fn difference(a: i64, b: i64) -> i64
+    requires a_in { IsWithin (pos 100000) a }
+    requires b_in { IsWithin (pos 100000) b }
+    ensures value { result ≡ b -ℤ a }
+    ensures within { IsWithin (pos 200000) result }
+{
+    b - a
+}
+
+/// The product of two components of directions.
+fn product(a: i64, b: i64) -> i64
+    requires a_in { IsWithin (pos 400000) a }
+    requires b_in { IsWithin (pos 400000) b }
+    ensures value { result ≡ a *ℤ b }
+    ensures within { IsWithin (pos 160000000000) result }
+{
+    a * b
+}
+
+/// `a - b`, of two products.
+fn minus(a: i64, b: i64) -> i64
+    requires a_in { IsWithin (pos 160000000000) a }
+    requires b_in { IsWithin (pos 160000000000) b }
+    ensures value { result ≡ a -ℤ b }
+    ensures within { IsWithin (pos 320000000000) result }
+{
+    a - b
+}
+
+/// `a + b`, of two products.
+fn plus(a: i64, b: i64) -> i64
+    requires a_in { IsWithin (pos 160000000000) a }
+    requires b_in { IsWithin (pos 160000000000) b }
+    ensures value { result ≡ a +ℤ b }
+    ensures within { IsWithin (pos 320000000000) result }
+{
+    a + b
+}
+
+/// Twice the area of the triangle from `a` over `b` to `c`: positive where `c` lies left of the line from `a` to `b`,
+/// negative where it lies right of it, and 0 where it lies on it.
+///
+/// Cost: two multiplications.
+pub fn orient(a: Point, b: Point, c: Point) -> i128
+    requires a_in { InRange a }
+    requires b_in { InRange b }
+    requires c_in { InRange c }
+    ensures value { result ≡ orient_of a b c }
+    ensures within { IsWithin (pos 80000000000) result }
+{
+    let (bx, by) = (difference(a.x, b.x), difference(a.y, b.y));
+    let (cx, cy) = (difference(a.x, c.x), difference(a.y, c.y));
+    i128::from(minus(product(bx, cy), product(by, cx)))
+}
+
+/// The cross product of two directions: positive where `e` is left of `d`, negative where it is right of it, and 0
+/// where they are in line.
+///
+/// Cost: two multiplications.
+pub fn cross(d: Point, e: Point) -> i128
+    requires d_in { IsDirection d }
+    requires e_in { IsDirection e }
+    ensures value { result ≡ cross_of d e }
+    ensures within { IsWithin (pos 320000000000) result }
+{
+    i128::from(minus(product(d.x, e.y), product(d.y, e.x)))
+}
+
+/// The dot product of two directions: positive where less than a right angle is between them, negative where more is,
+/// and 0 where they stand square.
+///
+/// Cost: two multiplications.
+pub fn dot(d: Point, e: Point) -> i128
+    requires d_in { IsDirection d }
+    requires e_in { IsDirection e }
+    ensures value { result ≡ dot_of d e }
+    ensures within { IsWithin (pos 320000000000) result }
+{
+    i128::from(plus(product(d.x, e.x), product(d.y, e.y)))
+}
+
+/// Orientation of any three points changes its sign where two of them are exchanged, and stays where they are taken
+/// from another one on.
+///
+/// Proofs cite these laws from `proofs/Orientation.antt`.
+pub fn orient_laws()
+    ensures first_exchanged { (a b c : Point) → orient_of b a c ≡ neg_ℤ (orient_of a b c) }
+    ensures last_exchanged { (a b c : Point) → orient_of a c b ≡ neg_ℤ (orient_of a b c) }
+    ensures ends_exchanged { (a b c : Point) → orient_of c b a ≡ neg_ℤ (orient_of a b c) }
+    ensures cycled { (a b c : Point) → orient_of b c a ≡ orient_of a b c }
+{}

@@ -1,1 +1,72 @@
-//! See the crate's first page.
+//! Segments: what lies on one, and what two of them share.
+
+ghost use Rattle.std.specs.Prelude.{◌≡◌, pos};
+ghost use Rattle.std.specs.Ordering.{int_eq};
+ghost use Rattle.plane_spec.specs.Vectors.{InRange};
+ghost use Rattle.plane_spec.specs.Segments.{are_opposite, cross_properly, do_touch, is_between, is_on_segment};
+
+use crate::products::orient;
+use plane_spec::Point;
+
+fn is_zero(z: i128) -> bool
+    ensures { result ≡ int_eq z (pos 0) }
+{
+    z == 0
+}
+
+/// Whether `m` is from the smaller of `a` and `b` to the greater.
+fn between(m: i64, a: i64, b: i64) -> bool
+    ensures { result ≡ is_between m a b }
+{
+    (a <= m && m <= b) || (b <= m && m <= a)
+}
+
+/// Whether one is positive and the other negative.
+fn opposite(s: i128, t: i128) -> bool
+    ensures { result ≡ are_opposite s t }
+{
+    (s < 0 && 0 < t) || (0 < s && t < 0)
+}
+
+/// Whether `x` lies on the closed segment from `a` to `b`, which may be one point.
+///
+/// Cost: one orientation.
+pub fn on_segment(x: Point, a: Point, b: Point) -> bool
+    requires x_in { InRange x }
+    requires a_in { InRange a }
+    requires b_in { InRange b }
+    ensures { result ≡ is_on_segment x a b }
+{
+    is_zero(orient(a, b, x)) && between(x.x, a.x, b.x) && between(x.y, a.y, b.y)
+}
+
+/// Whether the segments `ab` and `cd` cross properly: the ends of each lie strictly on different sides of the other.
+///
+/// Cost: four orientations.
+pub fn crosses(a: Point, b: Point, c: Point, d: Point) -> bool
+    requires a_in { InRange a }
+    requires b_in { InRange b }
+    requires c_in { InRange c }
+    requires d_in { InRange d }
+    ensures { result ≡ cross_properly a b c d }
+{
+    opposite(orient(a, b, c), orient(a, b, d)) && opposite(orient(c, d, a), orient(c, d, b))
+}
+
+/// Whether the closed segments `ab` and `cd` share a point: they cross properly, or an end of one lies on the other.
+///
+/// Cost: at most eight orientations.
+#[tactic(auto, unfolding(plane_spec::specs::Segments::do_touch))]
+pub fn touch(a: Point, b: Point, c: Point, d: Point) -> bool
+    requires a_in { InRange a }
+    requires b_in { InRange b }
+    requires c_in { InRange c }
+    requires d_in { InRange d }
+    ensures { result ≡ do_touch a b c d }
+{
+    crosses(a, b, c, d)
+        || on_segment(a, c, d)
+        || on_segment(b, c, d)
+        || on_segment(c, a, b)
+        || on_segment(d, a, b)
+}

@@ -1,3 +1,4 @@
 pub mod Ring
 pub mod Signs
 pub mod Divisors
+pub mod Tests

@@ -1,0 +1,7 @@
+pub mod Figures
+mod RefusalExamples
+mod SightExamples
+mod IsovistExamples
+mod GraphExamples
+mod RouteExamples
+mod Laws

@@ -6,3 +6,8 @@ pub mod Scene
 pub mod Sight
 pub mod Stops
 pub mod Grid
+pub mod Isovist
+pub mod Graphs
+pub mod Axial
+pub mod Dirty
+pub mod Routes

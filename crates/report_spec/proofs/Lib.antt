@@ -1,2 +1,5 @@
 mod PlanExamples
 mod ScriptExamples
+mod TableExamples
+mod OutputExamples
+mod Laws

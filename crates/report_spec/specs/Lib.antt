@@ -1,3 +1,10 @@
 pub mod Shapes
 pub mod PlanText
 pub mod ScriptText
+pub mod Records
+pub mod Tables
+pub mod Replies
+pub mod Trial
+pub mod Output
+pub mod PlanFile
+pub mod Messages

@@ -9,7 +9,8 @@
 //! | [`Form`] | how records are printed: as text or as csv |
 //! | [`Reason`] | why a line of a script is refused |
 //!
-//! The definitions stand in `specs/`, in the order in which they are read: `Shapes`, `PlanText`, `ScriptText`.
+//! The definitions stand in `specs/`, in the order in which they are read: `Shapes`, `PlanText`, `ScriptText`, `Records`,
+//! `Tables`, `Replies`, `Trial`, `Output`, `PlanFile`, `Messages`.
 #![tactic(auto)]
 
 mod readings;

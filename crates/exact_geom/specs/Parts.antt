@@ -1,0 +1,19 @@
+-- The parts of fractions: how large they are, and when they are the same.
+use Rattle.std.specs.Prelude.{ℤ, Bool}
+use Rattle.std.specs.Ordering.{int_eq, eq_of_both, on}
+use Rattle.plane_spec.specs.Vectors.{IsWithin}
+use Rattle.plane_spec.specs.Fractions.{Fraction, Place}
+
+-- numerator and denominator are from -most to most
+pub record HasPartsWithin (most : ℤ) (f : Fraction) : Type 0 where
+  pub num : IsWithin most f.num
+  pub den : IsWithin most f.den
+
+-- so are those of both coordinates
+pub record HasCoordinatesWithin (most : ℤ) (p : Place) : Type 0 where
+  pub x : HasPartsWithin most p.x
+  pub y : HasPartsWithin most p.y
+
+-- one numerator and one denominator
+abbrev pub same_parts : Fraction → Fraction → Bool
+same_parts = eq_of_both (on (λ f. f.num) int_eq) (on (λ f. f.den) int_eq)

@@ -1,0 +1,8 @@
+pub mod Causes
+pub mod Limits
+pub mod Obstacles
+pub mod Screens
+pub mod Routes
+pub mod Grids
+pub mod Outers
+pub mod Items

@@ -1,0 +1,55 @@
+-- A grid.
+use Rattle.std.specs.Prelude.{◌≡◌, Bool, true, false, ◌&&◌, Option, Some, None, is_none}
+use Rattle.std.proofs.Common.{refl}
+use Rattle.std.proofs.Math.Bool.{and_assoc, and_comm, not-not, and-true}
+use Rattle.plan_spec.specs.declared.kinds.GridSpec.{GridSpec}
+use Rattle.plan_spec.specs.declared.kinds.Item.TheVariants.{Grid}
+use Rattle.plan_spec.specs.Plan.{Plan, with_grid, with_item, has_outer}
+use Rattle.plan_spec.specs.Accepted.{is_polygon, is_grid_in_range, is_grid_small, is_grid_sound, do_obstacles_stand, do_screens_stand, do_routes_stand, is_within_limits, is_sound}
+use Rattle.plan_spec.specs.Refusals.{why_not_grid}
+use Rattle.plan_laws.proofs.Tests.{and_left_comm, not_or}
+use Rattle.plan_laws.proofs.Adding.Causes.{none_after_test, outer_test_drops}
+
+-- the grid passes each test for which it might be refused
+pub fits_as_grid : (p : Plan) (g : GridSpec)
+    → is_none (why_not_grid p g) ≡ (has_outer p && (is_none p.grid && (is_grid_in_range g && is_grid_small g)))
+unfolding why_not_grid
+fits_as_grid p g =
+    simp (none_after_test, not_or, not-not, and_assoc, and-true, and_left_comm)
+
+-- nothing else is compared with the grid
+pub obstacles_with_grid : (p : Plan) (grid : Option GridSpec) → do_obstacles_stand (with_grid p grid) ≡ do_obstacles_stand p
+unfolding do_obstacles_stand
+obstacles_with_grid p grid = refl
+
+pub screens_with_grid : (p : Plan) (grid : Option GridSpec) → do_screens_stand (with_grid p grid) ≡ do_screens_stand p
+unfolding do_screens_stand
+screens_with_grid p grid = refl
+
+pub routes_with_grid : (p : Plan) (grid : Option GridSpec) → do_routes_stand (with_grid p grid) ≡ do_routes_stand p
+unfolding do_routes_stand
+routes_with_grid p grid = refl
+
+pub limits_with_grid : (p : Plan) (grid : Option GridSpec) → is_within_limits (with_grid p grid) ≡ is_within_limits p
+unfolding is_within_limits
+limits_with_grid p grid = refl
+
+new_tests_last : (a i m r : Bool) → ((a && (i && m)) && r) ≡ (((a && true) && r) && (i && m))
+new_tests_last a i m r = simp (and_assoc, and_left_comm, and_comm)
+
+by_grid : (grid : Option GridSpec) (a r i m : Bool)
+    → (is_none grid && ((a && (i && m)) && r)) ≡ (((a && is_grid_sound grid) && r) && (is_none grid && (i && m)))
+by_grid None a r i m = new_tests_last a i m r
+by_grid (Some g) a r i m = refused ((a && is_grid_sound (Some g)) && r)
+  where
+    refused : (b : Bool) → false ≡ (b && false)
+    refused true = refl
+    refused false = refl
+
+-- a plan without a grid is sound with one where the plan is and the grid isn't refused
+pub sound_with_grid : (p : Plan) (g : GridSpec)
+    → (is_none p.grid && is_sound (with_item p (Grid g))) ≡ (is_sound p && is_none (why_not_grid p g))
+unfolding is_sound with_item
+sound_with_grid p g =
+    rw (fits_as_grid p g, outer_test_drops, obstacles_with_grid p (Some g), screens_with_grid p (Some g), routes_with_grid p (Some g), limits_with_grid p (Some g))
+    (by_grid p.grid (is_polygon p.outer) ((do_obstacles_stand p && do_screens_stand p) && (do_routes_stand p && is_within_limits p)) (is_grid_in_range g) (is_grid_small g))

@@ -1,0 +1,77 @@
+-- One more screen.
+use Rattle.std.specs.Prelude.{◌≡◌, ℕ, ◌+◌, nat_le, nat_lt, Bool, not, ◌&&◌, List, [], ◌∷◌, ◌++◌, length, is_none}
+use Rattle.std.specs.List.{list_all, list_any}
+use Rattle.std.specs.Str.{bytes_eq}
+use Rattle.std.proofs.Common.{refl}
+use Rattle.std.proofs.Math.Bool.{and_assoc, not-not, and-true}
+use Rattle.plane_spec.specs.declared.Point.{Point}
+use Rattle.plane_spec.specs.Segments.{do_touch}
+use Rattle.plan_spec.specs.declared.kinds.Screen.{Screen}
+use Rattle.plan_spec.specs.declared.kinds.Item.TheVariants.{Screen as ScreenItem}
+use Rattle.plan_spec.specs.Plan.{Plan, screen, with_screens, with_item, has_outer, corner_count, is_screen_named}
+use Rattle.plan_spec.specs.Accepted.{is_line, line_lies_within, line_meets_polygon, screens_apart, do_obstacles_stand, do_screens_stand, do_routes_stand, is_sound}
+use Rattle.plan_spec.specs.Refusals.{why_not_screen}
+use Rattle.plan_laws.proofs.Tests.{and_left_comm}
+use Rattle.plan_laws.proofs.Lists.{list_all_push, list_all_and, list_all_not}
+use Rattle.plan_laws.proofs.Pairs.{each_two_push}
+use Rattle.plan_laws.proofs.Adding.Causes.{none_after_test, none_after_obstacles, none_after_screens, outer_test_drops}
+use Rattle.plan_laws.proofs.Adding.Limits.{limits_with_screen}
+
+-- each screen stands apart from a new one where it touches none of them and has a name of its own
+apart_from_each : (screens : List Screen) (name : List ℕ) (from to : Point)
+    → list_all (λ s. screens_apart s (screen name from to)) screens
+    ≡ (not (list_any (λ s. do_touch s.from s.to from to) screens) && not (list_any (is_screen_named name) screens))
+apart_from_each screens name from to =
+    simp (list_all_and (λ s. not (do_touch s.from s.to from to)) (λ s. not (bytes_eq s.name name)) screens, list_all_not (λ s. do_touch s.from s.to from to) screens, list_all_not (is_screen_named name) screens)
+
+screen_tests_last : (l l' c c' e m n : Bool) → ((l && l') && ((c && c') && (e && (m && n)))) ≡ ((l && (c && e)) && (l' && (c' && (m && n))))
+screen_tests_last l l' c c' e m n = simp (and_assoc, and_left_comm)
+
+pub screens_with_screen : (p : Plan) (name : List ℕ) (from to : Point)
+    → do_screens_stand (with_screens p (p.screens ++ screen name from to ∷ []))
+    ≡ (do_screens_stand p && ((is_line from to && line_lies_within p.outer from to)
+    && (not (list_any (λ o. line_meets_polygon from to o.points) p.obstacles)
+    && (not (list_any (λ s. do_touch s.from s.to from to) p.screens) && not (list_any (is_screen_named name) p.screens)))))
+unfolding do_screens_stand
+screens_with_screen p name from to =
+    rw (
+      list_all_push (λ s. is_line s.from s.to && line_lies_within p.outer s.from s.to) p.screens (screen name from to),
+      list_all_push (λ s. not (list_any (λ o. line_meets_polygon s.from s.to o.points) p.obstacles)) p.screens (screen name from to),
+      each_two_push screens_apart p.screens (screen name from to),
+      apart_from_each p.screens name from to,
+      screen_tests_last,
+    )
+
+-- the obstacles and the routes aren't compared with screens
+pub obstacles_with_screens : (p : Plan) (name : List ℕ) (from to : Point)
+    → do_obstacles_stand (with_screens p (p.screens ++ screen name from to ∷ [])) ≡ do_obstacles_stand p
+unfolding do_obstacles_stand
+obstacles_with_screens p name from to = refl
+
+pub routes_with_screens : (p : Plan) (name : List ℕ) (from to : Point)
+    → do_routes_stand (with_screens p (p.screens ++ screen name from to ∷ [])) ≡ do_routes_stand p
+unfolding do_routes_stand
+routes_with_screens p name from to = refl
+
+-- the new screen passes each test for which it might be refused
+pub fits_as_screen : (p : Plan) (name : List ℕ) (from to : Point)
+    → is_none (why_not_screen p name from to)
+    ≡ (has_outer p && (is_line from to && (line_lies_within p.outer from to
+    && (not (list_any (λ o. line_meets_polygon from to o.points) p.obstacles) && (not (list_any (λ s. do_touch s.from s.to from to) p.screens)
+    && (not (list_any (is_screen_named name) p.screens)
+    && (not (nat_le 256 (length p.screens)) && not (nat_lt 1024 (corner_count p + 2)))))))))
+unfolding why_not_screen
+fits_as_screen p name from to =
+    simp (none_after_test, none_after_obstacles, none_after_screens, not-not, and_assoc, and-true)
+
+new_tests_last : (a o s r w l i m t n f c : Bool)
+    → (a && ((o && (s && ((l && i) && (m && (t && n))))) && (r && (w && (f && c)))))
+    ≡ ((a && ((o && s) && (r && w))) && (l && (i && (m && (t && (n && (f && c)))))))
+new_tests_last a o s r w l i m t n f c = simp (and_assoc, and_left_comm)
+
+-- a plan with one more screen is sound where the plan is and the screen isn't refused
+pub sound_with_screen : (p : Plan) (name : List ℕ) (from to : Point)
+    → is_sound (with_item p (ScreenItem name from to)) ≡ (is_sound p && is_none (why_not_screen p name from to))
+unfolding is_sound with_item
+sound_with_screen p name from to =
+    rw (fits_as_screen p name from to, outer_test_drops, obstacles_with_screens p name from to, screens_with_screen p name from to, routes_with_screens p name from to, limits_with_screen p name from to, new_tests_last)

@@ -1,0 +1,13 @@
+pub mod Tests
+pub mod Lists
+pub mod Pairs
+pub mod Adding
+pub mod Checking
+pub mod Parts
+pub mod Ranges
+pub mod Grids
+pub mod Shifts
+pub mod Meeting
+pub mod Names
+pub mod Edits
+pub mod Again

@@ -1,0 +1,42 @@
+-- What the numbers of a plan are within, as premises of what is computed with them.
+use Rattle.std.specs.Prelude.{◌≤◌, ◌≡◌, List, length, ℤ, pos, ◌+ℤ◌, ◌-ℤ◌, ◌*ℤ◌, ◌≤ℤ◌, false}
+use Rattle.std.specs.List.{All}
+use Rattle.plane_spec.specs.declared.Point.{Point}
+use Rattle.plane_spec.specs.Vectors.{IsWithin, InRange, same_point}
+use Rattle.plan_spec.specs.declared.kinds.GridSpec.{GridSpec}
+use Rattle.plan_spec.specs.Plan.{Plan, corner_count}
+
+-- at least three points and at most 1024, all in range
+pub record IsPolygonInRange (points : List Point) : Type 0 where
+  pub in_range : All InRange points
+  pub at_least : 3 ≤ length points
+  pub at_most : length points ≤ 1024
+
+-- two different ends, both in range
+pub record IsLineInRange (from to : Point) : Type 0 where
+  pub from_in : InRange from
+  pub to_in : InRange to
+  pub apart : same_point from to ≡ false
+
+-- z is from low to high
+pub record IsFromTo (low high z : ℤ) : Type 0 where
+  pub from : low ≤ℤ z
+  pub to : z ≤ℤ high
+
+-- a step of 1 to 999999999, 1 to 4096 columns and rows, at most 4096 points, the first and the last column and row in range
+pub record IsGridInRange (g : GridSpec) : Type 0 where
+  pub step : IsFromTo (pos 1) (pos 999999999) g.step
+  pub cols : IsFromTo (pos 1) (pos 4096) g.cols
+  pub rows : IsFromTo (pos 1) (pos 4096) g.rows
+  pub count : (g.cols *ℤ g.rows) ≤ℤ pos 4096
+  pub first_col : IsWithin (pos 100000) g.x0
+  pub last_col : IsWithin (pos 100000) (g.x0 +ℤ g.step *ℤ (g.cols -ℤ pos 1))
+  pub first_row : IsWithin (pos 100000) g.y0
+  pub last_row : IsWithin (pos 100000) (g.y0 +ℤ g.step *ℤ (g.rows -ℤ pos 1))
+
+-- at most 256 obstacles, screens and routes, and 1024 corners
+pub record IsWithinLimits (p : Plan) : Type 0 where
+  pub obstacles : length p.obstacles ≤ 256
+  pub screens : length p.screens ≤ 256
+  pub routes : length p.routes ≤ 256
+  pub corners : corner_count p ≤ 1024

@@ -1,0 +1,77 @@
+//! Laws of plans: what follows from the definitions of plans, their acceptance, refusals and edits, for every plan.
+//!
+//! A law is a function without parameters and with an empty body, whose contract states it.
+//!
+//! | law | what it says |
+//! |---|---|
+//! | [`adding_an_item`] | an item is refused exactly where the plan with it would not be sound |
+//! | [`checking_items`] | adding items one after the other accepts what the condition on the whole list accepts |
+//! | [`the_ranges_of_a_sound_plan`] | its points are in range, and no limit is passed |
+//! | [`editing_a_sound_plan`] | an edit is refused exactly where it names nothing or the plan after it would not be sound |
+//! | [`the_items_of_a_plan`] | the items of a sound plan are accepted and make that plan again |
+//!
+//! Proofs of code cite the laws by the lemmas in `proofs/`, which state them kind by kind.
+#![tactic(auto)]
+
+ghost use Rattle.std.specs.Prelude.{◌≡◌, ◌≤◌, ◌*◌, ◌&&◌, IfSome, List, None, Ok, Some, is_none, is_ok, length, true, unsigned_abs};
+ghost use Rattle.std.specs.List.{All};
+ghost use Rattle.plane_spec.specs.declared.Point.{Point};
+ghost use Rattle.plane_spec.specs.Vectors.{InRange};
+ghost use Rattle.plan_spec.specs.declared.changes.Edit.{Edit};
+ghost use Rattle.plan_spec.specs.declared.kinds.GridSpec.{GridSpec};
+ghost use Rattle.plan_spec.specs.declared.kinds.Item.{Item};
+ghost use Rattle.plan_spec.specs.declared.kinds.Item.TheVariants.{Outer};
+ghost use Rattle.plan_spec.specs.Plan.{Plan, empty_plan, has_outer, items_of, with_item, with_items};
+ghost use Rattle.plan_spec.specs.Accepted.{is_accepted, is_sound};
+ghost use Rattle.plan_spec.specs.Refusals.{checked, why_not_item};
+ghost use Rattle.plan_spec.specs.Edits.{edited, why_not_edit};
+ghost use Rattle.plan_spec.specs.Grid.{grid_points};
+ghost use Rattle.plan_laws.specs.Named.{is_there};
+ghost use Rattle.plan_laws.specs.Order.{may_follow};
+ghost use Rattle.plan_laws.specs.Ranges.{IsGridInRange, IsLineInRange, IsPolygonInRange, IsWithinLimits};
+
+/// An item may follow and leaves a sound plan exactly where the plan is sound and nothing refuses the item. The outer
+/// polygon by itself is a sound plan exactly where nothing refuses it on the empty plan.
+pub fn adding_an_item()
+    ensures item { (p : Plan) (i : Item) → (may_follow p i && is_sound (with_item p i)) ≡ (is_sound p && is_none (why_not_item p i)) }
+    ensures outer { (points : List Point) → is_sound (with_item empty_plan (Outer points)) ≡ is_none (why_not_item empty_plan (Outer points)) }
+{}
+
+/// Items that are added one after the other are accepted exactly where the whole list is accepted, and the plan that
+/// they make is sound.
+pub fn checking_items()
+    ensures accepted { (items : List Item) → is_accepted items ≡ is_ok (checked items) }
+    ensures plan { (items : List Item) (p : Plan) → checked items ≡ Ok p → p ≡ with_items empty_plan items }
+    ensures sound { (items : List Item) (p : Plan) → checked items ≡ Ok p → is_sound p ≡ true }
+{}
+
+/// A sound plan has an outer polygon. The points of its polygons, the ends of its screens and routes and the points of
+/// its grid are in range, and no limit is passed. A grid has as many points as its columns times its rows, and a sound
+/// plan's at most 4096.
+pub fn the_ranges_of_a_sound_plan()
+    ensures begun { (p : Plan) → is_sound p ≡ true → has_outer p ≡ true }
+    ensures outer { (p : Plan) → is_sound p ≡ true → IsPolygonInRange p.outer }
+    ensures obstacles { (p : Plan) → is_sound p ≡ true → All (λ o. IsPolygonInRange o.points) p.obstacles }
+    ensures screens { (p : Plan) → is_sound p ≡ true → All (λ s. IsLineInRange s.from s.to) p.screens }
+    ensures routes { (p : Plan) → is_sound p ≡ true → All (λ r. IsLineInRange r.from r.to) p.routes }
+    ensures limits { (p : Plan) → is_sound p ≡ true → IsWithinLimits p }
+    ensures grid { (p : Plan) → is_sound p ≡ true → IfSome p.grid IsGridInRange }
+    ensures grid_points_in_range { (p : Plan) → is_sound p ≡ true → All InRange (grid_points p.grid) }
+    ensures grid_points_few { (p : Plan) → is_sound p ≡ true → length (grid_points p.grid) ≤ 4096 }
+    ensures grid_points_count { (g : GridSpec) → length (grid_points (Some g)) ≡ unsigned_abs g.cols * unsigned_abs g.rows }
+{}
+
+/// An edit of a sound plan is refused exactly where what it removes or moves isn't there, or the plan after it would not
+/// be sound. So an edit that isn't refused leaves a sound plan.
+pub fn editing_a_sound_plan()
+    ensures refused { (p : Plan) (e : Edit) → is_sound p ≡ true → is_none (why_not_edit p e) ≡ (is_there p e && is_sound (edited p e)) }
+    ensures sound { (p : Plan) (e : Edit) → is_sound p ≡ true → why_not_edit p e ≡ None → is_sound (edited p e) ≡ true }
+{}
+
+/// The items of any plan make that plan. They are accepted exactly where the plan is sound, and then checking them gives
+/// the plan again.
+pub fn the_items_of_a_plan()
+    ensures make { (p : Plan) → with_items empty_plan (items_of p) ≡ p }
+    ensures accepted { (p : Plan) → is_accepted (items_of p) ≡ is_sound p }
+    ensures again { (p : Plan) → is_sound p ≡ true → checked (items_of p) ≡ Ok p }
+{}

@@ -1,0 +1,51 @@
+-- Depths and measures of small graphs, and what an edit leaves clean.
+use Rattle.std.specs.Prelude.{◌≡◌, refl, [], ◌∷◌, Some, None, pos, true, false}
+use Rattle.plane_spec.specs.Fractions.{fraction, whole, reduced, common_divisor}
+use Rattle.plane_spec.specs.Boxes.{is_left_of, does_meet_box, with_points}
+use Rattle.plan_spec.specs.declared.changes.Edit.TheVariants.{Add}
+use Rattle.plan_spec.specs.Graphs.{Graph, graph_of_edges, depth_of, depths_of, measures_of}
+use Rattle.plan_spec.specs.Grid.{grid_points}
+use Rattle.plan_spec.specs.Edits.{changed_boxes}
+use Rattle.plan_spec.specs.Dirty.{is_dirty_pair, is_dirty_row}
+use Rattle.plan_spec.proofs.Figures.{at, box, room, grid}
+
+-- all pairs of four nodes but 0 and 3
+abbrev square : Graph
+square = graph_of_edges 4 ((0, 1) ∷ (0, 2) ∷ (1, 2) ∷ (1, 3) ∷ (2, 3) ∷ [])
+
+-- two nodes that are joined, and one apart
+abbrev parted : Graph
+parted = graph_of_edges 3 ((0, 1) ∷ [])
+
+the_node_across_is_two_edges_away : depths_of square 0 ≡ Some 0 ∷ Some 1 ∷ Some 1 ∷ Some 2 ∷ []
+unfolding depth_of
+the_node_across_is_two_edges_away = refl
+
+a_node_apart_has_no_depth : depths_of parted 0 ≡ Some 0 ∷ Some 1 ∷ None ∷ []
+unfolding depth_of
+a_node_apart_has_no_depth = refl
+
+mean_depth_and_asymmetry_count_the_nodes_reached :
+    measures_of square 0 ≡ record { connectivity = 2; reached = 4; total = 4; mean = Some (fraction (pos 4) (pos 3)); asymmetry = Some (fraction (pos 1) (pos 3)) }
+unfolding measures_of depth_of reduced common_divisor
+mean_depth_and_asymmetry_count_the_nodes_reached = refl
+
+two_nodes_have_a_mean_depth_and_no_asymmetry : measures_of parted 0 ≡ record { connectivity = 1; reached = 2; total = 1; mean = Some (whole (pos 1)); asymmetry = None }
+unfolding measures_of depth_of reduced common_divisor
+two_nodes_have_a_mean_depth_and_no_asymmetry = refl
+
+a_lone_node_reaches_itself : measures_of parted 2 ≡ record { connectivity = 0; reached = 1; total = 0; mean = None; asymmetry = None }
+unfolding measures_of depth_of reduced common_divisor
+a_lone_node_reaches_itself = refl
+
+a_box_in_the_middle_makes_a_pair_across_dirty : is_dirty_pair (changed_boxes room (Add [] (box 4 4 6 6))) (at 0 0) (at 10 10) ≡ true
+unfolding is_dirty_pair changed_boxes with_points does_meet_box is_left_of
+a_box_in_the_middle_makes_a_pair_across_dirty = refl
+
+a_box_in_the_middle_leaves_the_last_row_clean : is_dirty_row (changed_boxes room (Add [] (box 4 4 6 6))) (grid_points (Some (grid 5 3 3))) 5 ≡ false
+unfolding is_dirty_pair changed_boxes with_points does_meet_box is_left_of grid_points
+a_box_in_the_middle_leaves_the_last_row_clean = refl
+
+a_box_in_the_middle_makes_the_row_of_its_centre_dirty : is_dirty_row (changed_boxes room (Add [] (box 4 4 6 6))) (grid_points (Some (grid 5 3 3))) 4 ≡ true
+unfolding is_dirty_pair changed_boxes with_points does_meet_box is_left_of grid_points
+a_box_in_the_middle_makes_the_row_of_its_centre_dirty = refl

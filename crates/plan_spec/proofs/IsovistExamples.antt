@@ -1,0 +1,64 @@
+-- An isovist and axial lines.
+use Rattle.std.specs.Prelude.{◌≡◌, refl, ℕ, [], ◌∷◌, Some, None, pos, negsuc, true, false}
+use Rattle.plane_spec.specs.Vectors.{point, turns_before}
+use Rattle.plane_spec.specs.Segments.{is_on_segment, cross_properly}
+use Rattle.plane_spec.specs.Polygons.{edges_to, passes_right, is_inside, is_counterclockwise}
+use Rattle.plane_spec.specs.Cones.{is_in_cone}
+use Rattle.plane_spec.specs.Fractions.{Place, whole, common_divisor, reduced, along, at_point}
+use Rattle.plan_spec.specs.Scene.{walls_round, corners_round, scene_of}
+use Rattle.plan_spec.specs.Sight.{leaves_wall, corner_stops, is_blocked, are_in_sight, is_open}
+use Rattle.plan_spec.specs.Stops.{line_hit, corner_hit, start_hit, stop_of, near_wall_of}
+use Rattle.plan_spec.specs.Isovist.{corner_directions, wall_between, runs_of, triangle_of, isovist_in, isovist_of}
+use Rattle.plan_spec.specs.Axial.{AxialLine, axial_lines, do_places_touch, do_meet}
+use Rattle.plan_spec.proofs.Figures.{at, room, room_with, middle}
+
+-- ---- isovists
+
+-- the walls of the room stand clockwise, in the order of its points: below, right, above, left
+the_middle_of_the_room_sees_four_walls :
+    isovist_of room (at 5 5)
+    ≡ Some (record {
+      triangles =
+          record { from = at_point (at 10 10); to = at_point (at 0 10); area = whole (pos 50); wall = 2 }
+          ∷ record { from = at_point (at 0 10); to = at_point (at 0 0); area = whole (pos 50); wall = 3 }
+          ∷ record { from = at_point (at 0 0); to = at_point (at 10 0); area = whole (pos 50); wall = 0 }
+          ∷ record { from = at_point (at 10 0); to = at_point (at 10 10); area = whole (pos 50); wall = 1 }
+          ∷ [];
+      floor = pos 200;
+      ceil = pos 200;
+    })
+unfolding isovist_in corner_directions wall_between runs_of triangle_of turns_before is_open is_inside passes_right near_wall_of stop_of line_hit corner_hit start_hit is_in_cone walls_round corners_round is_counterclockwise edges_to is_on_segment along reduced common_divisor
+the_middle_of_the_room_sees_four_walls = refl
+
+below_a_point_on_the_wall_nothing_is_seen : wall_between (scene_of room) (at 5 0) (point (negsuc 4) (pos 0)) (at 5 0) ≡ None
+unfolding wall_between near_wall_of stop_of line_hit corner_hit start_hit is_in_cone walls_round corners_round is_counterclockwise edges_to is_on_segment reduced common_divisor
+below_a_point_on_the_wall_nothing_is_seen = refl
+
+a_closed_point_has_no_isovist : isovist_of (room_with middle) (at 5 5) ≡ None
+unfolding is_open is_inside passes_right edges_to is_on_segment
+a_closed_point_has_no_isovist = refl
+
+-- ---- axial lines
+
+abbrev line : ℕ → ℕ → Place → Place → AxialLine
+line first second from to = record { first = first; second = second; from = from; to = to }
+
+an_empty_room_has_six_axial_lines :
+    axial_lines (scene_of room)
+    ≡ line 0 1 (at_point (at 0 0)) (at_point (at 10 0))
+    ∷ line 0 2 (at_point (at 0 0)) (at_point (at 10 10))
+    ∷ line 0 3 (at_point (at 0 0)) (at_point (at 0 10))
+    ∷ line 1 2 (at_point (at 10 0)) (at_point (at 10 10))
+    ∷ line 1 3 (at_point (at 10 0)) (at_point (at 0 10))
+    ∷ line 2 3 (at_point (at 10 10)) (at_point (at 0 10))
+    ∷ []
+unfolding axial_lines are_in_sight is_blocked leaves_wall corner_stops stop_of line_hit corner_hit start_hit is_in_cone walls_round corners_round is_counterclockwise edges_to is_on_segment cross_properly along reduced common_divisor
+an_empty_room_has_six_axial_lines = refl
+
+the_diagonals_of_a_room_meet : do_meet (line 0 2 (at_point (at 0 0)) (at_point (at 10 10))) (line 1 3 (at_point (at 10 0)) (at_point (at 0 10))) ≡ true
+unfolding do_places_touch
+the_diagonals_of_a_room_meet = refl
+
+opposite_walls_do_not_meet : do_meet (line 0 1 (at_point (at 0 0)) (at_point (at 10 0))) (line 2 3 (at_point (at 10 10)) (at_point (at 0 10))) ≡ false
+unfolding do_places_touch
+opposite_walls_do_not_meet = refl

@@ -1,0 +1,25 @@
+-- The plan that a file holds, or the line at which it is refused.
+use Rattle.std.specs.Prelude.{ℕ, List, Result, Ok, Err, get_or}
+use Rattle.plan_spec.specs.declared.refusals.Why.{Why}
+use Rattle.plan_spec.specs.Plan.{Plan}
+use Rattle.plan_spec.specs.Refusals.{checked}
+use Rattle.report_spec.specs.declared.replies.Reason.{Reason}
+use Rattle.report_spec.specs.declared.replies.Reason.TheVariants.{Text as TextReason, Edit as EditReason}
+use Rattle.report_spec.specs.PlanText.{PlanReading, read_plan_text, items_read, numbers_read}
+
+-- a plan, or the number of the line that is at fault and why it is
+abbrev pub PlanFound : Type 0
+PlanFound = Result Plan (ℕ × Reason)
+
+-- a refused item stands on its own line; where no outer polygon came, the line after the last is at fault
+abbrev pub found_by : List ℕ → Result Plan (ℕ × Why) → PlanFound
+found_by numbers (Ok plan) = Ok plan
+found_by numbers (Err refused) = Err (get_or numbers refused.0 0, EditReason refused.1)
+
+abbrev pub plan_read : List ℕ → PlanReading → PlanFound
+plan_read bytes (Err fault) = Err (fault.0, TextReason fault.1)
+plan_read bytes (Ok items) = found_by (numbers_read bytes items) (checked (items_read items))
+
+-- the whole text is read first: the first line outside the grammar is told, and otherwise the first item that is refused
+unfoldable pub plan_in_file : List ℕ → PlanFound
+plan_in_file bytes = plan_read bytes (read_plan_text bytes)
