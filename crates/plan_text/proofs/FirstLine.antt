@@ -1,5 +1,5 @@
 -- The first line of bytes, and a line without its return.
-use Rattle.std.proofs.Common.{◌≡◌, ◌-◌, ℕ, ◌+◌, ◌<◌, ◌≤◌, Some, None, Bool, true, false, List, [], ◌∷◌, length, take, drop, ◌++◌, ◌≢◌, cond, get_or, eqb, Option, MatchOption, unwrap_or, Bor, refl, sym, ap, ◌∙◌, arith}
+use Rattle.std.proofs.Common.{◌≡◌, ℕ, ◌+◌, ◌<◌, Some, None, Bool, true, false, List, [], ◌∷◌, length, take, drop, ◌++◌, ◌≢◌, cond, eqb, Option, MatchOption, unwrap_or, Bor, refl, sym, ap, ◌∙◌, arith}
 use Rattle.std.specs.List.{slice_split, position}
 use Rattle.std.proofs.lemmas.List.Splits.{slice_split_first, slice_split_none, length-slice_split}
 use Rattle.text_spec.specs.Lines.{lines_of, without_empty_last, without_return, is_newline}

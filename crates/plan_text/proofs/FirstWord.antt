@@ -1,5 +1,5 @@
 -- The first word of bytes.
-use Rattle.std.proofs.Common.{◌≡◌, ◌-◌, ℕ, suc, ◌+◌, ◌<◌, ◌≤◌, Some, None, nat_lt, Bool, true, false, cond, not, List, [], ◌∷◌, length, take, drop, get_or, filter, refl, sym, ap, ◌∙◌, arith}
+use Rattle.std.proofs.Common.{◌≡◌, ℕ, ◌+◌, ◌<◌, ◌≤◌, Some, None, nat_lt, Bool, true, false, not, List, [], ◌∷◌, length, take, drop, get_or, filter, refl, sym, ap, ◌∙◌, arith}
 use Rattle.std.specs.List.{slice_split, position_or_len, position}
 use Rattle.std.proofs.lemmas.List.{length-drop, length-take-le, drop_all, take_all, drop_more}
 use Rattle.std.proofs.lemmas.List.Quantifiers.{position-Some}

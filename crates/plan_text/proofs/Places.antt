@@ -1,5 +1,5 @@
 -- The place that `position` finds.
-use Rattle.std.proofs.Common.{◌≡◌, ℕ, ◌+◌, ◌<◌, ◌≤◌, Option, Some, None, nat_lt, suc, Bool, true, false, cond, not, List, [], ◌∷◌, length, All, refl, arith}
+use Rattle.std.proofs.Common.{◌≡◌, ℕ, ◌+◌, ◌<◌, ◌≤◌, Some, None, nat_lt, suc, Bool, true, false, cond, not, List, [], ◌∷◌, length, All, refl, arith}
 use Rattle.std.specs.List.{position_or_len, position}
 use Rattle.std.proofs.lemmas.List.Elements.{All-nil, All-cons}
 

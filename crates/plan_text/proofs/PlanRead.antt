@@ -1,10 +1,10 @@
 -- A plan, read line by line.
-use Rattle.std.proofs.Common.{◌≡◌, ℕ, ◌+◌, ◌<◌, ◌≤◌, List, [], ◌∷◌, ◌++◌, length, map, Bool, false, Option, Some, None, is_none, option_map, Result, Ok, Err, refl, sym, ap, ◌∙◌, append_assoc, arith}
+use Rattle.std.proofs.Common.{◌≡◌, ℕ, ◌+◌, ◌<◌, ◌≤◌, List, [], ◌∷◌, ◌++◌, length, map, false, Option, Some, None, is_none, option_map, Ok, Err, refl, sym, ap, ◌∙◌, append_assoc, arith}
 use Rattle.std.proofs.lemmas.List.{append-nil, map-append}
 use Rattle.text_spec.specs.Lines.{lines_of}
 use Rattle.plan_spec.specs.declared.kinds.Item.{Item}
 use Rattle.report_spec.specs.declared.readings.TextWhy.TheVariants.{Kind}
-use Rattle.report_spec.specs.PlanText.{Version, PlanLine, Blank, Header, OfItem, PlanReading, item_before, read_next, read_plan_line, read_plan_lines, read_plan_text, items_read, numbers_read}
+use Rattle.report_spec.specs.PlanText.{Version, PlanReading, item_before, read_next, read_plan_line, read_plan_lines, read_plan_text, items_read, numbers_read}
 use Rattle.plan_text.specs.declared.plan_lines.Version.{Version as CodeVersion}
 use Rattle.plan_text.specs.declared.plan_lines.PlanLine.{PlanLine as CodeLine}
 use Rattle.plan_text.specs.declared.plan_lines.PlanLine.TheVariants.{Blank as CodeBlank, Header as CodeHeader, Item as CodeItem}
@@ -12,7 +12,8 @@ use Rattle.plan_text.specs.declared.plans.Draft.{Draft}
 use Rattle.plan_text.specs.declared.faults.ReadLineFault.{ReadLineFault}
 use Rattle.plan_text.specs.declared.faults.ReadLineFault.TheVariants.{Bad, NoMemory}
 use Rattle.plan_text.specs.Kinds.{version_kind, line_kind}
-use Rattle.plan_text.specs.Readings.{Answers, ReadsPlan, fault_at}
+use Rattle.plan_text.specs.Answers.{Answers, fault_at}
+use Rattle.plan_text.specs.Readings.{ReadsPlan}
 use Rattle.plan_text.specs.Drafts.{with_line}
 
 -- what was read so far, before what is left

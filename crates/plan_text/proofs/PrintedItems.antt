@@ -1,5 +1,5 @@
 -- An item that is printed is read again.
-use Rattle.std.proofs.Common.{◌≡◌, ℕ, zero, suc, ◌+◌, ◌*◌, ◌%◌, ◌^◌, ◌<◌, ◌≤◌, nat_abs, Bool, true, false, cond, ◌&&◌, ◌==◌, nat_le, nat_lt, List, [], ◌∷◌, ◌++◌, length, map, All, Option, Some, None, Result, Ok, Err, ℤ, refl, ap, ◌∙◌, arith, IsTrue}
+use Rattle.std.proofs.Common.{◌≡◌, ℕ, ◌*◌, ◌%◌, ◌^◌, ◌<◌, ◌≤◌, nat_abs, Bool, true, false, cond, ◌&&◌, ◌==◌, nat_le, nat_lt, List, [], ◌∷◌, ◌++◌, length, map, All, Some, Ok, ℤ, refl, ap, arith}
 use Rattle.std.specs.Fmt.{signed_decimal}
 use Rattle.std.specs.List.{list_all}
 use Rattle.std.proofs.lemmas.List.{length-map}
@@ -10,8 +10,8 @@ use Rattle.plane_spec.specs.declared.Point.{Point}
 use Rattle.plan_spec.specs.declared.kinds.GridSpec.{GridSpec}
 use Rattle.plan_spec.specs.declared.kinds.Item.{Item}
 use Rattle.plan_spec.specs.declared.kinds.Item.TheVariants.{Grid, Outer, Obstacle, Screen, Route}
-use Rattle.report_spec.specs.Shapes.{Count, Exactly, InPairs, Shape, Fields, is_count, read_fields, read_fields_by, field_words, name_words, points_of, numbers_of_points}
-use Rattle.report_spec.specs.PlanText.{Version, One, Two, PlanWord, GridWord, OuterWord, OuterboxWord, ObstacleWord, BoxWord, ScreenWord, RouteWord, keyword, has_screens, plan_word, shape_of, item_of, OfItem, read_plan_words, word_of_item, fields_of_item, item_words, is_screen, is_below, is_short_point, is_short_list, is_number_point, is_printable}
+use Rattle.report_spec.specs.Shapes.{Count, InPairs, Shape, Fields, is_count, read_fields, read_fields_by, field_words, name_words, points_of, numbers_of_points}
+use Rattle.report_spec.specs.PlanText.{Version, PlanWord, GridWord, OuterWord, OuterboxWord, ObstacleWord, BoxWord, ScreenWord, RouteWord, keyword, has_screens, plan_word, shape_of, item_of, OfItem, read_plan_words, word_of_item, fields_of_item, item_words, is_screen, is_below, is_short_point, is_short_list, is_number_point, is_printable}
 use Rattle.plan_text.specs.RoundTrip.{has_name}
 use Rattle.plan_text.proofs.PrintedNumbers.{IsNumber, numbers_of_printed}
 use Rattle.plan_text.proofs.PrintedWords.{IsInkWord, number_ink, name_ink}

@@ -1,10 +1,10 @@
 -- How long the printed text is.
-use Rattle.std.proofs.Common.{◌≡◌, ℕ, suc, ◌+◌, ◌*◌, ◌^◌, ◌<◌, ◌≤◌, nat_abs, Bool, true, false, if◌then◌else◌, codes, List, [], ◌∷◌, ◌++◌, length, map, flat_map, All, ℤ, pos, negsuc, refl, ap, ◌∙◌, arith}
+use Rattle.std.proofs.Common.{◌≡◌, ℕ, suc, ◌+◌, ◌*◌, ◌^◌, ◌<◌, ◌≤◌, nat_abs, Bool, true, false, if◌then◌else◌, codes, List, [], ◌∷◌, length, map, flat_map, All, ℤ, pos, negsuc, refl, arith}
 use Rattle.std.specs.Fmt.{signed_decimal}
 use Rattle.std.specs.List.{join_with_byte, sum_by, list_all, list_any}
 use Rattle.std.proofs.lemmas.Fmt.{length-decimal-le}
 use Rattle.std.proofs.lemmas.List.{length-append}
-use Rattle.std.proofs.lemmas.List.Elements.{All-head, All-tail, All-nil, All-cons, All-weaker}
+use Rattle.std.proofs.lemmas.List.Elements.{All-head, All-tail}
 use Rattle.std.proofs.lemmas.List.Sums.{sum_by-cons}
 use Rattle.plane_spec.specs.declared.Point.{Point}
 use Rattle.plan_spec.specs.declared.kinds.Item.{Item}
@@ -14,7 +14,7 @@ use Rattle.report_spec.specs.PlanText.{GridWord, OuterWord, ObstacleWord, Screen
 use Rattle.plan_text.specs.RoundTrip.{has_name, HaveNames}
 use Rattle.plan_text.proofs.PrintedNumbers.{IsNumber}
 use Rattle.plan_text.proofs.PrintedWords.{name_length}
-use Rattle.plan_text.proofs.PrintedItems.{both, IsShortNumber, IsShortList, Fits, fits, length_numbers, short_list}
+use Rattle.plan_text.proofs.PrintedItems.{both, IsShortList, fits, length_numbers, short_list}
 
 number_length : (digits : ℕ) (z : ℤ) → 0 < digits → digits ≤ 9 → nat_abs z < 10 ^ digits → nat_abs z < 10 ^ 9 → length (signed_decimal z) ≤ digits + 1
 number_length digits (pos n) some few small fits = omega (arith, length-decimal-le digits n some small (omega arith))

@@ -1,13 +1,12 @@
 -- A line that is printed has its words, and a text that is printed its lines.
-use Rattle.std.proofs.Common.{◌≡◌, ℕ, suc, ◌^◌, ◌<◌, ◌≤◌, nat_abs, Bool, true, false, ◌&&◌, ◌==◌, nat_le, nat_lt, List, [], ◌∷◌, ◌++◌, length, map, flat_map, filter, All, ℤ, pos, negsuc, refl, ap, ◌∙◌, append_assoc, arith, decimal}
+use Rattle.std.proofs.Common.{◌≡◌, ℕ, suc, ◌^◌, ◌<◌, ◌≤◌, Bool, true, false, ◌&&◌, ◌==◌, nat_le, List, [], ◌∷◌, ◌++◌, length, map, flat_map, filter, All, ℤ, pos, negsuc, refl, ap, ◌∙◌, append_assoc, arith, decimal}
 use Rattle.std.specs.List.{list_all, slice_split, join_with_byte}
 use Rattle.std.specs.Str.{all_ascii_digits}
-use Rattle.std.specs.Char.{is_ascii_digit}
 use Rattle.std.specs.Fmt.{signed_decimal}
 use Rattle.std.proofs.lemmas.Fmt.{digits_decimal, decimal_nonempty}
 use Rattle.std.proofs.lemmas.List.Elements.{All-head, All-tail, All-nil, All-cons, All-append, All-weaker}
 use Rattle.std.proofs.lemmas.List.Splits.{slice_split_none, slice_split_at, length-slice_split}
-use Rattle.text_spec.specs.Lines.{lines_of, without_empty_last, without_return, is_newline, is_long}
+use Rattle.text_spec.specs.Lines.{lines_of, without_empty_last, without_return, is_newline}
 use Rattle.text_spec.specs.Words.{words_of, is_space, is_some_bytes}
 use Rattle.text_spec.specs.Names.{is_name, is_allowed}
 use Rattle.report_spec.specs.PlanText.{ended_line}

@@ -5,7 +5,7 @@ use Rattle.text_spec.specs.Lines.{lines_of, is_long}
 use Rattle.text_spec.specs.Names.{is_name}
 use Rattle.plan_spec.specs.declared.kinds.Item.{Item}
 use Rattle.plan_spec.specs.declared.kinds.Item.TheVariants.{Grid, Outer, Obstacle, Screen, Route}
-use Rattle.report_spec.specs.PlanText.{ArePrintable, plan_text_of, read_plan_text}
+use Rattle.report_spec.specs.PlanText.{plan_text_of, read_plan_text}
 
 -- the item's name is a name; that of every item in code is, by its type
 abbrev pub has_name : Item → Bool

@@ -4,7 +4,7 @@ ghost use Rattle.std.specs.Prelude.{◌≡◌, ◌+◌, ◌<◌, [], Some, None,
 ghost use Rattle.text_spec.specs.Words.{words_of};
 ghost use Rattle.report_spec.specs.Shapes.{is_count, number_before, numbers_of, fields_with, read_fields_by, point_from};
 ghost use Rattle.report_spec.specs.PlanText.{grid_of};
-ghost use Rattle.plan_text.specs.Counts.{count_of};
+ghost use Rattle.plan_text.specs.Kinds.{count_of};
 
 use crate::numbers::number;
 use crate::words::{count_words, next_word};

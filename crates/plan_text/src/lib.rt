@@ -35,3 +35,6 @@ pub use printing::{print_plan, prints_and_reads};
 pub use report_spec::{Line, LineNumbers, Query, TextWhy};
 pub use script_lines::read_line;
 pub use text_spec::{Name, NoMemory};
+
+#[cfg(test)]
+mod tests;

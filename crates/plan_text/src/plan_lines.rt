@@ -4,8 +4,8 @@ ghost use Rattle.std.specs.Prelude.{◌≡◌, ◌∷◌, option_map};
 ghost use Rattle.text_spec.specs.Words.{words_of};
 ghost use Rattle.report_spec.specs.Shapes.{read_fields};
 ghost use Rattle.report_spec.specs.PlanText.{ok_map, plan_word, has_screens, shape_of, item_of, version_of, read_plan_line};
-ghost use Rattle.plan_text.specs.Readings.{Answers};
-ghost use Rattle.plan_text.specs.Kinds.{version_kind, word_kind, found_line};
+ghost use Rattle.plan_text.specs.Answers.{Answers, found_line};
+ghost use Rattle.plan_text.specs.Kinds.{version_kind, word_kind};
 
 use crate::faults::ReadLineFault;
 use crate::polygons::box_points;

@@ -2,7 +2,8 @@
 
 ghost use Rattle.std.specs.Prelude.{◌≡◌, ◌≤◌, OnOk, length};
 ghost use Rattle.plan_text.specs.Drafts.{with_line};
-ghost use Rattle.plan_text.specs.Readings.{ReadsPlan, fault_at};
+ghost use Rattle.plan_text.specs.Answers.{fault_at};
+ghost use Rattle.plan_text.specs.Readings.{ReadsPlan};
 
 use crate::faults::{ReadLineFault, ReadPlanFault};
 use crate::plan_lines::{PlanLine, Version, read_plan_line};
@@ -52,7 +53,9 @@ fn fault_at(line: u32, fault: ReadLineFault) -> ReadPlanFault
     }
 }
 
-/// Reads the text of a plan. A line outside the grammar is told whatever stands on the lines after it.
+/// Reads the text of a plan of at most 1,048,576 bytes: its items, each with the number of its line. `Bad` names the first
+/// line that is outside the grammar, and the first cause that holds there; where no line is a header, the line after the
+/// last.
 ///
 /// Cost: one pass over the bytes, each looked at a constant number of times; memory for the items and their points alone.
 pub fn read_plan(alloc: Global, bytes: &[u8]) -> Result<PlanText, ReadPlanFault>

@@ -4,7 +4,7 @@ ghost use Rattle.std.specs.Prelude.{◌≡◌, ◌∷◌, [], true, length, is_s
 ghost use Rattle.text_spec.specs.Words.{words_of};
 ghost use Rattle.plane_spec.specs.Vectors.{point};
 ghost use Rattle.report_spec.specs.Shapes.{is_count, InPairs, numbers_of, points_of};
-ghost use Rattle.plan_text.specs.Readings.{Answers};
+ghost use Rattle.plan_text.specs.Answers.{Answers};
 
 use crate::faults::ReadLineFault;
 use crate::fields::next_point;

@@ -134,8 +134,11 @@ fn shown_table(words: &[u8]) -> Result<Line, TextWhy>
     Ok(Line::Query(query))
 }
 
-/// Reads a line of a script, without its newline and without a carriage return before it. Lines other than `add` and
-/// `addbox` take no memory.
+/// Reads a line of a script, given without its newline and without the carriage return before it. `Bad` has the first
+/// cause that holds. Memory is taken for the points of `add` and `addbox` alone: of any other line, and of any that is
+/// outside the grammar, want of memory is never answered.
+///
+/// Cost: one pass over the bytes, each looked at a constant number of times.
 #[tactic(auto, unfolding(report_spec::specs::ScriptText::read_script_line, text_spec::specs::Words::are_blank))]
 pub fn read_line(alloc: Global, bytes: &[u8]) -> Result<Line, ReadLineFault>
     ensures { ReadsLine (if is_long bytes.now then Err TextWhy.Long else read_script_line bytes.now) result }

@@ -5,7 +5,7 @@ ghost use Rattle.std.specs.Prelude.{◌≡◌, true, false};
 ghost use Rattle.text_spec.specs.Words.{words_of};
 ghost use Rattle.report_spec.specs.Shapes.{Exactly, InPairs, shape, read_fields, point_from, points_of};
 ghost use Rattle.report_spec.specs.PlanText.{ok_map, grid_of};
-ghost use Rattle.plan_text.specs.Readings.{Answers};
+ghost use Rattle.plan_text.specs.Answers.{Answers};
 
 use crate::faults::ReadLineFault;
 use crate::fields::{Numbers, grid_spec, name_and_numbers, numbers_alone, one_point, two_points};

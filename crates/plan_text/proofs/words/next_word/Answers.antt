@@ -1,4 +1,4 @@
-use Rattle.std.proofs.Common.{rules, ◌≡◌}
+use Rattle.std.proofs.Common.{rules}
 use Rattle.plan_text.proofs.FirstWord.{first_word, no_words}
 use Rattle.plan_text.proofs.words.next_word.Goals as goal
 
