@@ -2,6 +2,7 @@
 use Rattle.std.specs.Prelude.{◌≡◌, ℕ, ◌+◌, nat_le, nat_lt, Bool, true, false, not, cond, ◌&&◌, ◌||◌, List, [], ◌∷◌, length, Option, Some, None, is_some, if◌then◌else◌}
 use Rattle.std.specs.List.{list_all, list_any}
 use Rattle.std.proofs.Common.{refl, sym, ap, ◌∙◌}
+use Rattle.std.proofs.lemmas.Bool.{or_parts}
 use Rattle.plane_spec.specs.declared.Point.{Point}
 use Rattle.plane_spec.specs.Vectors.{is_in_range, same_point}
 use Rattle.plane_spec.specs.Polygons.{has_repeat, crosses_nowhere}
@@ -120,14 +121,14 @@ grid_by plan g r e = e ∙ sym (
 
 pub obstacle_by : (plan : Plan) (name : List ℕ) (points : List Point) (r : Option Why)
     → r ≡ first_cause (when (not (has_outer plan)) Order
-        ∷ why_not_polygon points None
-        ∷ when (not (lies_within plan.outer points)) Outside
-        ∷ first_obstacle (obstacles_met points plan.obstacles) None
-        ∷ first_screen (screens_met points plan.screens) None
-        ∷ when (list_any (is_obstacle_named name) plan.obstacles) NameTaken
-        ∷ when (nat_le 256 (length plan.obstacles)) (Full Obstacles)
-        ∷ when (nat_lt 1024 (corner_count plan + length points)) (Full Corners)
-        ∷ [])
+    ∷ why_not_polygon points None
+    ∷ when (not (lies_within plan.outer points)) Outside
+    ∷ first_obstacle (obstacles_met points plan.obstacles) None
+    ∷ first_screen (screens_met points plan.screens) None
+    ∷ when (list_any (is_obstacle_named name) plan.obstacles) NameTaken
+    ∷ when (nat_le 256 (length plan.obstacles)) (Full Obstacles)
+    ∷ when (nat_lt 1024 (corner_count plan + length points)) (Full Corners)
+    ∷ [])
     → r ≡ why_not_obstacle plan name points
 unfolding why_not_obstacle
 obstacle_by plan name points r e = e ∙ sym (
@@ -142,14 +143,14 @@ obstacle_by plan name points r e = e ∙ sym (
 
 pub screen_by : (plan : Plan) (name : List ℕ) (from to : Point) (r : Option Why)
     → r ≡ first_cause (when (not (has_outer plan)) Order
-        ∷ why_not_line from to None
-        ∷ when (not (line_lies_within plan.outer from to)) Outside
-        ∷ first_obstacle (obstacles_met_by_line from to plan.obstacles) None
-        ∷ first_screen (screens_met_by_line from to plan.screens) None
-        ∷ when (list_any (is_screen_named name) plan.screens) NameTaken
-        ∷ when (nat_le 256 (length plan.screens)) (Full Screens)
-        ∷ when (nat_lt 1024 (corner_count plan + 2)) (Full Corners)
-        ∷ [])
+    ∷ why_not_line from to None
+    ∷ when (not (line_lies_within plan.outer from to)) Outside
+    ∷ first_obstacle (obstacles_met_by_line from to plan.obstacles) None
+    ∷ first_screen (screens_met_by_line from to plan.screens) None
+    ∷ when (list_any (is_screen_named name) plan.screens) NameTaken
+    ∷ when (nat_le 256 (length plan.screens)) (Full Screens)
+    ∷ when (nat_lt 1024 (corner_count plan + 2)) (Full Corners)
+    ∷ [])
     → r ≡ why_not_screen plan name from to
 unfolding why_not_screen
 screen_by plan name from to r e = e ∙ sym (
@@ -164,11 +165,11 @@ screen_by plan name from to r e = e ∙ sym (
 
 pub route_by : (plan : Plan) (name : List ℕ) (from to : Point) (r : Option Why)
     → r ≡ first_cause (when (not (has_outer plan)) Order
-        ∷ why_not_line from to None
-        ∷ when (list_any (is_route_named name) plan.routes) NameTaken
-        ∷ when (nat_le 256 (length plan.routes)) (Full Routes)
-        ∷ first_route (routes_overlapped from to plan.routes)
-        ∷ [])
+    ∷ why_not_line from to None
+    ∷ when (list_any (is_route_named name) plan.routes) NameTaken
+    ∷ when (nat_le 256 (length plan.routes)) (Full Routes)
+    ∷ first_route (routes_overlapped from to plan.routes)
+    ∷ [])
     → r ≡ why_not_route plan name from to
 unfolding why_not_route
 route_by plan name from to r e = e ∙ sym (
@@ -177,3 +178,47 @@ route_by plan name from to r e = e ∙ sym (
     test_step (list_any (is_route_named name) plan.routes) NameTaken _ _ (
     test_step (nat_le 256 (length plan.routes)) (Full Routes) _ _ (
     last_cause (first_route (routes_overlapped from to plan.routes)))))))
+
+-- ---- where nothing is refused
+
+none_holds : (cause : Option Why) (causes : List (Option Why)) → first_cause (cause ∷ causes) ≡ None → (cause ≡ None) × (first_cause causes ≡ None)
+unfolding first_cause
+none_holds None causes e = (refl, e)
+none_holds (Some why) causes e = cc
+
+fails : (test : Bool) (why : Why) (causes : List (Option Why)) → first_cause (when test why ∷ causes) ≡ None → (test ≡ false) × (first_cause causes ≡ None)
+fails true why causes e = cc_of (none_holds (Some why) causes e).0
+  where
+    cc_of : Some why ≡ None → (true ≡ false) × (first_cause causes ≡ None)
+    cc_of e = cc
+fails false why causes e = (refl, (none_holds None causes e).1)
+
+pub first_outer : (plan : Plan) (points : List Point) → why_not_outer plan points ≡ None → has_outer plan ≡ false
+first_outer plan points e = (fails (has_outer plan) Order _ (outer_by plan points _ refl ∙ e)).0
+
+pub first_grid : (plan : Plan) (g : GridSpec) → why_not_grid plan g ≡ None → is_some plan.grid ≡ false
+first_grid plan g e = (or_parts (is_some plan.grid) (not (has_outer plan)) (fails (is_some plan.grid || not (has_outer plan)) Order _ (grid_by plan g _ refl ∙ e)).0).0
+
+pub new_obstacle : (plan : Plan) (name : List ℕ) (points : List Point) → why_not_obstacle plan name points ≡ None → list_any (is_obstacle_named name) plan.obstacles ≡ false
+new_obstacle plan name points e =
+    let begun = fails (not (has_outer plan)) Order _ (obstacle_by plan name points _ refl ∙ e) in
+    let polygon = none_holds (why_not_polygon points None) _ begun.1 in
+    let within = fails (not (lies_within plan.outer points)) Outside _ polygon.1 in
+    let obstacles = none_holds (first_obstacle (obstacles_met points plan.obstacles) None) _ within.1 in
+    let screens = none_holds (first_screen (screens_met points plan.screens) None) _ obstacles.1 in
+    (fails (list_any (is_obstacle_named name) plan.obstacles) NameTaken _ screens.1).0
+
+pub new_screen : (plan : Plan) (name : List ℕ) (from to : Point) → why_not_screen plan name from to ≡ None → list_any (is_screen_named name) plan.screens ≡ false
+new_screen plan name from to e =
+    let begun = fails (not (has_outer plan)) Order _ (screen_by plan name from to _ refl ∙ e) in
+    let line = none_holds (why_not_line from to None) _ begun.1 in
+    let within = fails (not (line_lies_within plan.outer from to)) Outside _ line.1 in
+    let obstacles = none_holds (first_obstacle (obstacles_met_by_line from to plan.obstacles) None) _ within.1 in
+    let screens = none_holds (first_screen (screens_met_by_line from to plan.screens) None) _ obstacles.1 in
+    (fails (list_any (is_screen_named name) plan.screens) NameTaken _ screens.1).0
+
+pub new_route : (plan : Plan) (name : List ℕ) (from to : Point) → why_not_route plan name from to ≡ None → list_any (is_route_named name) plan.routes ≡ false
+new_route plan name from to e =
+    let begun = fails (not (has_outer plan)) Order _ (route_by plan name from to _ refl ∙ e) in
+    let line = none_holds (why_not_line from to None) _ begun.1 in
+    (fails (list_any (is_route_named name) plan.routes) NameTaken _ line.1).0

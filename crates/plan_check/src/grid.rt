@@ -76,8 +76,7 @@ pub(crate) fn is_grid_in_range(grid: GridSpec) -> bool
     if !has_points(grid) {
         return false;
     }
-    is_row_in_range(grid.x0, grid.step, grid.cols)
-        && is_row_in_range(grid.y0, grid.step, grid.rows)
+    is_row_in_range(grid.x0, grid.step, grid.cols) && is_row_in_range(grid.y0, grid.step, grid.rows)
 }
 
 /// Whether there are at most 4096 points.

@@ -3,6 +3,7 @@
 //! | item | what it is |
 //! |---|---|
 //! | [`Plan`] | a plan that is accepted, and what can be read from one |
+//! | [`check`], [`CheckFault`] | the plan that items make, or the first item that is refused and why |
 //! | [`Item`], [`Items`], [`PlanData`], [`Points`] | a plan as it is given, item by item |
 //! | [`GridSpec`], [`Screen`], [`Route`] | the parts of a plan that aren't polygons |
 //! | [`Edit`], [`Changed`] | a change of a plan, and the boxes in which something changes |
@@ -10,13 +11,17 @@
 //! | [`Name`], [`NoMemory`] | a name; the answer for want of memory |
 #![tactic(auto)]
 
+mod checking;
+mod copies;
 mod draft;
 mod grid;
+mod listing;
 mod plan;
 mod polygons;
 mod refusals;
 mod sharing;
 
+pub use checking::{CheckFault, check};
 pub use plan::Plan;
 pub use plan_spec::{
     Changed, Edit, GridSpec, Item, Items, Limit, PlanData, Points, Route, Screen, Why,

@@ -20,8 +20,11 @@ use plane_spec::Point;
 use text_spec::Name;
 
 const MOST_OBSTACLES: usize = 256;
+
 const MOST_SCREENS: usize = 256;
+
 const MOST_ROUTES: usize = 256;
+
 const MOST_CORNERS: usize = 1024;
 
 // ---- by themselves

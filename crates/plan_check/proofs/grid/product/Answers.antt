@@ -18,5 +18,5 @@ returns-clause-within c =
     let fits_a : FitsSigned w128 a = search rules in
     let fits_b : FitsSigned w128 b = search rules in
     let fits : FitsSigned w128 (a *ℤ b) =
-        fits_signed_mul w128 a b (2 ^ 63) (2 ^ 63) (size_within (2 ^ 63) a a_in) (size_within (2 ^ 63) b b_in) (lit< tt) in
+    fits_signed_mul w128 a b (2 ^ 63) (2 ^ 63) (size_within (2 ^ 63) a a_in) (size_within (2 ^ 63) b b_in) (lit< tt) in
     simp to_z-of_z (product_within (2 ^ 63) (2 ^ 63) a b a_in b_in)

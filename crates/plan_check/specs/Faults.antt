@@ -1,0 +1,10 @@
+-- What the answers other than a plan say.
+use Rattle.std.specs.Prelude.{ℕ, ⊤}
+use Rattle.plan_spec.specs.declared.refusals.Why.{Why}
+use Rattle.plan_check.specs.declared.checking.CheckFault.{CheckFault}
+use Rattle.plan_check.specs.declared.checking.CheckFault.TheVariants.{Bad, NoMemory}
+
+-- where an item is refused, P holds of its place and of the cause
+abbrev pub IfBad : CheckFault → (ℕ → Why → Type 0) → Type 0
+IfBad (Bad item why) P = P item why
+IfBad NoMemory P = ⊤
