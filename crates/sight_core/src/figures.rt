@@ -1,5 +1,6 @@
 //! Small plans, with what plane geometry says is seen in them.
 
+ghost use Rattle.std.specs.Prelude.{◌≡◌};
 ghost use Rattle.plane_spec.specs.Vectors.{InRange, IsDirected, IsDirection};
 
 use crate::sight::same_point;
@@ -7,9 +8,12 @@ use crate::{Corner, Scene, free, in_cone, is_open, scene_of, stop};
 use exact_geom::in_range;
 use plan_check::{Item, Items, Name, Plan, PlanData, Points, check};
 use plane_spec::Point;
+use std::alloc::Global;
 use std::process::Abort;
 
-fn at(x: i64, y: i64) -> Point {
+fn at(x: i64, y: i64) -> Point
+    ensures { result ≡ record { x = x; y = y } }
+{
     Point { x, y }
 }
 
@@ -32,25 +36,25 @@ fn heading(rt: &impl Abort, d: Point) -> Point
 }
 
 /// The corners of a box, counterclockwise or clockwise.
-fn box_points(rt: &HostRuntime, low: Point, high: Point, clockwise: bool) -> Points {
+fn box_points(rt: &impl Abort, alloc: Global, low: Point, high: Point, clockwise: bool) -> Points {
     let (right, left) = (at(high.x, low.y), at(low.x, high.y));
     let points = if clockwise {
         [low, left, high, right]
     } else {
         [low, right, high, left]
     };
-    let mut list = Points::new(rt.alloc());
+    let mut list = Points::new(alloc);
     for p in points {
         assert!(rt; list.push(p).is_ok());
     }
     list
 }
 
-fn push(rt: &HostRuntime, items: &mut Items, item: Item) {
+fn push(rt: &impl Abort, items: &mut Items, item: Item) {
     assert!(rt; items.push(item).is_ok());
 }
 
-fn name(rt: &HostRuntime, letter: u8) -> Name {
+fn name(rt: &impl Abort, letter: u8) -> Name {
     match Name::of(&[letter]) {
         Some(name) => name,
         None => panic!(rt; "a letter is a name"),
@@ -59,17 +63,18 @@ fn name(rt: &HostRuntime, letter: u8) -> Name {
 
 /// The plan of a box of side 10 with boxes and screens in it.
 fn plan_of(
-    rt: &HostRuntime,
+    rt: &impl Abort,
+    alloc: Global,
     clockwise: bool,
     boxes: &[(Point, Point)],
     screens: &[(Point, Point)],
 ) -> Plan {
-    let mut items = Items::new(rt.alloc());
-    let outer = box_points(rt, at(0, 0), at(10, 10), clockwise);
+    let mut items = Items::new(alloc);
+    let outer = box_points(rt, alloc, at(0, 0), at(10, 10), clockwise);
     push(rt, &mut items, Item::Outer(outer));
     let mut letter = b'A';
     for (low, high) in boxes {
-        let points = box_points(rt, *low, *high, clockwise);
+        let points = box_points(rt, alloc, *low, *high, clockwise);
         push(rt, &mut items, Item::Obstacle(name(rt, letter), points));
         letter = letter.wrapping_add(1);
     }
@@ -77,21 +82,21 @@ fn plan_of(
         push(rt, &mut items, Item::Screen(name(rt, letter), *from, *to));
         letter = letter.wrapping_add(1);
     }
-    match check(rt.alloc(), &PlanData { items }) {
+    match check(alloc, &PlanData { items }) {
         Ok(plan) => plan,
         Err(_) => panic!(rt; "the plan is accepted"),
     }
 }
 
-fn scene(rt: &HostRuntime, plan: &Plan) -> Scene {
-    match scene_of(rt.alloc(), plan) {
+fn scene(rt: &impl Abort, alloc: Global, plan: &Plan) -> Scene {
+    match scene_of(alloc, plan) {
         Ok(scene) => scene,
         Err(_) => panic!(rt; "there is memory"),
     }
 }
 
 /// Each pair of points, and whether they see each other, from either end.
-fn sees(rt: &HostRuntime, scene: &Scene, pairs: &[(Point, Point, bool)]) {
+fn sees(rt: &impl Abort, scene: &Scene, pairs: &[(Point, Point, bool)]) {
     for (p, q, expected) in pairs {
         let (p, q) = (known(rt, *p), known(rt, *q));
         assert!(rt; free(scene, p, q) == *expected, "from ({}, {})", p.x, p.y);
@@ -100,7 +105,7 @@ fn sees(rt: &HostRuntime, scene: &Scene, pairs: &[(Point, Point, bool)]) {
 }
 
 /// Each ray, and where it is stopped.
-fn stops(rt: &HostRuntime, scene: &Scene, rays: &[(Point, Point, Option<(i128, i128)>)]) {
+fn stops(rt: &impl Abort, scene: &Scene, rays: &[(Point, Point, Option<(i128, i128)>)]) {
     for (p, d, expected) in rays {
         let found = stop(scene, known(rt, *p), heading(rt, *d));
         let parts = match found {
@@ -111,9 +116,9 @@ fn stops(rt: &HostRuntime, scene: &Scene, rays: &[(Point, Point, Option<(i128, i
     }
 }
 
-fn beside_a_box(rt: &HostRuntime, clockwise: bool) {
-    let plan = plan_of(rt, clockwise, &[(at(4, 4), at(6, 6))], &[]);
-    let scene = scene(rt, &plan);
+fn beside_a_box(rt: &impl Abort, alloc: Global, clockwise: bool) {
+    let plan = plan_of(rt, alloc, clockwise, &[(at(4, 4), at(6, 6))], &[]);
+    let scene = scene(rt, alloc, &plan);
     assert!(rt; scene.walls().len() == 8 && scene.corners().len() == 8);
     sees(
         rt,
@@ -161,26 +166,26 @@ fn beside_a_box(rt: &HostRuntime, clockwise: bool) {
     }
 }
 
-fn between_boxes(rt: &HostRuntime, clockwise: bool) {
+fn between_boxes(rt: &impl Abort, alloc: Global, clockwise: bool) {
     let pinched = [(at(2, 2), at(4, 4)), (at(6, 4), at(8, 6))];
-    let plan = plan_of(rt, clockwise, &pinched, &[]);
-    sees(rt, &scene(rt, &plan), &[(at(0, 4), at(10, 4), true)]);
+    let plan = plan_of(rt, alloc, clockwise, &pinched, &[]);
+    sees(rt, &scene(rt, alloc, &plan), &[(at(0, 4), at(10, 4), true)]);
     let diagonal = [
         (at(1, 2), at(2, 3)),
         (at(3, 2), at(4, 3)),
         (at(4, 5), at(5, 6)),
         (at(6, 6), at(7, 7)),
     ];
-    let plan = plan_of(rt, clockwise, &diagonal[..3], &[]);
+    let plan = plan_of(rt, alloc, clockwise, &diagonal[..3], &[]);
     sees(
         rt,
-        &scene(rt, &plan),
+        &scene(rt, alloc, &plan),
         &[(at(0, 0), at(10, 10), true), (at(10, 0), at(0, 10), false)],
     );
-    let plan = plan_of(rt, clockwise, &diagonal, &[]);
+    let plan = plan_of(rt, alloc, clockwise, &diagonal, &[]);
     sees(
         rt,
-        &scene(rt, &plan),
+        &scene(rt, alloc, &plan),
         &[
             (at(0, 0), at(10, 10), false),
             (at(10, 0), at(0, 10), false),
@@ -190,9 +195,9 @@ fn between_boxes(rt: &HostRuntime, clockwise: bool) {
     );
 }
 
-fn beside_a_screen(rt: &HostRuntime, clockwise: bool) {
-    let plan = plan_of(rt, clockwise, &[], &[(at(5, 2), at(5, 8))]);
-    let scene = scene(rt, &plan);
+fn beside_a_screen(rt: &impl Abort, alloc: Global, clockwise: bool) {
+    let plan = plan_of(rt, alloc, clockwise, &[], &[(at(5, 2), at(5, 8))]);
+    let scene = scene(rt, alloc, &plan);
     assert!(rt; scene.screens().len() == 1 && scene.corners().len() == 6);
     sees(
         rt,
@@ -220,7 +225,7 @@ fn beside_a_screen(rt: &HostRuntime, clockwise: bool) {
     );
 }
 
-fn cones(rt: &HostRuntime) {
+fn cones(rt: &impl Abort) {
     // the points of a corner, a direction, and whether it leads into what is blocked
     let corners = [
         (at(0, 0), at(1, 0), at(1, 1), at(-1, 1), true),
@@ -245,9 +250,9 @@ fn cones(rt: &HostRuntime) {
 #[test]
 fn small_plans_have_the_answers_of_plane_geometry(rt: HostRuntime) {
     for clockwise in [false, true] {
-        beside_a_box(&rt, clockwise);
-        between_boxes(&rt, clockwise);
-        beside_a_screen(&rt, clockwise);
+        beside_a_box(&rt, rt.alloc(), clockwise);
+        between_boxes(&rt, rt.alloc(), clockwise);
+        beside_a_screen(&rt, rt.alloc(), clockwise);
     }
     cones(&rt);
 }
