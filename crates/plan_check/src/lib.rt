@@ -15,6 +15,7 @@ mod checking;
 mod copies;
 mod draft;
 mod grid;
+mod listing;
 mod plan;
 mod polygons;
 mod refusals;

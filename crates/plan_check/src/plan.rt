@@ -1,15 +1,18 @@
 //! The type of accepted plans, and what can be read from one.
 
-ghost use Rattle.std.specs.Prelude.{◌≡◌, ◌<◌, ◌+◌, ◌∷◌, IsTrue, drop, length, position};
+ghost use Rattle.std.specs.Prelude.{◌≡◌, ◌<◌, ◌+◌, ◌∷◌, IfOk, IsTrue, Ok, drop, length, position};
 ghost use Rattle.plan_spec.specs.Accepted.{is_sound};
-ghost use Rattle.plan_spec.specs.Plan.{is_route_named};
+ghost use Rattle.plan_spec.specs.Plan.{is_route_named, items_of};
+ghost use Rattle.plan_spec.specs.Refusals.{checked};
 ghost use Rattle.plan_check.specs.Kept.{obstacle_at};
 
 use crate::draft::Draft;
-use plan_spec::{GridSpec, Route, Screen};
+use crate::listing::listed;
+use plan_spec::{GridSpec, PlanData, Route, Screen};
 use plane_spec::Point;
+use std::alloc::Global;
 use std::marker::Model;
-use text_spec::Name;
+use text_spec::{Name, NoMemory};
 
 /// A plan that is accepted. Contracts see its outer polygon, its grid, and its obstacles, screens and routes in order.
 #[derive(Drop)]
@@ -116,5 +119,15 @@ impl Plan {
         ensures { result ≡ position (is_route_named name.now) self.now.routes }
     {
         self.draft.route_named(name)
+    }
+
+    /// The items of the plan: the outer polygon, the grid if there is one, the obstacles, the screens, the routes.
+    /// Checking them gives the plan again.
+    pub fn items(&self, alloc: Global) -> Result<PlanData, NoMemory>
+        ensures items { IfOk result (λ listed. listed.items ≡ items_of self.now) }
+        ensures again { IfOk result (λ listed. checked listed.items ≡ Ok self.now) }
+    {
+        let items = listed(alloc, &self.draft)?;
+        Ok(PlanData { items })
     }
 }

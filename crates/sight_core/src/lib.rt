@@ -24,6 +24,8 @@
 #![tactic(auto)]
 
 mod cone;
+#[cfg(test)]
+mod figures;
 mod hits;
 mod openness;
 mod parts;

@@ -17,7 +17,7 @@ use crate::vectors::{lies_left, vector};
 use exact_geom::{crosses, on_segment, orient};
 use plane_spec::{Corner, Point, Segment as Wall};
 
-fn same_point(p: Point, q: Point) -> bool
+pub(crate) fn same_point(p: Point, q: Point) -> bool
     ensures { result ≡ vectors.same_point p q }
 {
     p.x == q.x && p.y == q.y
