@@ -33,12 +33,13 @@ keeps-start before bytes = ([], refl, with_end-nothing before)
 -- a piece was added, and the rest is left
 pub keeps-more : (before mid now : Option (List ℕ)) (bytes waiting piece rest kept : List ℕ)
     → PutsAndKeeps before mid bytes (waiting ++ (piece ++ rest)) → PutsAndKeeps mid now (waiting ++ piece) kept → PutsAndKeeps before now bytes (kept ++ rest)
-keeps-more before mid now bytes waiting piece rest kept first second =
-    (first.0 ++ second.0,
-    append_assoc first.0 second.0 (kept ++ rest)
-    ∙ ap (λ b. first.0 ++ b) (sym (append_assoc second.0 kept rest) ∙ ap (λ b. b ++ rest) second.1 ∙ append_assoc waiting piece rest)
-    ∙ first.1,
-    second.2 ∙ ap (λ o. with_end o second.0) first.2 ∙ with_end-append before first.0 second.0)
+keeps-more before mid now bytes waiting piece rest kept first second = (
+  first.0 ++ second.0,
+  append_assoc first.0 second.0 (kept ++ rest)
+      ∙ ap (λ b. first.0 ++ b) (sym (append_assoc second.0 kept rest) ∙ ap (λ b. b ++ rest) second.1 ∙ append_assoc waiting piece rest)
+      ∙ first.1,
+  second.2 ∙ ap (λ o. with_end o second.0) first.2 ∙ with_end-append before first.0 second.0,
+)
 
 -- a front of the piece was put
 pub keeps-front : (before mid now : Option (List ℕ)) (bytes waiting piece rest : List ℕ)
@@ -48,10 +49,11 @@ keeps-front before mid now bytes waiting piece rest first second =
     let taken : take (length first.0 + second.0) bytes ≡ first.0 ++ take second.0 (waiting ++ piece) =
     ap (take (length first.0 + second.0)) (sym whole)
     ∙ take-append-add first.0 ((waiting ++ piece) ++ rest) second.0
-    ∙ ap (λ b. first.0 ++ b) (take-append-le second.0 (waiting ++ piece) rest second.1) in
-    (length first.0 + second.0,
-    omega (arith, ap length whole, length-append first.0 ((waiting ++ piece) ++ rest), length-append (waiting ++ piece) rest, second.1),
-    second.2 ∙ ap (λ o. with_end o (take second.0 (waiting ++ piece))) first.2 ∙ with_end-append before first.0 (take second.0 (waiting ++ piece)) ∙ ap (with_end before) (sym taken))
+    ∙ ap (λ b. first.0 ++ b) (take-append-le second.0 (waiting ++ piece) rest second.1) in (
+      length first.0 + second.0,
+      omega (arith, ap length whole, length-append first.0 ((waiting ++ piece) ++ rest), length-append (waiting ++ piece) rest, second.1),
+      second.2 ∙ ap (λ o. with_end o (take second.0 (waiting ++ piece))) first.2 ∙ with_end-append before first.0 (take second.0 (waiting ++ piece)) ∙ ap (with_end before) (sym taken),
+    )
 
 -- nothing is left but what waits
 pub keeps-end : (before now : Option (List ℕ)) (bytes waiting : List ℕ) → PutsAndKeeps before now bytes (waiting ++ []) → PutsAndKeeps before now bytes waiting
@@ -64,11 +66,12 @@ keeps-all before mid now bytes waiting first second =
 
 -- a front of what waits was put
 pub keeps_all-front : (before mid now : Option (List ℕ)) (bytes waiting : List ℕ) → PutsAndKeeps before mid bytes waiting → PutsFront mid now waiting → PutsFront before now bytes
-keeps_all-front before mid now bytes waiting first second =
-    (length first.0 + second.0,
-    omega (arith, ap length first.1, length-append first.0 waiting, second.1),
-    second.2 ∙ ap (λ o. with_end o (take second.0 waiting)) first.2 ∙ with_end-append before first.0 (take second.0 waiting)
-    ∙ ap (with_end before) (sym (take-append-add first.0 waiting second.0) ∙ ap (take (length first.0 + second.0)) first.1))
+keeps_all-front before mid now bytes waiting first second = (
+  length first.0 + second.0,
+  omega (arith, ap length first.1, length-append first.0 waiting, second.1),
+  second.2 ∙ ap (λ o. with_end o (take second.0 waiting)) first.2 ∙ with_end-append before first.0 (take second.0 waiting)
+      ∙ ap (with_end before) (sym (take-append-add first.0 waiting second.0) ∙ ap (take (length first.0 + second.0)) first.1),
+)
 
 -- a piece was put, and nothing waits
 pub keeps-put : (before mid now : Option (List ℕ)) (bytes piece rest : List ℕ) → PutsAndKeeps before mid bytes (piece ++ rest) → now ≡ with_end mid piece → PutsAndKeeps before now bytes rest
