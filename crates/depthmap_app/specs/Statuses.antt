@@ -45,3 +45,22 @@ message_of TooLongOutcome = Some length_message
 abbrev pub Says : Option (List ℕ) → Option (List ℕ) → ℕ → ℕ → List ℕ → Type 0
 Says before after faults_before faults_after message =
     ((after ≡ with_end before message) × (faults_after ≡ faults_before)) ⊎ (PutsFront before after message × (faults_before < faults_after))
+
+-- what is said of a status on standard error, where that is one and the same line
+abbrev pub line_of : Status → Option (List ℕ)
+line_of Done = None
+line_of DoneWithRefusals = None
+line_of BadWords = Some usage_message
+line_of BadPlan = None
+line_of ReadFault = Some read_message
+line_of WriteFault = Some write_message
+line_of NoMemory = Some memory_message
+line_of TooLong = Some length_message
+
+-- the statuses with which the file was read to its end
+abbrev pub IsAfterPlan : Status → Type 0
+IsAfterPlan status = (status ≡ Done) ⊎ (status ≡ BadPlan) ⊎ (status ≡ WriteFault)
+
+-- the statuses with which nothing is written
+abbrev pub IsUnwritten : Status → Type 0
+IsUnwritten status = (status ≡ BadWords) ⊎ (status ≡ BadPlan) ⊎ (status ≡ ReadFault) ⊎ (status ≡ TooLong)

@@ -19,7 +19,7 @@ put_edges-requires-clause-few g c =
 pub returns-in-Ok-put_edges-clause-all : goal.returns-in-Ok-put_edges-clause-all
 returns-in-Ok-put_edges-clause-all g c =
     let same = output-is c.args.plan.now c.in-Ok.scene c.deref.result.now c.in-Ok.ensures (c.deref.ensures.value ∙ c.in-Ok-open_points.ensures.points) in
-    c.in-Ok-put_edges.ensures.all ∙ ap (with_end (g.O.Sink.written c.args.out.now)) same
+    subst (λ bytes. g.O.Sink.written c.put_edges.new.out ≡ with_end (g.O.Sink.written c.args.out.now) bytes) same c.in-Ok-put_edges.ensures.all
 
 pub returns-clause-front : goal.returns-clause-front
 returns-clause-front g c =
