@@ -20,6 +20,7 @@ mod plan;
 mod polygons;
 mod refusals;
 mod sharing;
+mod shifts;
 
 pub use checking::{CheckFault, check};
 pub use plan::Plan;
