@@ -1,12 +1,15 @@
 //! The parts of a plan, which need not be sound yet.
 
-ghost use Rattle.std.specs.Prelude.{◌≡◌, ◌<◌, ◌≤◌, ◌+◌, ◌∷◌, ◌++◌, [], IfOk, IfSome, OnErr, OnOk, drop, false, filter, is_some, length, not, position};
+ghost use Rattle.std.specs.Prelude.{◌≡◌, ◌<◌, ◌≤◌, ◌+◌, ◌∷◌, ◌++◌, [], IfOk, IfSome, IsTrue, OnErr, OnOk, drop, false, filter, if◌then◌else◌, is_some, length, map, not, position};
 ghost use Rattle.std.specs.List.{list_any};
 ghost use Rattle.plan_spec.specs.Plan.{corner_count, empty_plan, has_outer, is_obstacle_named, is_route_named, is_screen_named, obstacle, route, screen, with_grid, with_obstacles, with_outer, with_routes, with_screens};
-ghost use Rattle.plan_spec.specs.Edits.{ends_named, points_named, without_obstacle};
+ghost use Rattle.plan_spec.specs.Accepted.{is_sound};
+ghost use Rattle.plan_spec.specs.Edits.{ends_named, points_named, shifted_obstacle, without_obstacle};
 ghost use Rattle.plan_check.specs.Kept.{kept_route, kept_screen, obstacle_at};
+ghost use Rattle.plan_check.specs.Shifts.{IsShift};
 
 use crate::copies::{copied_lines, copied_points, copied_polygons};
+use crate::shifts::shifted_points;
 use indexmap::IndexMap;
 use plan_spec::{GridSpec, Points, Route, Screen};
 use plane_spec::{Point, Segment};
@@ -26,7 +29,8 @@ pub(crate) struct Draft {
 
 impl Model for Draft {
     ghost use Rattle.plan_spec.specs.Plan.{Plan};
-    ghost use Rattle.plan_spec.specs.Edits.{ends_named, points_named, without_obstacle};
+    ghost use Rattle.plan_spec.specs.Accepted.{is_sound};
+ghost use Rattle.plan_spec.specs.Edits.{ends_named, points_named, shifted_obstacle, without_obstacle};
 ghost use Rattle.plan_check.specs.Kept.{kept_plan};
 
     ghost Value = { Plan };
@@ -291,5 +295,28 @@ impl Draft {
         ensures { self.new ≡ with_routes self.old (filter (λ r. not (is_route_named name.now r)) self.old.routes) }
     {
         self.routes.retain(|other, _| other != name);
+    }
+
+    /// Moves the obstacle of this name, which keeps its place among the others. Without memory nothing changes.
+    pub(crate) fn move_obstacle(
+        &mut self,
+        alloc: Global,
+        name: &Name,
+        dx: i64,
+        dy: i64,
+    ) -> Result<(), NoMemory>
+        requires sound { IsTrue (is_sound self.old) }
+        requires shift { IsShift dx dy }
+        ensures ok { OnOk result (self.new ≡ with_obstacles self.old (map (λ o. if is_obstacle_named name.now o then shifted_obstacle dx dy o else o) self.old.obstacles)) }
+        ensures unchanged { OnErr result (self.new ≡ self.old) }
+    {
+        let Some(points) = self.obstacles.get(name) else {
+            return Ok(());
+        };
+        let moved = shifted_points(alloc, points.as_slice(), dx, dy)?;
+        match self.obstacles.insert(name.copy(), moved) {
+            Ok(_) => Ok(()),
+            Err(_) => Err(NoMemory),
+        }
     }
 }
