@@ -14,6 +14,7 @@
 mod checking;
 mod copies;
 mod draft;
+mod editing;
 mod grid;
 mod listing;
 mod plan;
@@ -23,6 +24,7 @@ mod sharing;
 mod shifts;
 
 pub use checking::{CheckFault, check};
+pub use editing::EditFault;
 pub use plan::Plan;
 pub use plan_spec::{
     Changed, Edit, GridSpec, Item, Items, Limit, PlanData, Points, Route, Screen, Why,
