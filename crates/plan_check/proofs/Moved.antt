@@ -1,5 +1,5 @@
 -- An obstacle that is moved in the table is moved in the plan.
-use Rattle.std.specs.Prelude.{◌≡◌, ℕ, ℤ, Bool, true, false, cond, IsTrue, IsSome, List, [], ◌∷◌, map, Option, Some, None, if◌then◌else◌}
+use Rattle.std.specs.Prelude.{◌≡◌, ℕ, ℤ, Bool, true, false, cond, IsSome, List, [], ◌∷◌, map, Some, if◌then◌else◌}
 use Rattle.std.specs.List.{All, IsDistinct}
 use Rattle.std.specs.Map.{lookup, keys_of}
 use Rattle.std.specs.Str.{bytes_eq}
@@ -9,7 +9,6 @@ use Rattle.std.proofs.lemmas.List.Elements.{All-head, All-tail}
 use Rattle.indexmap.specs.IndexMap.{IndexMap, insert_entry, ContainsKey}
 use Rattle.indexmap.proofs.CallerLemmas.{keys-insert_entry-present}
 use Rattle.plane_spec.specs.declared.Point.{Point}
-use Rattle.plane_spec.specs.Vectors.{InRange}
 use Rattle.plan_spec.specs.Plan.{Obstacle, is_obstacle_named}
 use Rattle.plan_spec.specs.Edits.{shifted_point, shifted_obstacle}
 use Rattle.plan_check.specs.Kept.{kept_obstacle}

@@ -30,8 +30,8 @@ pub(crate) struct Draft {
 impl Model for Draft {
     ghost use Rattle.plan_spec.specs.Plan.{Plan};
     ghost use Rattle.plan_spec.specs.Accepted.{is_sound};
-ghost use Rattle.plan_spec.specs.Edits.{ends_named, points_named, shifted_obstacle, without_obstacle};
-ghost use Rattle.plan_check.specs.Kept.{kept_plan};
+    ghost use Rattle.plan_spec.specs.Edits.{ends_named, points_named, shifted_obstacle, without_obstacle};
+    ghost use Rattle.plan_check.specs.Kept.{kept_plan};
 
     ghost Value = { Plan };
 

@@ -38,11 +38,11 @@ returns c =
       | in-Add+in_ok-points-in-Add+in_ok-add_obstacle-in-Add w ↦ rw (w.new-is, w.in_ok-add_obstacle-in-Add.ensures.ok, c.in_ok-new.ensures, w.in_ok-points-in-Add.ensures, w.as_slice.ensures, w.copy.ensures, w.in-Add.is) refl
       | in-Remove w ↦ rw (w.new-is, w.remove_obstacle.ensures, c.in_ok-new.ensures, w.in-Remove.is) refl
       | in-Move+in_ok-move_obstacle-in-Move w ↦
-      let shift : IsShift w.in-Move.dx w.in-Move.dy = subst HasShift w.in-Move.is c.requires.shift in
-      let fits_x = shift_fits w.in-Move.dx shift.x in
-      let fits_y = shift_fits w.in-Move.dy shift.y in
-      let moved = simp to_z-of_z at w.in_ok-move_obstacle-in-Move.ensures.ok in
-      rw (w.new-is, moved, c.in_ok-new.ensures, w.in-Move.is) refl
+          let shift : IsShift w.in-Move.dx w.in-Move.dy = subst HasShift w.in-Move.is c.requires.shift in
+          let fits_x = shift_fits w.in-Move.dx shift.x in
+          let fits_y = shift_fits w.in-Move.dy shift.y in
+          let moved = simp to_z-of_z at w.in_ok-move_obstacle-in-Move.ensures.ok in
+          rw (w.new-is, moved, c.in_ok-new.ensures, w.in-Move.is) refl
       | in-AddScreen+in_ok-add_screen-in-AddScreen w ↦ rw (w.new-is, w.in_ok-add_screen-in-AddScreen.ensures.ok, c.in_ok-new.ensures, w.copy-in-AddScreen.ensures, w.in-AddScreen.is) refl
       | in-RemoveScreen w ↦ rw (w.new-is, w.remove_screen.ensures, c.in_ok-new.ensures, w.in-RemoveScreen.is) refl
       | in-AddRoute+in_ok-add_route-in-AddRoute w ↦ rw (w.new-is, w.in_ok-add_route-in-AddRoute.ensures.ok, c.in_ok-new.ensures, w.copy-in-AddRoute.ensures, w.in-AddRoute.is) refl

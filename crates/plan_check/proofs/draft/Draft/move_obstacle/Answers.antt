@@ -2,7 +2,7 @@ use Rattle.std.specs.Prelude.{◌≡◌, map, All}
 use Rattle.std.proofs.Common.{FitsSigned, w64, refl, sym, ap, subst, ◌∙◌}
 use Rattle.std.proofs.lemmas.Int.{to_z-of_z}
 use Rattle.plane_spec.specs.Vectors.{InRange}
-use Rattle.plan_spec.specs.Plan.{is_obstacle_named, with_obstacles}
+use Rattle.plan_spec.specs.Plan.{is_obstacle_named}
 use Rattle.plan_spec.specs.Edits.{shifted_point, shifted_obstacle}
 use Rattle.plan_laws.proofs.Ranges.{obstacles_in_range}
 use Rattle.plan_check.specs.Kept.{kept_obstacle}
