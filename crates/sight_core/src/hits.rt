@@ -2,6 +2,7 @@
 
 ghost use Rattle.std.specs.Prelude.{◌≡◌, ◌≢◌, ◌^◌, ◌<◌, ◌*ℤ◌, ◌-ℤ◌, ◌≤ℤ◌, int_le, int_lt, pos, true};
 ghost use Rattle.std.specs.Ordering.{int_eq};
+ghost use Rattle.exact_geom.specs.Parts.{HasPartsWithin};
 ghost use Rattle.plane_spec.specs.Fractions as fractions;
 ghost use Rattle.plane_spec.specs.Segments as segments;
 ghost use Rattle.plane_spec.specs.Vectors as vectors;
@@ -79,7 +80,8 @@ impl Hit {
 
     /// The same value in lowest terms.
     pub(crate) fn reduced(&self) -> Frac
-        ensures { result ≡ fractions.reduced self.now }
+        ensures value { result ≡ fractions.reduced self.now }
+        ensures small { HasPartsWithin (pos (10 ^ 12)) result }
     {
         Frac::new(self.num, self.den)
     }
