@@ -1,13 +1,13 @@
 -- One more item that isn't refused: the plan is sound, and it has one part more.
-use Rattle.std.specs.Prelude.{◌≡◌, ℕ, ◌+◌, Bool, true, false, ◌&&◌, IsTrue, List, ◌∷◌, [], length, Option, Some, None, is_some, is_none}
-use Rattle.std.proofs.Common.{refl, inl, inr, sym, ap, ◌∙◌, subst, arith}
+use Rattle.std.specs.Prelude.{◌≡◌, ◌+◌, true, None}
+use Rattle.std.proofs.Common.{inl, inr, sym, ap, ◌∙◌, subst, arith}
 use Rattle.std.proofs.lemmas.Bool.{and_parts}
 use Rattle.std.proofs.lemmas.List.{length_push}
 use Rattle.plan_spec.specs.declared.kinds.Item.{Item}
 use Rattle.plan_spec.specs.declared.kinds.Item.TheVariants.{Grid, Outer, Obstacle as ObstacleItem, Screen as ScreenItem, Route as RouteItem}
-use Rattle.plan_spec.specs.Plan.{Plan, empty_plan, has_outer, with_item, obstacle, screen, route}
+use Rattle.plan_spec.specs.Plan.{Plan, empty_plan, with_item, obstacle, screen, route}
 use Rattle.plan_spec.specs.Accepted.{is_sound}
-use Rattle.plan_spec.specs.Refusals.{why_not_item, why_not_outer, why_not_grid, why_not_obstacle, why_not_screen, why_not_route}
+use Rattle.plan_spec.specs.Refusals.{why_not_item, why_not_grid, why_not_obstacle, why_not_screen, why_not_route}
 use Rattle.plan_laws.specs.Order.{may_follow}
 use Rattle.plan_laws.proofs.Adding.Items.{added_item_is_sound, added_outer_is_sound}
 use Rattle.plan_laws.proofs.Ranges.{sound_has_outer}

@@ -1,8 +1,7 @@
 -- How many items were added so far: a sound plan has at most 770.
-use Rattle.std.specs.Prelude.{◌≡◌, ℕ, ◌+◌, ◌≤◌, Bool, true, false, IsTrue, length, Option, Some, None, is_some, if◌then◌else◌}
+use Rattle.std.specs.Prelude.{ℕ, ◌+◌, ◌≤◌, Bool, true, false, length, is_some, if◌then◌else◌}
 use Rattle.std.proofs.Common.{inl, inr, arith, ap}
-use Rattle.plan_spec.specs.Plan.{Plan, empty_plan, has_outer}
-use Rattle.plan_spec.specs.Accepted.{is_sound}
+use Rattle.plan_spec.specs.Plan.{Plan, has_outer}
 use Rattle.plan_laws.proofs.Ranges.{sound_limits}
 use Rattle.plan_check.specs.Drafts.{IsDraft}
 

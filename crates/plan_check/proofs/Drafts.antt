@@ -1,7 +1,7 @@
 -- What is known of a plan while its items are added.
-use Rattle.std.specs.Prelude.{◌≡◌, ◌≤◌, Bool, true, false, IsTrue}
+use Rattle.std.specs.Prelude.{◌≡◌, ◌≤◌, true, false, IsTrue}
 use Rattle.std.proofs.Common.{inl, inr, arith, ap, sym, ◌∙◌}
-use Rattle.plan_spec.specs.Plan.{Plan, empty_plan, has_outer, corner_count}
+use Rattle.plan_spec.specs.Plan.{Plan, has_outer, corner_count}
 use Rattle.plan_spec.specs.Accepted.{is_sound}
 use Rattle.plan_laws.proofs.Ranges.{sound_limits}
 use Rattle.plan_check.specs.Drafts.{IsDraft}

@@ -1,12 +1,12 @@
 -- A list of items whose first ones were added: it goes on, stops, or ends.
-use Rattle.std.specs.Prelude.{◌≡◌, ℕ, ◌+◌, ◌≤◌, Bool, true, false, IsTrue, List, [], ◌∷◌, drop, length, Option, Some, None, Result, Ok, Err, is_ok, cond}
+use Rattle.std.specs.Prelude.{◌≡◌, ℕ, ◌+◌, ◌≤◌, Bool, true, false, IsTrue, List, ◌∷◌, drop, length, Some, None, Result, Ok, Err, is_ok, cond}
 use Rattle.std.proofs.Common.{inr, sym, ap, ◌∙◌, subst}
 use Rattle.std.proofs.lemmas.List.{drop_all}
 use Rattle.plan_spec.specs.declared.kinds.Item.{Item}
 use Rattle.plan_spec.specs.declared.refusals.Why.{Why}
 use Rattle.plan_spec.specs.declared.refusals.Why.TheVariants.{Order}
 use Rattle.plan_spec.specs.Plan.{Plan, has_outer, with_item}
-use Rattle.plan_spec.specs.Accepted.{is_accepted, is_sound}
+use Rattle.plan_spec.specs.Accepted.{is_accepted}
 use Rattle.plan_spec.specs.Refusals.{checked, checked_from, why_not_item}
 use Rattle.plan_laws.proofs.Checking.{accepted_is_ok, checked_on, checked_no_further, checked_at_end}
 use Rattle.plan_check.specs.Drafts.{IsDraft}

@@ -1,10 +1,15 @@
 //! The parts of a plan, which need not be sound yet.
 
-ghost use Rattle.std.specs.Prelude.{◌≡◌, ◌<◌, ◌≤◌, ◌+◌, ◌∷◌, ◌++◌, [], OnErr, OnOk, drop, false, length, position};
+ghost use Rattle.std.specs.Prelude.{◌≡◌, ◌<◌, ◌≤◌, ◌+◌, ◌∷◌, ◌++◌, [], IfOk, IfSome, IsTrue, OnErr, OnOk, drop, false, filter, if◌then◌else◌, is_some, length, map, not, position};
 ghost use Rattle.std.specs.List.{list_any};
 ghost use Rattle.plan_spec.specs.Plan.{corner_count, empty_plan, has_outer, is_obstacle_named, is_route_named, is_screen_named, obstacle, route, screen, with_grid, with_obstacles, with_outer, with_routes, with_screens};
+ghost use Rattle.plan_spec.specs.Accepted.{is_sound};
+ghost use Rattle.plan_spec.specs.Edits.{ends_named, points_named, shifted_obstacle, without_obstacle};
 ghost use Rattle.plan_check.specs.Kept.{kept_route, kept_screen, obstacle_at};
+ghost use Rattle.plan_check.specs.Shifts.{IsShift};
 
+use crate::copies::{copied_lines, copied_points, copied_polygons};
+use crate::shifts::shifted_points;
 use indexmap::IndexMap;
 use plan_spec::{GridSpec, Points, Route, Screen};
 use plane_spec::{Point, Segment};
@@ -24,6 +29,8 @@ pub(crate) struct Draft {
 
 impl Model for Draft {
     ghost use Rattle.plan_spec.specs.Plan.{Plan};
+    ghost use Rattle.plan_spec.specs.Accepted.{is_sound};
+    ghost use Rattle.plan_spec.specs.Edits.{ends_named, points_named, shifted_obstacle, without_obstacle};
     ghost use Rattle.plan_check.specs.Kept.{kept_plan};
 
     ghost Value = { Plan };
@@ -226,5 +233,90 @@ impl Draft {
         ensures { result ≡ position (is_route_named name.now) self.now.routes }
     {
         self.routes.get_index_of(name)
+    }
+
+    /// The points of the obstacle of this name, or `None` where there is none.
+    pub(crate) fn polygon_named(&self, name: &Name) -> Option<&[Point]>
+        ensures found { is_some result ≡ list_any (is_obstacle_named name.now) self.now.obstacles }
+        ensures points { IfSome result (λ points. points.now ≡ points_named name.now self.now.obstacles) }
+    {
+        let Some(k) = self.obstacles.get_index_of(name) else {
+            return None;
+        };
+        match self.obstacles.get_index(k) {
+            Some((_, points)) => Some(points.as_slice()),
+            None => unreachable!(),
+        }
+    }
+
+    /// The screen of this name as a segment, or `None` where there is none.
+    pub(crate) fn line_named(&self, name: &Name) -> Option<&Segment>
+        ensures found { is_some result ≡ list_any (is_screen_named name.now) self.now.screens }
+        ensures ends { IfSome result (λ line. line.now.a ∷ line.now.b ∷ [] ≡ ends_named name.now self.now.screens) }
+    {
+        let Some(k) = self.screens.get_index_of(name) else {
+            return None;
+        };
+        match self.screens.get_index(k) {
+            Some((_, line)) => Some(line),
+            None => unreachable!(),
+        }
+    }
+
+    /// The same parts again.
+    pub(crate) fn copied(&self, alloc: Global) -> Result<Draft, NoMemory>
+        ensures { IfOk result (λ copy. copy ≡ self.now) }
+    {
+        Ok(Draft {
+            outer: copied_points(alloc, self.outer.as_slice())?,
+            grid: self.grid,
+            obstacles: copied_polygons(alloc, &self.obstacles)?,
+            screens: copied_lines(alloc, &self.screens)?,
+            routes: copied_lines(alloc, &self.routes)?,
+        })
+    }
+
+    /// Takes out the obstacle of this name. The others close up.
+    pub(crate) fn remove_obstacle(&mut self, name: &Name)
+        ensures { self.new ≡ with_obstacles self.old (without_obstacle name.now self.old.obstacles) }
+    {
+        self.obstacles.retain(|other, _| other != name);
+    }
+
+    /// Takes out the screen of this name. The others close up.
+    pub(crate) fn remove_screen(&mut self, name: &Name)
+        ensures { self.new ≡ with_screens self.old (filter (λ s. not (is_screen_named name.now s)) self.old.screens) }
+    {
+        self.screens.retain(|other, _| other != name);
+    }
+
+    /// Takes out the route of this name. The others close up.
+    pub(crate) fn remove_route(&mut self, name: &Name)
+        ensures { self.new ≡ with_routes self.old (filter (λ r. not (is_route_named name.now r)) self.old.routes) }
+    {
+        self.routes.retain(|other, _| other != name);
+    }
+
+    /// Moves the obstacle of this name, which keeps its place among the others. Without memory nothing changes.
+    pub(crate) fn move_obstacle(
+        &mut self,
+        alloc: Global,
+        name: &Name,
+        dx: i64,
+        dy: i64,
+    ) -> Result<(), NoMemory>
+        requires sound { IsTrue (is_sound self.old) }
+        requires shift { IsShift dx dy }
+        ensures ok { OnOk result (self.new ≡ with_obstacles self.old (map (λ o. if is_obstacle_named name.now o then shifted_obstacle dx dy o else o) self.old.obstacles)) }
+        ensures unchanged { OnErr result (self.new ≡ self.old) }
+    {
+        let Some(points) = self.obstacles.get(name) else {
+            return Ok(());
+        };
+        let moved = shifted_points(alloc, points.as_slice(), dx, dy)?;
+        match self.obstacles.insert(name.copy(), moved) {
+            Ok(_) => Ok(()),
+            Err(_) => Err(NoMemory),
+        }
     }
 }

@@ -6,22 +6,26 @@
 //! | [`check`], [`CheckFault`] | the plan that items make, or the first item that is refused and why |
 //! | [`Item`], [`Items`], [`PlanData`], [`Points`] | a plan as it is given, item by item |
 //! | [`GridSpec`], [`Screen`], [`Route`] | the parts of a plan that aren't polygons |
-//! | [`Edit`], [`Changed`] | a change of a plan, and the boxes in which something changes |
+//! | [`Edit`], [`EditFault`], [`Changed`] | a change of a plan, why it is refused, and the boxes in which something changes |
 //! | [`Why`], [`Limit`] | why an item or an edit is refused |
 //! | [`Name`], [`NoMemory`] | a name; the answer for want of memory |
 #![tactic(auto)]
 
+mod boxes;
 mod checking;
 mod copies;
 mod draft;
+mod editing;
 mod grid;
 mod listing;
 mod plan;
 mod polygons;
 mod refusals;
 mod sharing;
+mod shifts;
 
 pub use checking::{CheckFault, check};
+pub use editing::EditFault;
 pub use plan::Plan;
 pub use plan_spec::{
     Changed, Edit, GridSpec, Item, Items, Limit, PlanData, Points, Route, Screen, Why,

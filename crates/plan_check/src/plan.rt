@@ -1,14 +1,19 @@
 //! The type of accepted plans, and what can be read from one.
 
-ghost use Rattle.std.specs.Prelude.{◌≡◌, ◌<◌, ◌+◌, ◌∷◌, IfOk, IsTrue, Ok, drop, length, position};
+ghost use Rattle.std.specs.Prelude.{◌≡◌, ◌<◌, ◌+◌, ◌∷◌, IfErr, IfOk, IsTrue, None, Ok, OnOk, Some, drop, length, position};
 ghost use Rattle.plan_spec.specs.Accepted.{is_sound};
 ghost use Rattle.plan_spec.specs.Plan.{is_route_named, items_of};
 ghost use Rattle.plan_spec.specs.Refusals.{checked};
+ghost use Rattle.plan_spec.specs.Edits.{changed_boxes, edited, why_not_edit};
+ghost use Rattle.plan_check.specs.Faults.{IfRefused};
+ghost use Rattle.plan_check.specs.Shifts.{HasShift};
 ghost use Rattle.plan_check.specs.Kept.{obstacle_at};
 
+use crate::boxes::changed_boxes;
 use crate::draft::Draft;
+use crate::editing::{EditFault, edited, why_not_edit};
 use crate::listing::listed;
-use plan_spec::{GridSpec, PlanData, Route, Screen};
+use plan_spec::{Changed, Edit, GridSpec, PlanData, Route, Screen};
 use plane_spec::Point;
 use std::alloc::Global;
 use std::marker::Model;
@@ -129,5 +134,33 @@ impl Plan {
     {
         let items = listed(alloc, &self.draft)?;
         Ok(PlanData { items })
+    }
+
+    /// The plan after the edit; this one is untouched. A new obstacle, screen or route goes last, a removal closes up, a
+    /// move keeps the place.
+    ///
+    /// `Err(Refused)` names the first cause for which the edit is refused. The shift of a move has at most nine digits.
+    ///
+    /// Cost: a copy of the plan, and the tests of what is new against each part.
+    pub fn with(&self, alloc: Global, edit: &Edit) -> Result<Plan, EditFault>
+        requires shift { HasShift edit.now }
+        ensures plan { IfOk result (λ plan. plan ≡ edited self.now edit.now) }
+        ensures valid { OnOk result (why_not_edit self.now edit.now ≡ None) }
+        ensures refused { IfErr result (λ fault. IfRefused fault (λ why. why_not_edit self.now edit.now ≡ Some why)) }
+    {
+        if let Some(why) = why_not_edit(alloc, &self.draft, edit)? {
+            return Err(EditFault::Refused(why));
+        }
+        let parts = edited(alloc, &self.draft, edit)?;
+        Ok(Plan::of_sound(parts))
+    }
+
+    /// The boxes of the obstacle, or of the screen's ends, before and after the edit, where there is one; a route has
+    /// none. The shift of a move has at most nine digits.
+    pub fn changed(&self, edit: &Edit) -> Changed
+        requires shift { HasShift edit.now }
+        ensures { result ≡ changed_boxes self.now edit.now }
+    {
+        changed_boxes(&self.draft, edit)
     }
 }

@@ -1,5 +1,5 @@
-use Rattle.std.specs.Prelude.{◌≡◌, ◌+◌, ◌∷◌, drop, length}
-use Rattle.std.proofs.Common.{sym, ap, arith, ◌∙◌}
+use Rattle.std.specs.Prelude.{◌≡◌, length}
+use Rattle.std.proofs.Common.{sym, arith, ◌∙◌}
 use Rattle.std.proofs.lemmas.List.{drop_more}
 use Rattle.plan_check.proofs.Counts.{few_parts}
 use Rattle.plan_check.proofs.Drafts.{begun_is_sound}

@@ -1,4 +1,4 @@
-use Rattle.std.proofs.Common.{◌≡◌, ◌^◌, ◌*ℤ◌, ℤ, pos, FitsSigned, w64, lit<, arith, rules, sym, subst, ◌∙◌}
+use Rattle.std.proofs.Common.{◌^◌, ◌*ℤ◌, ℤ, pos, FitsSigned, w64, lit<, arith, rules, sym, subst, ◌∙◌}
 use Rattle.std.specs.Int.{w128}
 use Rattle.std.proofs.lemmas.Int.{ints, to_z-of_z, fits_signed_mul}
 use Rattle.plane_spec.specs.Vectors.{IsWithin}

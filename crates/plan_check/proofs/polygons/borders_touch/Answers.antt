@@ -1,6 +1,4 @@
 use Rattle.std.proofs.Common.{◌∙◌, sym}
-use Rattle.plane_spec.specs.Segments.{do_touch}
-use Rattle.plane_spec.specs.Polygons.{is_nothing}
 use Rattle.plan_spec.specs.Accepted.{touches_border}
 use Rattle.exact_geom.proofs.Edges.{none_left}
 use Rattle.plan_check.proofs.polygons.borders_touch.Goals as goal

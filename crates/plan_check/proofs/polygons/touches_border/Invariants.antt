@@ -1,7 +1,6 @@
-use Rattle.std.specs.Prelude.{◌≡◌, drop, length}
-use Rattle.std.specs.List.{enumerate_from, list_all, list_any}
-use Rattle.plane_spec.specs.Lists.{pairs}
-use Rattle.plane_spec.specs.Polygons.{edges_of, edges_touch, is_nothing, has_repeat, may_stand, crosses_nowhere, borders_touch}
+use Rattle.std.specs.Prelude.{◌≡◌, drop}
+use Rattle.std.specs.List.{list_any}
+use Rattle.plane_spec.specs.Polygons.{edges_of}
 use Rattle.plane_spec.specs.Segments.{do_touch}
 use Rattle.plan_spec.specs.Accepted.{touches_border}
 use Rattle.plan_check.proofs.polygons.touches_border.Given as goal

@@ -1,4 +1,4 @@
-use Rattle.std.specs.Prelude.{◌≡◌, None, drop}
+use Rattle.std.specs.Prelude.{◌≡◌, drop}
 use Rattle.plan_spec.specs.Refusals.{first_route, routes_overlapped}
 use Rattle.plan_check.proofs.refusals.route_overlapped.Given as goal
 

@@ -5,7 +5,7 @@ use Rattle.plan_spec.specs.Plan.{corner_count}
 use Rattle.plan_spec.specs.Accepted.{lies_within}
 use Rattle.plane_spec.specs.Vectors.{InRange}
 use Rattle.plan_laws.proofs.Ranges.{outer_in_range}
-use Rattle.plan_check.proofs.Causes.{at_cause, at_test, at_denial, past_cause, past_test, past_denial, no_cause, last_cause, obstacle_by}
+use Rattle.plan_check.proofs.Causes.{at_cause, at_test, at_denial, past_cause, past_test, past_denial, no_cause, obstacle_by}
 use Rattle.plan_check.proofs.Drafts.{begun_is_sound, few_corners}
 use Rattle.plan_check.proofs.refusals.why_not_obstacle.Goals as goal
 

@@ -1,9 +1,9 @@
 use Rattle.std.specs.Prelude.{◌+◌, length}
-use Rattle.std.proofs.Common.{sym, ap, arith, ◌∙◌}
-use Rattle.std.proofs.lemmas.Bool.{lt-ltb, le-ltb, le-leb, lt-leb}
+use Rattle.std.proofs.Common.{sym, arith, ◌∙◌}
+use Rattle.std.proofs.lemmas.Bool.{lt-ltb, le-ltb}
 use Rattle.plan_spec.specs.Plan.{corner_count}
-use Rattle.plan_check.proofs.Causes.{at_cause, at_test, at_denial, past_cause, past_test, past_denial, no_cause, last_cause, outer_by}
-use Rattle.plan_check.proofs.Drafts.{begun_is_sound, few_corners}
+use Rattle.plan_check.proofs.Causes.{at_cause, at_test, past_cause, past_test, no_cause, outer_by}
+use Rattle.plan_check.proofs.Drafts.{few_corners}
 use Rattle.plan_check.proofs.refusals.why_not_outer.Goals as goal
 
 pub returns-then-has_outer : goal.returns-then-has_outer

@@ -1,9 +1,7 @@
-use Rattle.std.specs.Prelude.{◌+◌, length}
-use Rattle.std.proofs.Common.{sym, ap, arith, ◌∙◌}
-use Rattle.std.proofs.lemmas.Bool.{lt-ltb, le-ltb, le-leb, lt-leb}
-use Rattle.plan_spec.specs.Plan.{corner_count}
-use Rattle.plan_check.proofs.Causes.{at_cause, at_test, at_denial, past_cause, past_test, past_denial, no_cause, last_cause, route_by}
-use Rattle.plan_check.proofs.Drafts.{begun_is_sound, few_corners}
+use Rattle.std.specs.Prelude.{length}
+use Rattle.std.proofs.Common.{sym, arith, ◌∙◌}
+use Rattle.std.proofs.lemmas.Bool.{le-leb, lt-leb}
+use Rattle.plan_check.proofs.Causes.{at_cause, at_test, at_denial, past_cause, past_test, past_denial, last_cause, route_by}
 use Rattle.plan_check.proofs.refusals.why_not_route.Goals as goal
 
 pub returns-then-not-has_outer : goal.returns-then-not-has_outer
