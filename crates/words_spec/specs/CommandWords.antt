@@ -23,10 +23,10 @@ command =
     (with_rule
     (with_rule
     (with_rule (plain_app (new_app (codes "depthmap"))) (option_rule (codes "mode") (Some 109)))
-        (option_rule (codes "file") (Some 102)))
-        (option_rule (codes "workers") None))
-        (option_rule (codes "format") None))
-        (option_rule (codes "number") None)
+    (option_rule (codes "file") (Some 102)))
+    (option_rule (codes "workers") None))
+    (option_rule (codes "format") None))
+    (option_rule (codes "number") None)
 
 -- the first value of the option of a name
 abbrev pub first_text : List (List ℕ) → Option (List ℕ)
@@ -44,7 +44,8 @@ given_by rows =
       file = text_given rows (codes "file");
       workers = text_given rows (codes "workers");
       format = text_given rows (codes "format");
-      number = text_given rows (codes "number") }
+      number = text_given rows (codes "number");
+    }
 
 -- the options, where the command takes the words and their texts stand for some
 unfoldable pub options_in : List (List ℕ) → Option Options

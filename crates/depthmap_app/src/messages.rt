@@ -1,0 +1,125 @@
+//! The line on standard error.
+
+ghost use Rattle.std.specs.Prelude.{◌≡◌, ◌<◌, ◌-◌, ◌^◌, ◌++◌, IfNone, IfSome, OnErr, OnOk};
+ghost use Rattle.std.specs.List.{flat_map, join_with_byte};
+ghost use Rattle.report_spec.specs.Messages.{plan_message};
+ghost use Rattle.report_spec.specs.Replies.{reason_words, text_why_word, why_words};
+ghost use Rattle.dm_io.specs.Streams.{PutsFront, Rose, with_end};
+ghost use Rattle.depthmap_app.specs.Statuses.{Says, message_of};
+
+use crate::status::Outcome;
+use dm_io::{PutFailed, Sink, put_all};
+use itoa::Buffer;
+use plan_spec::{Limit, Why};
+use report_spec::{Reason, TextWhy};
+
+/// How the command is used.
+const USAGE: &[u8] = b"depthmap: usage: depthmap -m VGA|ISOVIST|AXIAL|SEGMENT|CHECK -f FILE [--workers N] [--format text|csv] or depthmap -m TRIAL --number N [--workers N] [--format text|csv]\n";
+
+/// Writes all the pieces, one after the other. After `PutFailed` a front of them was written. Takes no memory.
+fn put_pieces<E: Sink>(err: &mut E, pieces: &[&[u8]]) -> Result<(), PutFailed>
+    ensures all { OnOk result (E.written err.new ≡ with_end (E.written err.old) (flat_map (λ piece. piece.now) pieces.now)) }
+    ensures quiet { OnOk result (E.faults err.new ≡ E.faults err.old) }
+    ensures front { OnErr result (PutsFront (E.written err.old) (E.written err.new) (flat_map (λ piece. piece.now) pieces.now)) }
+    ensures cause { OnErr result (Rose (E.faults err.old) (E.faults err.new)) }
+{
+    for piece in pieces {
+        put_all(err, piece)?;
+    }
+    Ok(())
+}
+
+fn text_why_word(why: TextWhy) -> &'static str
+    ensures { result.now ≡ text_why_word why }
+{
+    match why {
+        TextWhy::Long => "long",
+        TextWhy::Kind => "kind",
+        TextWhy::Words => "words",
+        TextWhy::Name => "name",
+        TextWhy::Number => "number",
+    }
+}
+
+/// The words for a limit that would be passed.
+fn full_words(limit: Limit) -> &'static str
+    ensures { result.now ≡ join_with_byte 32 (why_words (Why.Full limit)) }
+{
+    match limit {
+        Limit::Obstacles => "full obstacles",
+        Limit::Corners => "full corners",
+        Limit::Screens => "full screens",
+        Limit::Routes => "full routes",
+        Limit::Points => "full points",
+    }
+}
+
+/// The words of a cause, and the name that follows them or nothing.
+fn why_text(why: &Why) -> (&str, &[u8])
+    ensures { result.0.now ++ result.1.now ≡ join_with_byte 32 (why_words why.now) }
+{
+    match why {
+        Why::Order => ("order", b""),
+        Why::Count => ("count", b""),
+        Why::Range => ("range", b""),
+        Why::Repeat => ("repeat", b""),
+        Why::Cross => ("cross", b""),
+        Why::Outside => ("outside", b""),
+        Why::Touch(name) => ("touch ", name.bytes()),
+        Why::Screen(name) => ("screen ", name.bytes()),
+        Why::NameTaken => ("taken", b""),
+        Why::Missing => ("missing", b""),
+        Why::Full(limit) => (full_words(*limit), b""),
+        Why::Overlap(name) => ("overlap ", name.bytes()),
+    }
+}
+
+/// The words of a reason, and the name that follows them or nothing.
+fn reason_text(reason: &Reason) -> (&str, &[u8])
+    ensures { result.0.now ++ result.1.now ≡ join_with_byte 32 (reason_words reason.now) }
+{
+    match reason {
+        Reason::Text(why) => (text_why_word(*why), b""),
+        Reason::Edit(why) => why_text(why),
+        Reason::NoPoint => ("nopoint", b""),
+        Reason::Closed => ("closed", b""),
+        Reason::Lines => ("lines", b""),
+    }
+}
+
+/// Writes the line of a refused plan.
+fn put_plan_message<E: Sink>(err: &mut E, line: u32, reason: &Reason) -> Result<(), PutFailed>
+    ensures all { OnOk result (E.written err.new ≡ with_end (E.written err.old) (plan_message line reason.now)) }
+    ensures quiet { OnOk result (E.faults err.new ≡ E.faults err.old) }
+    ensures front { OnErr result (PutsFront (E.written err.old) (E.written err.new) (plan_message line reason.now)) }
+    ensures cause { OnErr result (Rose (E.faults err.old) (E.faults err.new)) }
+{
+    let mut digits = Buffer::new();
+    let (words, name) = reason_text(reason);
+    let pieces: [&[u8]; 6] = [
+        b"depthmap: plan line ",
+        digits.format(line).as_bytes(),
+        b": ",
+        words.as_bytes(),
+        name,
+        b"\n",
+    ];
+    put_pieces(err, &pieces)
+}
+
+/// Writes the line that is said of an outcome, if there is one. What becomes of it changes nothing else. Takes no memory.
+pub fn say<E: Sink>(err: &mut E, outcome: &Outcome)
+    requires { E.faults err.old < 2 ^ 64 - 1 }
+    ensures says { IfSome (message_of outcome.now) (Says (E.written err.old) (E.written err.new) (E.faults err.old) (E.faults err.new)) }
+    ensures silent { IfNone (message_of outcome.now) ((E.written err.new ≡ E.written err.old) × (E.faults err.new ≡ E.faults err.old)) }
+{
+    let _ = match outcome {
+        Outcome::Done => Ok(()),
+        Outcome::BadWords => put_all(err, USAGE),
+        Outcome::BadPlan { line, reason } => put_plan_message(err, *line, reason),
+        Outcome::ReadFault => put_all(err, b"depthmap: cannot read\n"),
+        Outcome::WriteFault => put_all(err, b"depthmap: cannot write\n"),
+        Outcome::NoMemory => put_all(err, b"depthmap: out of memory\n"),
+        Outcome::TooLong => put_all(err, b"depthmap: input too long\n"),
+    };
+}

@@ -1,0 +1,9 @@
+pub mod Calls
+pub mod Contents
+pub mod Files
+pub mod Lines
+pub mod Memory
+pub mod Reader
+pub mod Streams
+pub mod System
+pub mod Waiting

@@ -1,0 +1,59 @@
+//! Lines in bytes, and what is answered of them.
+ghost use Rattle.std.specs.Prelude.{◌≡◌, ◌≤◌, ◌<◌, ℕ, length, false, take, IfSome, IfNone, slice_index};
+ghost use Rattle.text_spec.specs.Lines.{without_return};
+ghost use Rattle.dm_io.specs.Lines.{answer_of, has_newline};
+
+/// What a reader of lines answers.
+#[derive(Clone, Copy, Debug, PartialEq, Eq)]
+pub enum Next {
+    /// The next line stands in `bytes`. It has at most 20000 bytes before its newline, a carriage return counted.
+    Line,
+    /// The next line has more than 20000 bytes before its newline and was skipped to its end.
+    Long,
+    /// All was read, and every line was answered.
+    End,
+    /// The source failed. Every line whose newline was taken is answered.
+    Failed,
+    /// The source gave one byte more than the limit. Every line whose newline is within the limit is answered.
+    Over,
+}
+
+/// The place of the first newline, of which there is none among the first `seen` bytes.
+pub fn newline_after(bytes: &[u8], seen: usize) -> Option<usize>
+    requires within { seen ≤ length bytes.now }
+    requires plain { has_newline (take seen bytes.now) ≡ false }
+    ensures within { IfSome result (λ n. n < length bytes.now) }
+    ensures before { IfSome result (λ n. has_newline (take n bytes.now) ≡ false) }
+    ensures there { IfSome result (λ n. slice_index bytes.now n ≡ 10) }
+    ensures nowhere { IfNone result (has_newline bytes.now ≡ false) }
+{
+    for i in seen..bytes.len() {
+        if bytes[i] == b'\n' {
+            return Some(i);
+        }
+    }
+    None
+}
+
+/// The number of bytes without a carriage return that stands last.
+pub fn shown_length(line: &[u8]) -> usize
+    ensures shown { take result line.now ≡ without_return line.now }
+    ensures within { result ≤ length line.now }
+{
+    if line.is_empty() {
+        return 0;
+    }
+    let before = line.len() - 1;
+    if line[before] == b'\r' {
+        before
+    } else {
+        line.len()
+    }
+}
+
+/// How a line is answered.
+pub fn answer_of(long: bool) -> Next
+    ensures { result ≡ answer_of long }
+{
+    if long { Next::Long } else { Next::Line }
+}

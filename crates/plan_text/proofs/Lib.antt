@@ -1,0 +1,10 @@
+pub mod Places
+pub mod FirstWord
+pub mod FirstLine
+pub mod PlanRead
+pub mod Printed
+pub mod PrintedNumbers
+pub mod PrintedWords
+pub mod PrintedItems
+pub mod PrintedLengths
+pub mod PrintedText

@@ -1,0 +1,13 @@
+use Rattle.std.proofs.Common.{◌≡◌, ◌<◌, ◌^◌, drop}
+use Rattle.std.specs.List.{list_all}
+use Rattle.std.specs.Char.{is_ascii_digit}
+use Rattle.std.specs.Str.Parse.{digits_value, digits_value_after}
+use Rattle.plan_text.proofs.numbers.natural.Given as goal
+
+-- the digits so far, and then those that are left, are all of them
+abbrev pub invariant-digits : goal.invariant-digits
+invariant-digits l = record {
+  value : digits_value_after 10 l.value (drop l.digit-index l.digits) ≡ digits_value 10 l.digits;
+  kept : list_all is_ascii_digit (drop l.digit-index l.digits) ≡ list_all is_ascii_digit l.digits;
+  small : l.value < 10 ^ l.digit-index;
+}

@@ -1,0 +1,32 @@
+-- What is answered of a plan and of a line of a script.
+use Rattle.std.specs.Prelude.{◌≡◌, ℕ, List, Bool, true, false, Result, Ok, Err}
+use Rattle.plan_spec.specs.declared.kinds.Item.{Item}
+use Rattle.plan_spec.specs.declared.changes.Edit.TheVariants.{Add}
+use Rattle.report_spec.specs.declared.readings.Line.{Line}
+use Rattle.report_spec.specs.declared.readings.Line.TheVariants.{Edit}
+use Rattle.report_spec.specs.declared.readings.TextWhy.{TextWhy}
+use Rattle.report_spec.specs.PlanText.{read_plan_text, items_read, numbers_read}
+use Rattle.plan_text.specs.declared.faults.ReadLineFault.{ReadLineFault}
+use Rattle.plan_text.specs.declared.faults.ReadLineFault.TheVariants.{Bad, NoMemory}
+use Rattle.plan_text.specs.declared.faults.ReadPlanFault.{ReadPlanFault}
+use Rattle.plan_text.specs.declared.faults.ReadPlanFault.TheVariants.{Bad as BadLine, NoMemory as NoRoom}
+use Rattle.plan_text.specs.declared.plans.PlanText.{PlanText}
+
+-- the items with the numbers of their lines, or the first line outside the grammar and why it is; want of memory alone is
+-- free
+abbrev pub ReadsPlan : List ℕ → Result PlanText ReadPlanFault → Type 0
+ReadsPlan bytes (Ok text) =
+    (items : List (ℕ × Item)) × (read_plan_text bytes ≡ Ok items) × (text.plan.items ≡ items_read items) × (text.lines ≡ numbers_read bytes items)
+ReadsPlan bytes (Err (BadLine line why)) = read_plan_text bytes ≡ Err (line, why)
+ReadsPlan bytes (Err NoRoom) = Unit {0}
+
+-- what was read is an obstacle to be added
+abbrev pub is_add : Result Line TextWhy → Bool
+is_add (Ok (Edit (Add name points))) = true
+is_add _ = false
+
+-- the reading of a line of a script; want of memory is answered in place of an obstacle to be added, and of nothing else
+abbrev pub ReadsLine : Result Line TextWhy → Result Line ReadLineFault → Type 0
+ReadsLine reading (Ok line) = reading ≡ Ok line
+ReadsLine reading (Err (Bad why)) = reading ≡ Err why
+ReadsLine reading (Err NoMemory) = is_add reading ≡ true

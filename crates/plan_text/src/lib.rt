@@ -1,0 +1,40 @@
+//! The text of plans and scripts: plans are read and printed, the lines of a script are read.
+//!
+//! | item | what it is |
+//! |---|---|
+//! | [`read_plan`] | the items of a plan's text with the numbers of their lines, or the first line outside the grammar |
+//! | [`read_line`] | the edit or the question of a line of a script, or why it is outside the grammar |
+//! | [`print_plan`] | the text of items |
+//! | [`prints_and_reads`] | the law that what is printed is read again |
+//! | [`PlanText`] | a plan as it is read |
+//! | [`ReadPlanFault`], [`ReadLineFault`] | why bytes aren't read |
+//! | [`Line`], [`Query`], [`TextWhy`], [`LineNumbers`] | what is read from a line |
+//! | [`Edit`], [`GridSpec`], [`Item`], [`Items`], [`PlanData`], [`Point`], [`Points`], [`Name`] | what plans and edits are made of |
+//! | [`NoMemory`] | what is answered where there is no memory |
+//!
+//! The grammar is that of `report_spec`: `specs/Shapes.antt`, `specs/PlanText.antt` and `specs/ScriptText.antt`. Bytes are
+//! cut into lines and words in place: only the points of polygons, items and the printed text take memory.
+#![tactic(auto)]
+
+mod faults;
+mod fields;
+mod numbers;
+mod plan_lines;
+mod plans;
+mod polygons;
+mod printing;
+mod script_lines;
+mod shapes;
+mod words;
+
+pub use faults::{ReadLineFault, ReadPlanFault};
+pub use plan_spec::{Edit, GridSpec, Item, Items, PlanData, Points};
+pub use plane_spec::Point;
+pub use plans::{PlanText, read_plan};
+pub use printing::{print_plan, prints_and_reads};
+pub use report_spec::{Line, LineNumbers, Query, TextWhy};
+pub use script_lines::read_line;
+pub use text_spec::{Name, NoMemory};
+
+#[cfg(test)]
+mod tests;
