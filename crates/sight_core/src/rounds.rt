@@ -1,6 +1,6 @@
 //! The walls and corners of one polygon.
 
-ghost use Rattle.std.specs.Prelude.{All, OnOk, ◌≡◌, ◌∷◌, ◌++◌, [], ◌+ℤ◌, pos};
+ghost use Rattle.std.specs.Prelude.{All, OnOk, ◌≡◌, ◌∷◌, ◌++◌, []};
 ghost use Rattle.plane_spec.specs.Cones as cones;
 ghost use Rattle.plane_spec.specs.Polygons as polygons;
 ghost use Rattle.plane_spec.specs.Vectors.{InRange};
