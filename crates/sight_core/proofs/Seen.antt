@@ -1,5 +1,5 @@
 -- The walls, screens and corners of a sound plan are in range.
-use Rattle.std.proofs.Common.{◌≡◌, Bool, true, false, List, [], ◌∷◌, ◌++◌, map, sym}
+use Rattle.std.proofs.Common.{Bool, true, false, List, [], ◌∷◌, ◌++◌, map}
 use Rattle.std.specs.Prelude.{All, IsTrue}
 use Rattle.std.specs.List.{flat_map}
 use Rattle.std.proofs.lemmas.Bool.{cond_both}
@@ -12,9 +12,9 @@ use Rattle.plane_spec.specs.Polygons.{edges_of}
 use Rattle.plane_spec.specs.Cones.{corner}
 use Rattle.exact_geom.proofs.Edges.{IsEdgeInRange, edges_of-in_range}
 use Rattle.plan_spec.specs.declared.kinds.Screen.{Screen}
-use Rattle.plan_spec.specs.Plan.{Obstacle, Plan}
+use Rattle.plan_spec.specs.Plan.{Plan}
 use Rattle.plan_spec.specs.Accepted.{is_sound}
-use Rattle.plan_spec.specs.Scene.{Scene, turned_edge, goes_round, walls_round, walls_of_obstacle, walls_of, segment_of_screen, screens_of, corners_after, last_edge, corners_along, turned_corner, corners_round, corners_of_obstacle, lone_end, ends_of_screen, corners_of, scene_of}
+use Rattle.plan_spec.specs.Scene.{Scene, turned_edge, goes_round, walls_round, walls_of_obstacle, walls_of, segment_of_screen, screens_of, corners_after, last_edge, corners_along, turned_corner, corners_round, corners_of_obstacle, lone_end, ends_of_screen, corners_of}
 use Rattle.sight_core.specs.Ranges.{IsWallInRange, IsCornerInRange}
 use Rattle.sight_core.specs.Scenes.{IsOfSoundPlan}
 use Rattle.sight_core.proofs.Sound.{IsObstacleInRange, IsScreenInRange, outer_in_range, obstacles_in_range, screens_in_range}

@@ -1,17 +1,16 @@
 -- A wall that lies strictly on one side of the segment's line is not in its way.
-use Rattle.std.proofs.Common.{◌≡◌, Bool, true, false, not, ◌&&◌, ◌||◌, ℤ, pos, ◌+ℤ◌, ◌-ℤ◌, ◌*ℤ◌, neg_ℤ, ◌<ℤ◌, ◌≤ℤ◌, ◌⊎◌, inl, inr, refl, sym, ap, ◌∙◌, arith}
-use Rattle.std.specs.Prelude.{int_lt, int_le}
+use Rattle.std.proofs.Common.{◌≡◌, true, false, not, ◌&&◌, ℤ, pos, ◌-ℤ◌, ◌*ℤ◌, neg_ℤ, ◌<ℤ◌, ◌≤ℤ◌, ◌⊎◌, inl, inr, refl, sym, ap, ◌∙◌, arith}
 use Rattle.std.specs.Ordering.{int_eq}
 use Rattle.std.proofs.lemmas.Int.{ints}
-use Rattle.std.proofs.lemmas.Bool.{and_parts, and_right, and_left, false_from_ne_true, or_cases, cases_Bool}
+use Rattle.std.proofs.lemmas.Bool.{and_parts, and_right, false_from_ne_true, cases_Bool}
 use Rattle.std.proofs.lemmas.Bool.Decides.{Decides-int_eq}
 use Rattle.int_laws.proofs.Ring.{cross_of_three, orient_cycled, orient_exchanged, product_swapped, neg_times, cross_exchanged}
 use Rattle.int_laws.proofs.Signs.{not_negative_product, opposite_product, zero_factor}
 use Rattle.plane_spec.specs.declared.Point.{Point}
 use Rattle.plane_spec.specs.declared.Segment.{Segment}
-use Rattle.plane_spec.specs.Vectors.{orient_of, same_point}
+use Rattle.plane_spec.specs.Vectors.{orient_of}
 use Rattle.plane_spec.specs.Segments.{is_between, is_on_segment, are_opposite, cross_properly}
-use Rattle.plan_spec.specs.Sight.{crosses, is_on_middle, leaves_wall, enters_wall}
+use Rattle.plan_spec.specs.Sight.{crosses, leaves_wall}
 use Rattle.sight_core.specs.Blocks.{are_alike, lies_aside, wall_blocks}
 
 -- ---- orientation, with the first two points exchanged

@@ -6,13 +6,12 @@ use Rattle.std.specs.List.{list_any}
 use Rattle.std.proofs.lemmas.Int.{ints}
 use Rattle.std.proofs.lemmas.Bool.Decides.{Decides-int_eq, same_from_decides, Decides-like}
 use Rattle.plane_spec.specs.declared.Point.{Point}
-use Rattle.plane_spec.specs.declared.Segment.{Segment}
 use Rattle.plane_spec.specs.declared.Corner.{Corner}
 use Rattle.plane_spec.specs.Vectors.{vector, orient_of, same_point}
 use Rattle.plane_spec.specs.Segments.{is_between, is_on_segment}
 use Rattle.plane_spec.specs.Cones.{is_in_cone}
 use Rattle.plan_spec.specs.Scene.{Scene}
-use Rattle.plan_spec.specs.Sight.{crosses, enters_wall, corner_stops, corner_blocks, is_blocked, are_in_sight}
+use Rattle.plan_spec.specs.Sight.{crosses, enters_wall, corner_stops, corner_blocks, is_blocked}
 use Rattle.sight_core.specs.Blocks.{wall_blocks, turns_from}
 use Rattle.sight_core.proofs.Sides.{orient-turned}
 

@@ -1,5 +1,5 @@
 -- The first of the least fractions, sought one after another.
-use Rattle.std.specs.Prelude.{ℤ, pos, ◌≤ℤ◌, ◌^◌, Bool, ◌&&◌, int_le, List, Option, Some, None, if◌then◌else◌}
+use Rattle.std.specs.Prelude.{pos, ◌≤ℤ◌, ◌^◌, Bool, ◌&&◌, int_le, List, Option, Some, None, if◌then◌else◌}
 use Rattle.std.specs.Ordering.{int_eq}
 use Rattle.std.specs.List.{best_of}
 use Rattle.plane_spec.specs.declared.Point.{Point}

@@ -1,9 +1,8 @@
 //! Where a ray is stopped: by a wall or a screen, by a corner, or where it begins.
 
-ghost use Rattle.std.specs.Prelude.{◌≡◌, ◌≢◌, ◌^◌, ◌<◌, ◌*ℤ◌, ◌-ℤ◌, ◌≤ℤ◌, int_le, int_lt, pos, true};
-ghost use Rattle.std.specs.Ordering.{int_eq};
+ghost use Rattle.std.specs.Prelude.{◌≡◌, ◌≢◌, ◌^◌, ◌*ℤ◌, ◌-ℤ◌, int_lt, pos, true};
+ghost use Rattle.exact_geom.specs.Parts.{HasPartsWithin};
 ghost use Rattle.plane_spec.specs.Fractions as fractions;
-ghost use Rattle.plane_spec.specs.Segments as segments;
 ghost use Rattle.plane_spec.specs.Vectors as vectors;
 ghost use Rattle.plane_spec.specs.Vectors.{cross_of, dot_of, InRange, IsDirected, IsDirection, IsWithin};
 ghost use Rattle.plan_spec.specs.Stops as stops;
@@ -79,7 +78,8 @@ impl Hit {
 
     /// The same value in lowest terms.
     pub(crate) fn reduced(&self) -> Frac
-        ensures { result ≡ fractions.reduced self.now }
+        ensures value { result ≡ fractions.reduced self.now }
+        ensures small { HasPartsWithin (pos (10 ^ 12)) result }
     {
         Frac::new(self.num, self.den)
     }

@@ -1,7 +1,8 @@
 //! How far a ray reaches.
 
-ghost use Rattle.std.specs.Prelude.{All, ◌≡◌};
+ghost use Rattle.std.specs.Prelude.{All, IfSome, ◌≡◌, ◌^◌, pos};
 ghost use Rattle.std.specs.List.{filter_map};
+ghost use Rattle.exact_geom.specs.Parts.{HasPartsWithin};
 ghost use Rattle.plane_spec.specs.Vectors.{InRange, IsDirected, IsDirection};
 ghost use Rattle.plan_spec.specs.Stops as stops;
 ghost use Rattle.sight_core.specs.Hits as hits;
@@ -78,10 +79,8 @@ pub fn stop(scene: &Scene, p: Point, d: Point) -> Option<Frac>
     requires p_in { InRange p }
     requires d_in { IsDirection d }
     requires directed { IsDirected d }
-    ensures { result ≡ stops.stop_of scene.now p d }
+    ensures least { result ≡ stops.stop_of scene.now p d }
+    ensures small { IfSome result (HasPartsWithin (pos (10 ^ 12))) }
 {
-    match nearest_of(scene, p, d) {
-        Some(hit) => Some(hit.reduced()),
-        None => None,
-    }
+    nearest_of(scene, p, d).map(|hit| hit.reduced())
 }

@@ -1,6 +1,6 @@
 //! The walls and corners of one polygon.
 
-ghost use Rattle.std.specs.Prelude.{All, OnOk, ◌≡◌, ◌∷◌, ◌++◌, [], ◌+ℤ◌, pos};
+ghost use Rattle.std.specs.Prelude.{All, OnOk, ◌≡◌, ◌∷◌, ◌++◌, []};
 ghost use Rattle.plane_spec.specs.Cones as cones;
 ghost use Rattle.plane_spec.specs.Polygons as polygons;
 ghost use Rattle.plane_spec.specs.Vectors.{InRange};
@@ -16,10 +16,7 @@ use text_spec::NoMemory;
 pub(crate) fn append<T: Copy>(list: &mut Vec<T>, x: T) -> Result<(), NoMemory>
     ensures { OnOk result (list.new.items ≡ list.old.items ++ x ∷ []) }
 {
-    match list.push(x) {
-        Ok(()) => Ok(()),
-        Err(_) => Err(NoMemory),
-    }
+    list.push(x).map_err(|_| NoMemory)
 }
 
 /// Whether the points go round counterclockwise, by the sign of the doubled area.

@@ -1,6 +1,6 @@
 //! Which points see each other.
 
-ghost use Rattle.std.specs.Prelude.{All, ◌≡◌, ◌&&◌, ◌||◌, not, pos, int_lt};
+ghost use Rattle.std.specs.Prelude.{All, ◌≡◌};
 ghost use Rattle.std.specs.List.{list_any};
 ghost use Rattle.plane_spec.specs.Vectors as vectors;
 ghost use Rattle.plane_spec.specs.Vectors.{InRange};

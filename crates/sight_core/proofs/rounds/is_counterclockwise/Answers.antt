@@ -1,5 +1,5 @@
 use Rattle.std.proofs.Common.{arith, ◌∙◌}
-use Rattle.std.proofs.lemmas.Int.{ints, to_z-of_z}
+use Rattle.std.proofs.lemmas.Int.{ints}
 use Rattle.sight_core.proofs.Along.{area_next, area_all}
 use Rattle.sight_core.proofs.rounds.is_counterclockwise.Goals as goal
 
