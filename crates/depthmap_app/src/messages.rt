@@ -14,7 +14,8 @@ use plan_spec::{Limit, Why};
 use report_spec::{Reason, TextWhy};
 
 /// How the command is used.
-const USAGE: &[u8] = b"depthmap: usage: depthmap -m VGA|ISOVIST|AXIAL|SEGMENT|CHECK -f FILE [--workers N] [--format text|csv] or depthmap -m TRIAL --number N [--workers N] [--format text|csv]\n";
+const USAGE: &[u8] =
+    b"depthmap: usage: depthmap -m VGA|ISOVIST|AXIAL|SEGMENT|CHECK -f FILE [--workers N] [--format text|csv] or depthmap -m TRIAL --number N [--workers N] [--format text|csv]\n";
 
 /// Writes all the pieces, one after the other. After `PutFailed` a front of them was written. Takes no memory.
 fn put_pieces<E: Sink>(err: &mut E, pieces: &[&[u8]]) -> Result<(), PutFailed>

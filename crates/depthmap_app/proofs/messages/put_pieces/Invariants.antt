@@ -6,6 +6,6 @@ use Rattle.depthmap_app.proofs.messages.put_pieces.Given as goal
 abbrev pub invariant-loop-piece : goal.invariant-loop-piece
 invariant-loop-piece g l = record {
   bytes : PutsAndKeeps (g.E.Sink.written l.initial.err) (g.E.Sink.written l.err)
-    (flat_map (λ piece. piece.now) l.pieces) (flat_map (λ piece. piece.now) (drop l.piece-index l.pieces));
+      (flat_map (λ piece. piece.now) l.pieces) (flat_map (λ piece. piece.now) (drop l.piece-index l.pieces));
   quiet : g.E.Sink.faults l.err ≡ g.E.Sink.faults l.initial.err;
 }
