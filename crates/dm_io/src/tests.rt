@@ -3,8 +3,8 @@
 ghost use Rattle.std.specs.Prelude.{ℕ, List, IsTrue};
 
 use crate::{
-    AllFault, DirFiles, Files, LineReader, MemFiles, MemSink, MemSource, Next, Put, Sink, Source,
-    StdSink, StdSource, Take, put_all, read_all,
+    AllFault, DirFiles, Files, LineReader, MemFiles, MemSink, MemSource, Next, Put, PutFailed,
+    Sink, Source, StdSink, StdSource, Take, Waiting, put_all, read_all,
 };
 use std::alloc::{AllocError, Global};
 use std::fs;
@@ -232,6 +232,53 @@ fn all_is_put_up_to_the_room_and_the_fault(rt: HostRuntime) -> Result<(), Fail> 
             Some(sink.bytes()),
             bytes.get(..held),
             "room {room}, most {most}"
+        );
+    }
+    Ok(())
+}
+
+/// Bytes that are added in pieces and then flushed: how many bytes, how long each piece is, the call of the sink that
+/// fails, and how many bytes are held then. Where all are held, the call that would fail is the one after the last.
+const WAITED: [(usize, usize, u64, usize); 9] = [
+    (0, 1, 0, 0),
+    (21, 7, 1, 21),
+    (21, 7, 0, 0),
+    (66000, 1000, 2, 66000),
+    (66000, 1000, 1, 65000),
+    (66000, 1000, 0, 0),
+    (131072, 65536, 2, 131072),
+    (131074, 65537, 2, 131074),
+    (131074, 65537, 1, 65537),
+];
+
+fn add_in_pieces(sink: &mut MemSink, bytes: &[u8], length: usize) -> Result<(), PutFailed> {
+    let mut waiting = Waiting::new();
+    for piece in bytes.chunks(length.max(1)) {
+        waiting.add(sink, piece)?;
+    }
+    waiting.flush(sink)
+}
+
+#[test]
+fn short_pieces_wait_for_few_calls(rt: HostRuntime) -> Result<(), Fail> {
+    for (count, length, fault, held) in WAITED {
+        let mut bytes = Vec::new(rt.alloc());
+        for k in 0..count {
+            bytes.push((k % 251) as u8)?;
+        }
+        let mut fails = Vec::new(rt.alloc());
+        fails.push(fault)?;
+        let mut sink = MemSink::new(rt.alloc(), 200_000, 200_000, fails)?;
+        let answer = add_in_pieces(&mut sink, &bytes, length);
+        assert_eq!(rt;
+            answer.is_ok(),
+            held == count,
+            "pieces of {length}, fault {fault}"
+        );
+        assert_eq!(rt;
+            Some(sink.bytes()),
+            bytes.get(..held),
+            "pieces of {length}, fault {fault}"
         );
     }
     Ok(())

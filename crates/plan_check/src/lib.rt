@@ -8,6 +8,7 @@
 //! | [`GridSpec`], [`Screen`], [`Route`] | the parts of a plan that aren't polygons |
 //! | [`Edit`], [`EditFault`], [`Changed`] | a change of a plan, why it is refused, and the boxes in which something changes |
 //! | [`Why`], [`Limit`] | why an item or an edit is refused |
+//! | [`Point`], [`PlanBox`] | a point, or a direction; a box with sides along the axes |
 //! | [`Name`], [`NoMemory`] | a name; the answer for want of memory |
 #![tactic(auto)]
 
@@ -30,5 +31,6 @@ pub use plan::Plan;
 pub use plan_spec::{
     Changed, Edit, GridSpec, Item, Items, Limit, PlanData, Points, Route, Screen, Why,
 };
+pub use plane_spec::{PlanBox, Point};
 pub use sharing::types_are_shared;
 pub use text_spec::{Name, NoMemory};

@@ -2,27 +2,18 @@
 use Rattle.std.specs.Prelude.{◌≡◌, ◌&&◌, ◌||◌, List}
 use Rattle.std.specs.List.{list_any}
 use Rattle.std.proofs.Common.{ap, ◌∙◌}
-use Rattle.std.proofs.Math.Bool.{and_comm, or_comm}
+use Rattle.std.proofs.Math.Bool.{or_comm}
 use Rattle.plane_spec.specs.declared.Point.{Point}
-use Rattle.plane_spec.specs.Vectors.{orient_of}
-use Rattle.plane_spec.specs.Segments.{are_opposite, is_on_segment, cross_properly, do_touch}
 use Rattle.plane_spec.specs.Polygons.{edges_of, edges_touch, borders_touch, is_inside}
+use Rattle.plane_spec.proofs.Laws.{touching_is_symmetric}
 use Rattle.plan_spec.specs.Accepted.{polygons_meet}
 use Rattle.plan_laws.proofs.Lists.{list_any_agree, list_any_turned}
-
-pub touching_turned : (a b c d : Point) → do_touch a b c d ≡ do_touch c d a b
-unfolding do_touch cross_properly
-touching_turned a b c d =
-    ap (λ t. t || ((is_on_segment a c d || is_on_segment b c d) || (is_on_segment c a b || is_on_segment d a b)))
-    (and_comm (are_opposite (orient_of a b c) (orient_of a b d)) (are_opposite (orient_of c d a) (orient_of c d b)))
-    ∙ ap (λ t. (are_opposite (orient_of c d a) (orient_of c d b) && are_opposite (orient_of a b c) (orient_of a b d)) || t)
-    (or_comm (is_on_segment a c d || is_on_segment b c d) (is_on_segment c a b || is_on_segment d a b))
 
 pub borders_turned : (points others : List Point) → borders_touch points others ≡ borders_touch others points
 borders_turned points others =
     list_any_turned edges_touch (edges_of points) (edges_of others)
     ∙ list_any_agree (λ f. list_any (λ e. edges_touch e f) (edges_of points)) (λ f. list_any (edges_touch f) (edges_of points))
-    (λ f. list_any_agree (λ e. edges_touch e f) (edges_touch f) (λ e. touching_turned e.a e.b f.a f.b) (edges_of points))
+    (λ f. list_any_agree (λ e. edges_touch e f) (edges_touch f) (λ e. touching_is_symmetric e.a e.b f.a f.b) (edges_of points))
     (edges_of others)
 
 pub meeting_turned : (points others : List Point) → polygons_meet points others ≡ polygons_meet others points

@@ -4,4 +4,4 @@ mod SightExamples
 mod IsovistExamples
 mod GraphExamples
 mod RouteExamples
-mod Laws
+pub mod Laws

@@ -1,30 +1,19 @@
 -- What the definitions mean, where it is short to show.
-use Rattle.std.specs.Prelude.{◌≡◌, refl, ℤ, pos, ◌-ℤ◌, ◌*ℤ◌, Bool, true, false, ◌&&◌, ◌||◌}
+use Rattle.std.specs.Prelude.{◌≡◌, refl, ℤ, pos, ◌-ℤ◌, ◌*ℤ◌, Bool, false, ◌&&◌, ◌||◌}
 use Rattle.std.proofs.Common.{arith, ap, ◌∙◌}
+use Rattle.std.proofs.Math.Bool.{and_comm, or_comm}
 use Rattle.std.proofs.lemmas.Int.{ints}
 use Rattle.plane_spec.specs.declared.Point.{Point}
 use Rattle.plane_spec.specs.Vectors.{orient_of}
 use Rattle.plane_spec.specs.Segments.{are_opposite, is_on_segment, cross_properly, do_touch}
 use Rattle.plane_spec.specs.Cones.{corner, is_in_cone}
 
-and_turned : (x y : Bool) → (x && y) ≡ (y && x)
-and_turned true true = refl
-and_turned true false = refl
-and_turned false true = refl
-and_turned false false = refl
-
-or_turned : (x y : Bool) → (x || y) ≡ (y || x)
-or_turned true true = refl
-or_turned true false = refl
-or_turned false true = refl
-or_turned false false = refl
-
 -- two segments touch in whatever order they are named
 pub touching_is_symmetric : (a b c d : Point) → do_touch a b c d ≡ do_touch c d a b
 unfolding do_touch cross_properly
 touching_is_symmetric a b c d =
-    let crossing = and_turned (are_opposite (orient_of a b c) (orient_of a b d)) (are_opposite (orient_of c d a) (orient_of c d b)) in
-    let ends = or_turned (is_on_segment a c d || is_on_segment b c d) (is_on_segment c a b || is_on_segment d a b) in
+    let crossing = and_comm (are_opposite (orient_of a b c) (orient_of a b d)) (are_opposite (orient_of c d a) (orient_of c d b)) in
+    let ends = or_comm (is_on_segment a c d || is_on_segment b c d) (is_on_segment c a b || is_on_segment d a b) in
     ap (λ t. t || ((is_on_segment a c d || is_on_segment b c d) || (is_on_segment c a b || is_on_segment d a b))) crossing
     ∙ ap (λ t. (are_opposite (orient_of c d a) (orient_of c d b) && are_opposite (orient_of a b c) (orient_of a b d)) || t) ends
 

@@ -1,2 +1,2 @@
 mod Examples
-mod Laws
+pub mod Laws

@@ -2,4 +2,4 @@ mod PlanExamples
 mod ScriptExamples
 mod TableExamples
 mod OutputExamples
-mod Laws
+pub mod Laws
