@@ -9,6 +9,7 @@ use Rattle.std.proofs.Math.ListN.{get_or-eq_default}
 use Rattle.plane_spec.specs.declared.Point.{Point}
 use Rattle.plane_spec.specs.declared.Segment.{Segment}
 use Rattle.plane_spec.specs.Vectors.{InRange}
+use Rattle.plane_spec.specs.Segments.{IsSegmentInRange}
 use Rattle.plane_spec.specs.Polygons.{edges_to, edges_of}
 
 length-edges_to : (first : Point) (points : List Point) → length (edges_to first points) ≡ length points
@@ -22,24 +23,19 @@ pub length-edges_of : (points : List Point) → length (edges_of points) ≡ len
 length-edges_of [] = refl
 length-edges_of (p ∷ points) = length-edges_to p (p ∷ points)
 
--- a segment between points in range
-pub record IsEdgeInRange (e : Segment) : Type 0 where
-  pub a : InRange e.a
-  pub b : InRange e.b
-
-edges_to-in_range : (first : Point) (points : List Point) → InRange first → All InRange points → All IsEdgeInRange (edges_to first points)
+edges_to-in_range : (first : Point) (points : List Point) → InRange first → All InRange points → All IsSegmentInRange (edges_to first points)
 unfolding edges_to
-edges_to-in_range first [] f h = All-nil IsEdgeInRange
-edges_to-in_range first (p ∷ []) f h = All-cons IsEdgeInRange (record { a = p; b = first }) [] (record { a = All-head InRange p [] h; b = f }) (All-nil IsEdgeInRange)
+edges_to-in_range first [] f h = All-nil IsSegmentInRange
+edges_to-in_range first (p ∷ []) f h = All-cons IsSegmentInRange (record { a = p; b = first }) [] (record { a = All-head InRange p [] h; b = f }) (All-nil IsSegmentInRange)
 edges_to-in_range first (p ∷ q ∷ points) f h =
     let rest = All-tail InRange p (q ∷ points) h in
-    All-cons IsEdgeInRange (record { a = p; b = q }) (edges_to first (q ∷ points))
+    All-cons IsSegmentInRange (record { a = p; b = q }) (edges_to first (q ∷ points))
     (record { a = All-head InRange p (q ∷ points) h; b = All-head InRange q points rest })
     (edges_to-in_range first (q ∷ points) f rest)
 
 -- the edges of a polygon in range are in range
-pub edges_of-in_range : (points : List Point) → All InRange points → All IsEdgeInRange (edges_of points)
-edges_of-in_range [] h = All-nil IsEdgeInRange
+pub edges_of-in_range : (points : List Point) → All InRange points → All IsSegmentInRange (edges_of points)
+edges_of-in_range [] h = All-nil IsSegmentInRange
 edges_of-in_range (p ∷ points) h = edges_to-in_range p (p ∷ points) (All-head InRange p points h) h
 
 -- the next edge, by the points

@@ -1,10 +1,10 @@
 //! Boxes with sides along the axes, and what meets them.
 
 ghost use Rattle.std.specs.Prelude.{◌≡◌, ◌≤◌, Some, length};
-ghost use Rattle.plane_spec.specs.Vectors.{InRange, lies_left};
+ghost use Rattle.plane_spec.specs.Vectors.{InRange};
 ghost use Rattle.plane_spec.specs.Boxes.{box_of_points, do_overlap, does_meet_box, is_left_of, reaches_line};
 
-use crate::products::orient;
+use crate::vectors::lies_left;
 use plane_spec::{PlanBox, Point};
 
 /// The least box that has `area` and `p` in it.
@@ -47,16 +47,6 @@ fn overlap(m: i64, n: i64, low: i64, high: i64) -> bool
     (low <= m || low <= n) && (m <= high || n <= high)
 }
 
-/// Whether `c` lies strictly left of the line from `a` to `b`.
-fn left(a: Point, b: Point, c: Point) -> bool
-    requires a_in { InRange a }
-    requires b_in { InRange b }
-    requires c_in { InRange c }
-    ensures { result ≡ lies_left a b c }
-{
-    0 < orient(a, b, c)
-}
-
 /// Whether all corners of `area` lie strictly left of the line from `p` to `q`.
 #[tactic(auto, unfolding(plane_spec::specs::Boxes::is_left_of))]
 fn left_of(p: Point, q: Point, area: PlanBox) -> bool
@@ -67,8 +57,8 @@ fn left_of(p: Point, q: Point, area: PlanBox) -> bool
     ensures { result ≡ is_left_of p q area }
 {
     let (low, high) = (area.low, area.high);
-    left(p, q, low)
-        && left(
+    lies_left(p, q, low)
+        && lies_left(
             p,
             q,
             Point {
@@ -76,8 +66,8 @@ fn left_of(p: Point, q: Point, area: PlanBox) -> bool
                 y: low.y,
             },
         )
-        && left(p, q, high)
-        && left(
+        && lies_left(p, q, high)
+        && lies_left(
             p,
             q,
             Point {

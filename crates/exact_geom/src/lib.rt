@@ -6,6 +6,9 @@
 //! | [`Name`], [`NoMemory`] | a name; the answer for want of memory |
 //! | [`in_range`] | whether a point has coordinates from -100000 to 100000 |
 //! | [`orient`], [`cross`], [`dot`] | which way three points or two directions turn |
+//! | [`same_point`], [`vector`] | whether two points are one; the direction from one to another |
+//! | [`is_left`], [`lies_left`] | what is strictly left of a direction or of a line |
+//! | [`is_zero`], [`is_positive`], [`is_at_least_zero`], [`are_opposite`] | signs |
 //! | [`orient_laws`] | how three points turn in another order |
 //! | [`on_segment`], [`crosses`], [`touch`] | what lies on a segment, and what two of them share |
 //! | [`edge`], [`on_border`], [`inside`] | an edge of a polygon; what lies on its border and inside |
@@ -28,6 +31,8 @@ mod polygons;
 mod products;
 mod segments;
 mod sharing;
+mod signs;
+mod vectors;
 
 pub use boxes::{box_of, meets_box};
 pub use directions::{turn_order, turn_order_laws};
@@ -39,4 +44,6 @@ pub use polygons::{edge, inside, on_border};
 pub use products::{cross, dot, in_range, orient, orient_laws};
 pub use segments::{crosses, on_segment, touch};
 pub use sharing::types_are_shared;
+pub use signs::{are_opposite, is_at_least_zero, is_positive, is_zero};
 pub use text_spec::{Name, NoMemory};
+pub use vectors::{is_left, lies_left, same_point, vector};

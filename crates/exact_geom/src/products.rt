@@ -5,6 +5,7 @@
 ghost use Rattle.std.specs.Prelude.{◌≡◌, ◌↔◌, IsTrue, neg_ℤ, pos, ◌+ℤ◌, ◌-ℤ◌, ◌*ℤ◌};
 ghost use Rattle.plane_spec.specs.Vectors.{InRange, IsDirection, IsWithin, cross_of, dot_of, is_in_range, orient_of};
 
+use crate::vectors::difference;
 use plane_spec::Point;
 
 /// Whether both coordinates are from -100000 to 100000. `p` may have any.
@@ -21,16 +22,6 @@ fn is_coordinate(z: i64) -> bool
     ensures meaning { IsTrue result ↔ IsWithin (pos 100000) z }
 {
     -100_000 <= z && z <= 100_000
-}
-
-/// `b - a`, of two coordinates.
-fn difference(a: i64, b: i64) -> i64
-    requires a_in { IsWithin (pos 100000) a }
-    requires b_in { IsWithin (pos 100000) b }
-    ensures value { result ≡ b -ℤ a }
-    ensures within { IsWithin (pos 200000) result }
-{
-    b - a
 }
 
 /// The product of two components of directions.

@@ -1,31 +1,18 @@
 //! Segments: what lies on one, and what two of them share.
 
-ghost use Rattle.std.specs.Prelude.{◌≡◌, pos};
-ghost use Rattle.std.specs.Ordering.{int_eq};
+ghost use Rattle.std.specs.Prelude.{◌≡◌};
 ghost use Rattle.plane_spec.specs.Vectors.{InRange};
-ghost use Rattle.plane_spec.specs.Segments.{are_opposite, cross_properly, do_touch, is_between, is_on_segment};
+ghost use Rattle.plane_spec.specs.Segments.{cross_properly, do_touch, is_between, is_on_segment};
 
 use crate::products::orient;
+use crate::signs::{are_opposite, is_zero};
 use plane_spec::Point;
-
-fn is_zero(z: i128) -> bool
-    ensures { result ≡ int_eq z (pos 0) }
-{
-    z == 0
-}
 
 /// Whether `m` is from the smaller of `a` and `b` to the greater.
 fn between(m: i64, a: i64, b: i64) -> bool
     ensures { result ≡ is_between m a b }
 {
     (a <= m && m <= b) || (b <= m && m <= a)
-}
-
-/// Whether one is positive and the other negative.
-fn opposite(s: i128, t: i128) -> bool
-    ensures { result ≡ are_opposite s t }
-{
-    (s < 0 && 0 < t) || (0 < s && t < 0)
 }
 
 /// Whether `x` lies on the closed segment from `a` to `b`, which may be one point.
@@ -50,7 +37,7 @@ pub fn crosses(a: Point, b: Point, c: Point, d: Point) -> bool
     requires d_in { InRange d }
     ensures { result ≡ cross_properly a b c d }
 {
-    opposite(orient(a, b, c), orient(a, b, d)) && opposite(orient(c, d, a), orient(c, d, b))
+    are_opposite(orient(a, b, c), orient(a, b, d)) && are_opposite(orient(c, d, a), orient(c, d, b))
 }
 
 /// Whether the closed segments `ab` and `cd` share a point: they cross properly, or an end of one lies on the other.

@@ -6,7 +6,7 @@ ghost use Rattle.plan_spec.specs.Plan.{corner_count, empty_plan, has_outer, is_o
 ghost use Rattle.plan_spec.specs.Accepted.{is_sound};
 ghost use Rattle.plan_spec.specs.Edits.{ends_named, points_named, shifted_obstacle, without_obstacle};
 ghost use Rattle.plan_check.specs.Kept.{kept_route, kept_screen, obstacle_at};
-ghost use Rattle.plan_check.specs.Shifts.{IsShift};
+ghost use Rattle.plan_spec.specs.Edits.{IsShift};
 
 use crate::copies::{copied_lines, copied_points, copied_polygons};
 use crate::shifts::shifted_points;

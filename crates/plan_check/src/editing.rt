@@ -5,7 +5,7 @@ ghost use Rattle.plane_spec.specs.Vectors.{InRange};
 ghost use Rattle.plan_spec.specs.Accepted.{is_sound};
 ghost use Rattle.plan_spec.specs.Edits as edits;
 ghost use Rattle.plan_spec.specs.Refusals as refusals;
-ghost use Rattle.plan_check.specs.Shifts.{HasShift, IsShift};
+ghost use Rattle.plan_spec.specs.Edits.{HasShift, IsShift};
 
 use crate::copies::copied_points;
 use crate::draft::Draft;

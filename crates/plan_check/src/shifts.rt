@@ -4,7 +4,7 @@ ghost use Rattle.std.specs.Prelude.{All, ◌≡◌, IfOk, map};
 ghost use Rattle.std.specs.Option.{option_map};
 ghost use Rattle.plane_spec.specs.Vectors.{InRange};
 ghost use Rattle.plan_spec.specs.Edits as edits;
-ghost use Rattle.plan_check.specs.Shifts.{IsShift};
+ghost use Rattle.plan_spec.specs.Edits.{IsShift};
 
 use plan_spec::Points;
 use plane_spec::Point;

@@ -1,5 +1,5 @@
 -- Whether two polygons meet doesn't depend on which is named first.
-use Rattle.std.specs.Prelude.{◌≡◌, ◌&&◌, ◌||◌, List}
+use Rattle.std.specs.Prelude.{◌≡◌, ◌||◌, List}
 use Rattle.std.specs.List.{list_any}
 use Rattle.std.proofs.Common.{ap, ◌∙◌}
 use Rattle.std.proofs.Math.Bool.{or_comm}

@@ -83,6 +83,7 @@ do_overlap_lines a b c d = list_any (λ e. not (same_point e.0 e.1)) (pairs (sha
 
 -- ---- the obstacles, the screens, the routes
 
+-- two obstacles don't meet, and have different names
 abbrev pub obstacles_apart : Obstacle → Obstacle → Bool
 obstacles_apart o q = not (polygons_meet o.points q.points) && not (bytes_eq o.name q.name)
 
@@ -91,6 +92,7 @@ unfoldable pub do_obstacles_stand : Plan → Bool
 do_obstacles_stand plan =
     list_all (λ o. is_polygon o.points && lies_within plan.outer o.points) plan.obstacles && each_two obstacles_apart plan.obstacles
 
+-- two screens don't touch, and have different names
 abbrev pub screens_apart : Screen → Screen → Bool
 screens_apart s t = not (do_touch s.from s.to t.from t.to) && not (bytes_eq s.name t.name)
 
@@ -101,6 +103,7 @@ do_screens_stand plan =
     && (list_all (λ s. not (list_any (λ o. line_meets_polygon s.from s.to o.points) plan.obstacles)) plan.screens
     && each_two screens_apart plan.screens)
 
+-- two routes share at most one point, and have different names
 abbrev pub routes_apart : Route → Route → Bool
 routes_apart r q = not (do_overlap_lines r.from r.to q.from q.to) && not (bytes_eq r.name q.name)
 

@@ -1,4 +1,4 @@
--- What an edit may change: the pairs, lines, rows and corners whose segments meet the boxes before and after it.
+-- What an edit may change: the pairs and lines whose segments meet the box before it or the one after it, and the rows and corners that have such.
 use Rattle.std.specs.Prelude.{ℕ, pos, Bool, false, ◌&&◌, ◌||◌, not, List, [], ◌∷◌, drop, Option, Some, None}
 use Rattle.std.specs.Ordering.{int_eq}
 use Rattle.std.specs.List.{list_any}
@@ -55,9 +55,11 @@ is_on_extent scene p l =
 
 -- ---- corners
 
+-- a corner stands there in the old scene
 abbrev pub stood : Scene → Point → Bool
 stood old p = list_any (λ c. same_point c.here p) old.corners
 
+-- its pair with another corner of the new scene is dirty
 abbrev pub is_dirty_to_another : Changed → Scene → Point → Bool
 is_dirty_to_another boxes new p = list_any (λ c. not (same_point c.here p) && is_dirty_pair boxes p c.here) new.corners
 

@@ -1,9 +1,9 @@
 -- Edits: why one is refused, the plan after it, and the boxes in which something changes.
-use Rattle.std.specs.Prelude.{ℕ, ℤ, ◌+ℤ◌, not, List, [], ◌∷◌, map, filter, Option, None, if◌then◌else◌}
+use Rattle.std.specs.Prelude.{ℕ, ℤ, pos, ⊤, ◌+ℤ◌, not, List, [], ◌∷◌, map, filter, Option, None, if◌then◌else◌}
 use Rattle.std.specs.List.{list_any, list_all, flat_map}
 use Rattle.plane_spec.specs.declared.Point.{Point}
 use Rattle.plane_spec.specs.declared.PlanBox.{PlanBox}
-use Rattle.plane_spec.specs.Vectors.{point, is_in_range}
+use Rattle.plane_spec.specs.Vectors.{IsWithin, point, is_in_range}
 use Rattle.plane_spec.specs.Boxes.{box_of_points}
 use Rattle.plan_spec.specs.declared.kinds.Screen.{Screen}
 use Rattle.plan_spec.specs.declared.kinds.Item.TheVariants.{Obstacle as ObstacleItem, Screen as ScreenItem, Route as RouteItem}
@@ -23,6 +23,21 @@ shifted_point dx dy p = point (p.x +ℤ dx) (p.y +ℤ dy)
 
 abbrev pub shifted_obstacle : ℤ → ℤ → Obstacle → Obstacle
 shifted_obstacle dx dy o = obstacle o.name (map (shifted_point dx dy) o.points)
+
+-- a shift of at most 999999999 in each coordinate
+pub record IsShift (dx dy : ℤ) : Type 0 where
+  pub x : IsWithin (pos 999999999) dx
+  pub y : IsWithin (pos 999999999) dy
+
+-- where the edit is a move, its shift is at most 999999999 in each coordinate
+abbrev pub HasShift : Edit → Type 0
+HasShift (Add name points) = ⊤
+HasShift (Remove name) = ⊤
+HasShift (Move name dx dy) = IsShift dx dy
+HasShift (AddScreen name from to) = ⊤
+HasShift (RemoveScreen name) = ⊤
+HasShift (AddRoute name from to) = ⊤
+HasShift (RemoveRoute name) = ⊤
 
 -- the points of the obstacle of this name, or none
 abbrev pub points_named : List ℕ → List Obstacle → List Point

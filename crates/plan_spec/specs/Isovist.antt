@@ -111,7 +111,7 @@ runs_of (s ∷ sectors) = run_of_sector s s.wall (has_wall s.wall sectors) (runs
 
 -- ---- triangles
 
--- the triangle of the station, the point `from` and the point `to`, with its doubled area and the number of its wall
+-- a triangle of the point that sees, the point `from` and the point `to`, with its doubled area and the number of its wall
 pub record Triangle : Type 0 where
   pub from : Place
   pub to : Place
@@ -158,7 +158,7 @@ sum_of_ceilings (t ∷ triangles) = ceil_of t.area +ℤ sum_of_ceilings triangle
 abbrev pub isovist_by : List Triangle → Isovist
 isovist_by triangles = record { triangles = triangles; floor = sum_of_floors triangles; ceil = sum_of_ceilings triangles }
 
--- the triangles that are seen from p in the scene
+-- what is seen from p in the scene: the triangles, and the sums of their areas
 unfoldable pub isovist_in : Scene → Point → Isovist
 isovist_in scene p = isovist_by (map (triangle_of scene p) (runs_of (sectors_of scene p)))
 

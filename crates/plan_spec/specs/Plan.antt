@@ -9,11 +9,12 @@ use Rattle.plan_spec.specs.declared.kinds.Route.{Route}
 use Rattle.plan_spec.specs.declared.kinds.Item.{Item}
 use Rattle.plan_spec.specs.declared.kinds.Item.TheVariants.{Grid, Outer, Obstacle as ObstacleItem, Screen as ScreenItem, Route as RouteItem}
 
+-- a polygon that blocks what is inside it, and its name
 pub record Obstacle : Type 0 where
   pub name : List ℕ
   pub points : List Point
 
--- as long as the outer polygon hasn't come, it has no points
+-- the parts of a plan, each kind in the order in which it came; as long as the outer polygon hasn't come, it has no points
 pub record Plan : Type 0 where
   pub outer : List Point
   pub grid : Option GridSpec

@@ -18,18 +18,23 @@ use Rattle.plan_spec.specs.Accepted.{is_grid_in_range, is_grid_small, lies_withi
 
 -- ---- what the new part meets, in plan order
 
+-- the obstacles that a polygon meets
 abbrev pub obstacles_met : List Point → List Obstacle → List Obstacle
 obstacles_met points obstacles = filter (λ o. polygons_meet o.points points) obstacles
 
+-- the screens that meet a polygon
 abbrev pub screens_met : List Point → List Screen → List Screen
 screens_met points screens = filter (λ s. line_meets_polygon s.from s.to points) screens
 
+-- the obstacles that a line meets
 abbrev pub obstacles_met_by_line : Point → Point → List Obstacle → List Obstacle
 obstacles_met_by_line from to obstacles = filter (λ o. line_meets_polygon from to o.points) obstacles
 
+-- the screens that a line touches
 abbrev pub screens_met_by_line : Point → Point → List Screen → List Screen
 screens_met_by_line from to screens = filter (λ s. do_touch s.from s.to from to) screens
 
+-- the routes that share more than one point with a line
 abbrev pub routes_overlapped : Point → Point → List Route → List Route
 routes_overlapped from to routes = filter (λ r. do_overlap_lines r.from r.to from to) routes
 
@@ -44,6 +49,7 @@ abbrev pub first_obstacle : List Obstacle → Option Why → Option Why
 first_obstacle [] next = next
 first_obstacle (o ∷ obstacles) next = Some (Touch o.name)
 
+-- the same of screens, and of routes as the last cause
 abbrev pub first_screen : List Screen → Option Why → Option Why
 first_screen [] next = next
 first_screen (s ∷ screens) next = Some (TouchesScreen s.name)
@@ -68,18 +74,21 @@ why_not_line from to next =
     first_if (not (is_in_range from && is_in_range to)) Range
     (first_if (same_point from to) Repeat next)
 
+-- an outer polygon is refused where there is one already, for its points, and for too many corners
 unfoldable pub why_not_outer : Plan → List Point → Option Why
 why_not_outer plan points =
     first_if (has_outer plan) Order
     (why_not_polygon points
     (first_if (nat_lt 1024 (corner_count plan + length points)) (Full Corners) None))
 
+-- a grid is refused where there is one already, before the outer polygon, for its numbers, and for too many points
 unfoldable pub why_not_grid : Plan → GridSpec → Option Why
 why_not_grid plan g =
     first_if (is_some plan.grid || not (has_outer plan)) Order
     (first_if (not (is_grid_in_range g)) Range
     (first_if (not (is_grid_small g)) (Full GridPoints) None))
 
+-- an obstacle is refused before the outer polygon, for its points, where it isn't within, for what it meets, for its name, and for the limits
 unfoldable pub why_not_obstacle : Plan → List ℕ → List Point → Option Why
 why_not_obstacle plan name points =
     first_if (not (has_outer plan)) Order
@@ -91,6 +100,7 @@ why_not_obstacle plan name points =
     (first_if (nat_le 256 (length plan.obstacles)) (Full Obstacles)
     (first_if (nat_lt 1024 (corner_count plan + length points)) (Full Corners) None)))))))
 
+-- a screen is refused before the outer polygon, for its ends, where it isn't within, for what it meets, for its name, and for the limits
 unfoldable pub why_not_screen : Plan → List ℕ → Point → Point → Option Why
 why_not_screen plan name from to =
     first_if (not (has_outer plan)) Order
@@ -102,6 +112,7 @@ why_not_screen plan name from to =
     (first_if (nat_le 256 (length plan.screens)) (Full Screens)
     (first_if (nat_lt 1024 (corner_count plan + 2)) (Full Corners) None)))))))
 
+-- a route is refused before the outer polygon, for its ends, for its name, for the limit, and for the route that it overlaps
 unfoldable pub why_not_route : Plan → List ℕ → Point → Point → Option Why
 why_not_route plan name from to =
     first_if (not (has_outer plan)) Order

@@ -83,6 +83,7 @@ relative_direction d e = point (dot_of d e) (pos (unsigned_abs (cross_of d e)))
 abbrev pub is_straight_back : Point → Bool
 is_straight_back r = int_lt r.x (pos 0) && int_eq r.y (pos 0)
 
+-- how many directions of the table are passed on the way to it, and one more straight back
 abbrev pub turn_by : Point → ℕ
 turn_by r = count_by (λ t. int_le (pos 0) (cross_of t r)) turn_table + (if is_straight_back r then 1 else 0)
 
@@ -102,6 +103,7 @@ tail_of r forward = if forward then r.from else r.to
 abbrev pub reversed_direction : Point → Point
 reversed_direction d = point (neg_ℤ d.x) (neg_ℤ d.y)
 
+-- the direction in which a piece is walked
 abbrev pub heading_direction : Piece → Bool → Point
 heading_direction r forward = if forward then r.direction else reversed_direction r.direction
 
@@ -109,6 +111,7 @@ heading_direction r forward = if forward then r.direction else reversed_directio
 abbrev pub Step : Type 0
 Step = (ℕ × Piece) × Bool
 
+-- the turn from one step to the next
 abbrev pub turn_between : Step → Step → ℕ
 turn_between s t = turn_of (heading_direction s.0.1 s.1) (heading_direction t.0.1 t.1)
 

@@ -28,6 +28,7 @@ goes_round counterclockwise points = if counterclockwise then is_counterclockwis
 unfoldable pub walls_round : Bool → List Point → List Segment
 walls_round counterclockwise points = if goes_round counterclockwise points then edges_of points else map turned_edge (edges_of points)
 
+-- an obstacle's walls go round counterclockwise
 abbrev pub walls_of_obstacle : Obstacle → List Segment
 walls_of_obstacle o = walls_round true o.points
 
@@ -45,7 +46,7 @@ screens_of plan = map segment_of_screen plan.screens
 
 -- ---- corners
 
--- the corner at the beginning of each edge, after the edge before it
+-- the corners at which edges begin: each between the edge before it, which for the first one is given, and its own
 abbrev pub corners_after : Segment → List Segment → List Corner
 corners_after before [] = []
 corners_after before (e ∷ edges) = corner before.a e.a e.b ∷ corners_after e edges
@@ -67,6 +68,7 @@ unfoldable pub corners_round : Bool → List Point → List Corner
 corners_round counterclockwise points =
     if goes_round counterclockwise points then corners_along (edges_of points) else map turned_corner (corners_along (edges_of points))
 
+-- an obstacle's corners, between neighbours that go round counterclockwise
 abbrev pub corners_of_obstacle : Obstacle → List Corner
 corners_of_obstacle o = corners_round true o.points
 
@@ -81,6 +83,7 @@ ends_of_screen s = lone_end s.from ∷ lone_end s.to ∷ []
 abbrev pub corners_of : Plan → List Corner
 corners_of plan = corners_round false plan.outer ++ (flat_map corners_of_obstacle plan.obstacles ++ flat_map ends_of_screen plan.screens)
 
+-- what stands in the way in a plan: its walls, its screens and their corners
 abbrev pub scene_of : Plan → Scene
 scene_of plan = record { walls = walls_of plan; screens = screens_of plan; corners = corners_of plan }
 

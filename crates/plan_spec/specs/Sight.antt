@@ -25,7 +25,7 @@ is_on_middle p w = is_on_edge p w && (not (same_point p w.a) && not (same_point 
 unfoldable pub leaves_wall : Point → Point → Segment → Bool
 leaves_wall p q w = is_on_middle p w && lies_left w.a w.b q
 
--- the segment begins or ends on the wall and is on its left
+-- the segment begins or ends on the wall, not at the wall's ends, and is on its left there
 abbrev pub enters_wall : Point → Point → Segment → Bool
 enters_wall p q w = leaves_wall p q w || leaves_wall q p w
 
@@ -33,11 +33,11 @@ enters_wall p q w = leaves_wall p q w || leaves_wall q p w
 unfoldable pub corner_stops : Point → Point → Corner → Bool
 corner_stops p q c = not (same_point c.here q) && (is_on_segment c.here p q && is_in_cone c (vector c.here q))
 
--- the segment would have to pass through the corner, in one direction or the other
+-- the segment goes on from the corner into the corner's cone, in one direction or the other
 abbrev pub corner_blocks : Point → Point → Corner → Bool
 corner_blocks p q c = corner_stops p q c || corner_stops q p c
 
--- a wall or a screen is crossed, a wall is left to its left, or a corner is in the way
+-- a wall or a screen is crossed properly, a wall that the segment begins or ends on has it on its left, or a corner is in the way
 unfoldable pub is_blocked : Scene → Point → Point → Bool
 is_blocked scene p q =
     list_any (crosses p q) (lines_of_scene scene) || (list_any (enters_wall p q) scene.walls || list_any (corner_blocks p q) scene.corners)

@@ -1,7 +1,7 @@
 //! Plans, edits and limits whose answers are known from worked examples.
 
 ghost use Rattle.std.specs.Prelude.{◌<◌, IfOk};
-ghost use Rattle.plan_check.specs.Shifts.{HasShift};
+ghost use Rattle.plan_spec.specs.Edits.{HasShift};
 
 use plan_check::*;
 use plane_spec::{PlanBox, Point};

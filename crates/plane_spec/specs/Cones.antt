@@ -2,11 +2,17 @@
 use Rattle.std.specs.Prelude.{Bool, ◌&&◌, ◌||◌, if◌then◌else◌}
 use Rattle.plane_spec.specs.declared.Point.{Point}
 use Rattle.plane_spec.specs.declared.Corner.{Corner}
-use Rattle.plane_spec.specs.Vectors.{vector, is_left, lies_left}
+use Rattle.plane_spec.specs.Vectors.{InRange, vector, is_left, lies_left}
 
 -- the corner between two walls: the previous point, the corner itself, the next point
 abbrev pub corner : Point → Point → Point → Corner
 corner prev here next = record { prev = prev; here = here; next = next }
+
+-- a corner between points in range
+pub record IsCornerInRange (c : Corner) : Type 0 where
+  pub prev : InRange c.prev
+  pub here : InRange c.here
+  pub next : InRange c.next
 
 -- d leads into what is blocked: strictly left of both walls where the corner turns left, and otherwise of at least one of them
 unfoldable pub is_in_cone : Corner → Point → Bool

@@ -2,7 +2,13 @@
 use Rattle.std.specs.Prelude.{ℤ, pos, Bool, ◌&&◌, ◌||◌, int_lt, int_le}
 use Rattle.std.specs.Ordering.{int_eq}
 use Rattle.plane_spec.specs.declared.Point.{Point}
-use Rattle.plane_spec.specs.Vectors.{orient_of}
+use Rattle.plane_spec.specs.declared.Segment.{Segment}
+use Rattle.plane_spec.specs.Vectors.{InRange, orient_of}
+
+-- a segment between points in range
+pub record IsSegmentInRange (s : Segment) : Type 0 where
+  pub a : InRange s.a
+  pub b : InRange s.b
 
 -- m is from the smaller of a and b to the greater
 abbrev pub is_between : ℤ → ℤ → ℤ → Bool

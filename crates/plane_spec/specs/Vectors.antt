@@ -67,7 +67,7 @@ pub record IsDirected (d : Point) : Type 0 where
 
 -- ---- the order of directions
 
--- up, or straight to the right: the half turn that begins at (1,0)
+-- up, or straight to the right: the half turn from (1,0) on, to just before (-1,0)
 abbrev pub is_upper : Point → Bool
 is_upper d = int_lt (pos 0) d.y || (int_eq d.y (pos 0) && int_lt (pos 0) d.x)
 

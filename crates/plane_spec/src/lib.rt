@@ -28,7 +28,7 @@ pub struct Segment {
     pub b: Point,
 }
 
-/// A corner at `here`, between the points before and after it.
+/// A corner at `here`, between the points before and after it in the direction of the walls.
 #[derive(Clone, Copy, Debug, PartialEq, Eq)]
 pub struct Corner {
     pub prev: Point,

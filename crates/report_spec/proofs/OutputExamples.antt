@@ -77,6 +77,10 @@ the_second_box_of_a_trial_of_two : trial_box (root_above 2) 1 ≡ Obstacle (code
 unfolding digits
 the_second_box_of_a_trial_of_two = refl
 
+the_fourth_box_of_a_trial_of_four : trial_box (root_above 4) 3 ≡ Obstacle (codes "b3") (at 120 115 ∷ at 160 115 ∷ at 160 155 ∷ at 120 155 ∷ [])
+unfolding digits
+the_fourth_box_of_a_trial_of_four = refl
+
 a_mode_and_a_file_are_options :
     options_of (record { mode = Some (codes "VGA"); file = Some (codes "p"); workers = None; format = Some (codes "csv"); number = None })
     ≡ Some (record { job = Analyse Vga (codes "p"); workers = 1; form = Csv })

@@ -27,7 +27,7 @@ square_at x y side =
 
 -- box i of a plan of c by c cells of 100 by 100: its place in the cell varies with i
 abbrev pub trial_box : ℕ → ℕ → Item
-trial_box c i = Obstacle (codes "b" ++ decimal i) (square_at (100 * (i % c) + 10 + 17 * i % 41) (100 * (i / c) + 10 + 29 * i % 41) 40)
+trial_box c i = Obstacle (codes "b" ++ decimal i) (square_at (100 * (i % c) + 10 + (17 * i) % 41) (100 * (i / c) + 10 + (29 * i) % 41) 40)
 
 abbrev pub trial_items_by : ℕ → ℕ → List Item
 trial_items_by n c =

@@ -2,14 +2,14 @@
 
 ghost use Rattle.std.specs.Prelude.{◌≡◌, Some, None, if◌then◌else◌};
 ghost use Rattle.std.specs.List.{list_all};
-ghost use Rattle.text_spec.specs.Names.{is_allowed, is_name};
+ghost use Rattle.text_spec.specs.Names.{is_allowed, is_name, IsName};
 
 use arrayvec::ArrayVec;
 use std::hash::{Hash, Hasher};
 use std::marker::Model;
 
 /// The number of bytes that a name may have.
-pub const NAME_LENGTH: usize = 32;
+const NAME_LENGTH: usize = 32;
 
 /// A name of 1 to 32 letters, digits, `_` and `-`. Contracts see its bytes.
 #[derive(Drop)]
@@ -55,9 +55,10 @@ impl Name {
         Some(Name { bytes: kept })
     }
 
-    /// The bytes of the name.
+    /// The bytes of the name, which callers then know to be one.
     pub fn bytes(&self) -> &[u8]
-        ensures { result.now ≡ self.now }
+        ensures value { result.now ≡ self.now }
+        ensures named { IsName self.now }
     {
         &self.bytes
     }

@@ -2,10 +2,10 @@ use Rattle.std.proofs.Common.{rules}
 use Rattle.plane_spec.specs.Segments.{cross_properly}
 use Rattle.exact_geom.proofs.segments.crosses.Goals as goal
 
-pub returns-then-opposite : goal.returns-then-opposite
+pub returns-then-are_opposite : goal.returns-then-are_opposite
 unfolding cross_properly
-returns-then-opposite c = search rules
+returns-then-are_opposite c = search rules
 
-pub returns-else-opposite : goal.returns-else-opposite
+pub returns-else-are_opposite : goal.returns-else-are_opposite
 unfolding cross_properly
-returns-else-opposite c = search rules
+returns-else-are_opposite c = search rules

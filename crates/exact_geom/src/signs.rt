@@ -1,0 +1,33 @@
+//! Tests of signs, as of orientations and products.
+
+ghost use Rattle.std.specs.Prelude.{◌≡◌, int_le, int_lt, pos};
+ghost use Rattle.std.specs.Ordering.{int_eq};
+ghost use Rattle.plane_spec.specs.Segments as segments;
+
+/// Whether `z` is 0.
+pub fn is_zero(z: i128) -> bool
+    ensures { result ≡ int_eq z (pos 0) }
+{
+    z == 0
+}
+
+/// Whether `z` is above 0.
+pub fn is_positive(z: i128) -> bool
+    ensures { result ≡ int_lt (pos 0) z }
+{
+    0 < z
+}
+
+/// Whether `z` is 0 or above it.
+pub fn is_at_least_zero(z: i128) -> bool
+    ensures { result ≡ int_le (pos 0) z }
+{
+    0 <= z
+}
+
+/// Whether one is positive and the other negative.
+pub fn are_opposite(s: i128, t: i128) -> bool
+    ensures { result ≡ segments.are_opposite s t }
+{
+    (s < 0 && 0 < t) || (0 < s && t < 0)
+}
