@@ -4,9 +4,8 @@ ghost use Rattle.std.specs.Prelude.{◌≡◌, ◌<◌, ◌≤◌, ◌+◌, ◌�
 ghost use Rattle.std.specs.List.{list_any};
 ghost use Rattle.plan_spec.specs.Plan.{corner_count, empty_plan, has_outer, is_obstacle_named, is_route_named, is_screen_named, obstacle, route, screen, with_grid, with_obstacles, with_outer, with_routes, with_screens};
 ghost use Rattle.plan_spec.specs.Accepted.{is_sound};
-ghost use Rattle.plan_spec.specs.Edits.{ends_named, points_named, shifted_obstacle, without_obstacle};
+ghost use Rattle.plan_spec.specs.Edits.{IsShift, ends_named, points_named, shifted_obstacle, without_obstacle};
 ghost use Rattle.plan_check.specs.Kept.{kept_route, kept_screen, obstacle_at};
-ghost use Rattle.plan_spec.specs.Edits.{IsShift};
 
 use crate::copies::{copied_lines, copied_points, copied_polygons};
 use crate::shifts::shifted_points;

@@ -4,9 +4,8 @@ ghost use Rattle.std.specs.Prelude.{◌≡◌, ◌<◌, ◌+◌, ◌∷◌, IfEr
 ghost use Rattle.plan_spec.specs.Accepted.{is_sound};
 ghost use Rattle.plan_spec.specs.Plan.{is_route_named, items_of};
 ghost use Rattle.plan_spec.specs.Refusals.{checked};
-ghost use Rattle.plan_spec.specs.Edits.{changed_boxes, edited, why_not_edit};
+ghost use Rattle.plan_spec.specs.Edits.{HasShift, changed_boxes, edited, why_not_edit};
 ghost use Rattle.plan_check.specs.Faults.{IfRefused};
-ghost use Rattle.plan_spec.specs.Edits.{HasShift};
 ghost use Rattle.plan_check.specs.Kept.{obstacle_at};
 
 use crate::boxes::changed_boxes;

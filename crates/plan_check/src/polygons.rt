@@ -8,7 +8,7 @@ ghost use Rattle.plane_spec.specs.Polygons as polygon;
 ghost use Rattle.plan_spec.specs.Accepted as accepted;
 ghost use Rattle.plan_check.specs.Ends as ends;
 
-use exact_geom::{edge, inside, on_segment, touch};
+use exact_geom::{edge, inside, on_segment, same_point, touch};
 use plane_spec::{Point, Segment};
 
 // ---- edges
@@ -24,13 +24,6 @@ fn edge_in_range(points: &[Point], k: usize) -> Segment
     edge(points, k)
 }
 
-/// Whether two points are one.
-pub(crate) fn same(p: Point, q: Point) -> bool
-    ensures { result ≡ same_point p q }
-{
-    p == q
-}
-
 // ---- one polygon by itself
 
 /// Whether two neighbouring points are equal, the last and the first among them.
@@ -39,7 +32,7 @@ pub(crate) fn has_repeat(points: &[Point]) -> bool
 {
     for k in 0..points.len() {
         let e = edge(points, k);
-        if same(e.a, e.b) {
+        if same_point(e.a, e.b) {
             return true;
         }
     }
@@ -218,7 +211,7 @@ fn is_shared(x: Point, a: Point, b: Point, c: Point, d: Point) -> bool
 fn are_two_shared(p: Point, p_shared: bool, q: Point, q_shared: bool) -> bool
     ensures { result ≡ ends.are_two_shared p p_shared q q_shared }
 {
-    p_shared && q_shared && !same(p, q)
+    p_shared && q_shared && !same_point(p, q)
 }
 
 /// Whether the segments `ab` and `cd` share more than one point: two different ends of theirs lie on both.

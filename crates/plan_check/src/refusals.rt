@@ -12,9 +12,9 @@ use crate::draft::Draft;
 use crate::grid::{is_grid_in_range, is_grid_small};
 use crate::polygons::{
     crosses_nowhere, has_repeat, lies_within, line_lies_within, line_meets_polygon, lines_overlap,
-    polygons_meet, same,
+    polygons_meet,
 };
-use exact_geom::{in_range, touch};
+use exact_geom::{in_range, same_point, touch};
 use plan_spec::{GridSpec, Item, Limit, Why};
 use plane_spec::Point;
 use text_spec::Name;
@@ -66,7 +66,7 @@ fn why_not_line(from: Point, to: Point) -> Option<Why>
     if !in_range(from) || !in_range(to) {
         return Some(Why::Range);
     }
-    if same(from, to) {
+    if same_point(from, to) {
         return Some(Why::Repeat);
     }
     None

@@ -3,19 +3,19 @@ use Rattle.std.proofs.Common.{Bool, true, false, List, [], ◌∷◌, ◌++◌, 
 use Rattle.std.specs.Prelude.{All, IsTrue}
 use Rattle.std.specs.List.{flat_map}
 use Rattle.std.proofs.lemmas.Bool.{cond_both}
-use Rattle.std.proofs.lemmas.List.Elements.{All-nil, All-cons, All-head, All-tail, All-append, All-map, All-weaker}
+use Rattle.std.proofs.lemmas.List.Elements.{All-nil, All-cons, All-head, All-tail, All-append, All-map}
 use Rattle.plane_spec.specs.declared.Point.{Point}
 use Rattle.plane_spec.specs.declared.Segment.{Segment}
 use Rattle.plane_spec.specs.declared.Corner.{Corner}
 use Rattle.plane_spec.specs.Vectors.{InRange}
 use Rattle.plane_spec.specs.Polygons.{edges_of}
-use Rattle.plane_spec.specs.Cones.{corner}
-use Rattle.exact_geom.proofs.Edges.{IsEdgeInRange, edges_of-in_range}
+use Rattle.plane_spec.specs.Segments.{IsSegmentInRange}
+use Rattle.plane_spec.specs.Cones.{IsCornerInRange, corner}
+use Rattle.exact_geom.proofs.Edges.{edges_of-in_range}
 use Rattle.plan_spec.specs.declared.kinds.Screen.{Screen}
 use Rattle.plan_spec.specs.Plan.{Plan}
 use Rattle.plan_spec.specs.Accepted.{is_sound}
 use Rattle.plan_spec.specs.Scene.{Scene, turned_edge, goes_round, walls_round, walls_of_obstacle, walls_of, segment_of_screen, screens_of, corners_after, last_edge, corners_along, turned_corner, corners_round, corners_of_obstacle, lone_end, ends_of_screen, corners_of}
-use Rattle.sight_core.specs.Ranges.{IsWallInRange, IsCornerInRange}
 use Rattle.sight_core.specs.Scenes.{IsOfSoundPlan}
 use Rattle.sight_core.proofs.Sound.{IsObstacleInRange, IsScreenInRange, outer_in_range, obstacles_in_range, screens_in_range}
 
@@ -26,50 +26,47 @@ All-flat_map Q P f gives (x ∷ xs) h =
 
 -- ---- walls
 
-edges-in_range : (points : List Point) → All InRange points → All IsWallInRange (edges_of points)
-edges-in_range points h = All-weaker IsEdgeInRange IsWallInRange (λ e w. record { a = w.a; b = w.b }) (edges_of points) (edges_of-in_range points h)
-
-turned-in_range : (w : Segment) → IsWallInRange w → IsWallInRange (turned_edge w)
+turned-in_range : (w : Segment) → IsSegmentInRange w → IsSegmentInRange (turned_edge w)
 turned-in_range w h = record { a = h.b; b = h.a }
 
-walls_round-in_range : (way : Bool) (points : List Point) → All InRange points → All IsWallInRange (walls_round way points)
+walls_round-in_range : (way : Bool) (points : List Point) → All InRange points → All IsSegmentInRange (walls_round way points)
 unfolding walls_round
 walls_round-in_range way points h =
-    let edges = edges-in_range points h in
-    cond_both (goes_round way points) (edges_of points) (map turned_edge (edges_of points)) (λ ws. All IsWallInRange ws)
+    let edges = edges_of-in_range points h in
+    cond_both (goes_round way points) (edges_of points) (map turned_edge (edges_of points)) (λ ws. All IsSegmentInRange ws)
     (λ _. edges)
-    (λ _. All-map IsWallInRange turned_edge (edges_of points) (All-weaker IsWallInRange (λ w. IsWallInRange (turned_edge w)) turned-in_range (edges_of points) edges))
+    (λ _. All-map IsSegmentInRange turned_edge (edges_of points) (All-weaker IsSegmentInRange (λ w. IsSegmentInRange (turned_edge w)) turned-in_range (edges_of points) edges))
 
-walls_of-in_range : (plan : Plan) → IsTrue (is_sound plan) → All IsWallInRange (walls_of plan)
+walls_of-in_range : (plan : Plan) → IsTrue (is_sound plan) → All IsSegmentInRange (walls_of plan)
 walls_of-in_range plan sound =
-    All-append IsWallInRange (walls_round false plan.outer) (flat_map walls_of_obstacle plan.obstacles)
+    All-append IsSegmentInRange (walls_round false plan.outer) (flat_map walls_of_obstacle plan.obstacles)
     (walls_round-in_range false plan.outer (outer_in_range plan sound))
-    (All-flat_map IsObstacleInRange IsWallInRange walls_of_obstacle (λ o h. walls_round-in_range true o.points h.points) plan.obstacles (obstacles_in_range plan sound))
+    (All-flat_map IsObstacleInRange IsSegmentInRange walls_of_obstacle (λ o h. walls_round-in_range true o.points h.points) plan.obstacles (obstacles_in_range plan sound))
 
-screens_of-in_range : (plan : Plan) → IsTrue (is_sound plan) → All IsWallInRange (screens_of plan)
+screens_of-in_range : (plan : Plan) → IsTrue (is_sound plan) → All IsSegmentInRange (screens_of plan)
 screens_of-in_range plan sound =
-    All-map IsWallInRange segment_of_screen plan.screens
-    (All-weaker IsScreenInRange (λ s. IsWallInRange (segment_of_screen s)) (λ s h. record { a = h.from; b = h.to }) plan.screens (screens_in_range plan sound))
+    All-map IsSegmentInRange segment_of_screen plan.screens
+    (All-weaker IsScreenInRange (λ s. IsSegmentInRange (segment_of_screen s)) (λ s h. record { a = h.from; b = h.to }) plan.screens (screens_in_range plan sound))
 
 -- ---- corners
 
-corners_after-in_range : (before : Segment) (edges : List Segment) → IsWallInRange before → All IsWallInRange edges → All IsCornerInRange (corners_after before edges)
+corners_after-in_range : (before : Segment) (edges : List Segment) → IsSegmentInRange before → All IsSegmentInRange edges → All IsCornerInRange (corners_after before edges)
 corners_after-in_range before [] b h = All-nil IsCornerInRange
 corners_after-in_range before (e ∷ edges) b h =
-    let first = All-head IsWallInRange e edges h in
+    let first = All-head IsSegmentInRange e edges h in
     All-cons IsCornerInRange (corner before.a e.a e.b) (corners_after e edges)
     (record { prev = b.a; here = first.a; next = first.b })
-    (corners_after-in_range e edges first (All-tail IsWallInRange e edges h))
+    (corners_after-in_range e edges first (All-tail IsSegmentInRange e edges h))
 
-last_edge-in_range : (e : Segment) (edges : List Segment) → IsWallInRange e → All IsWallInRange edges → IsWallInRange (last_edge e edges)
+last_edge-in_range : (e : Segment) (edges : List Segment) → IsSegmentInRange e → All IsSegmentInRange edges → IsSegmentInRange (last_edge e edges)
 last_edge-in_range e [] first h = first
-last_edge-in_range e (next ∷ edges) first h = last_edge-in_range next edges (All-head IsWallInRange next edges h) (All-tail IsWallInRange next edges h)
+last_edge-in_range e (next ∷ edges) first h = last_edge-in_range next edges (All-head IsSegmentInRange next edges h) (All-tail IsSegmentInRange next edges h)
 
-corners_along-in_range : (edges : List Segment) → All IsWallInRange edges → All IsCornerInRange (corners_along edges)
+corners_along-in_range : (edges : List Segment) → All IsSegmentInRange edges → All IsCornerInRange (corners_along edges)
 corners_along-in_range [] h = All-nil IsCornerInRange
 corners_along-in_range (e ∷ edges) h =
     corners_after-in_range (last_edge e edges) (e ∷ edges)
-    (last_edge-in_range e edges (All-head IsWallInRange e edges h) (All-tail IsWallInRange e edges h)) h
+    (last_edge-in_range e edges (All-head IsSegmentInRange e edges h) (All-tail IsSegmentInRange e edges h)) h
 
 turned_corner-in_range : (c : Corner) → IsCornerInRange c → IsCornerInRange (turned_corner c)
 turned_corner-in_range c h = record { prev = h.next; here = h.here; next = h.prev }
@@ -97,10 +94,10 @@ corners_of-in_range plan sound =
 
 -- ---- the scene
 
-pub walls-in_range : (scene : Scene) → IsOfSoundPlan scene → All IsWallInRange scene.walls
+pub walls-in_range : (scene : Scene) → IsOfSoundPlan scene → All IsSegmentInRange scene.walls
 walls-in_range scene h = rw h.seen (walls_of-in_range h.plan h.sound)
 
-pub screens-in_range : (scene : Scene) → IsOfSoundPlan scene → All IsWallInRange scene.screens
+pub screens-in_range : (scene : Scene) → IsOfSoundPlan scene → All IsSegmentInRange scene.screens
 screens-in_range scene h = rw h.seen (screens_of-in_range h.plan h.sound)
 
 pub corners-in_range : (scene : Scene) → IsOfSoundPlan scene → All IsCornerInRange scene.corners

@@ -2,10 +2,9 @@
 
 ghost use Rattle.std.specs.Prelude.{◌≡◌};
 ghost use Rattle.plane_spec.specs.Vectors.{IsDirection};
-ghost use Rattle.plane_spec.specs.Cones.{is_in_cone};
-ghost use Rattle.sight_core.specs.Ranges.{IsCornerInRange};
+ghost use Rattle.plane_spec.specs.Cones.{IsCornerInRange, is_in_cone};
 
-use crate::vectors::{is_left, lies_left, vector};
+use exact_geom::{is_left, lies_left, vector};
 use plane_spec::{Corner, Point};
 
 /// Whether `d` leads from the corner into what is blocked: strictly left of both of its walls where the corner turns

@@ -7,13 +7,13 @@ ghost use Rattle.plane_spec.specs.Vectors as vectors;
 ghost use Rattle.plane_spec.specs.Vectors.{cross_of, dot_of, InRange, IsDirected, IsDirection, IsWithin};
 ghost use Rattle.plan_spec.specs.Stops as stops;
 ghost use Rattle.sight_core.specs.Hits as hits;
-ghost use Rattle.sight_core.specs.Ranges.{IsCornerInRange, IsWallInRange};
+ghost use Rattle.plane_spec.specs.Segments.{IsSegmentInRange};
+ghost use Rattle.plane_spec.specs.Cones.{IsCornerInRange};
 
 use crate::cone::in_cone;
 use crate::sight::is_on_middle;
-use crate::signs::{are_opposite, is_at_least_zero, is_less, is_zero};
-use crate::vectors::{is_left, vector};
-use exact_geom::{Frac, cross, dot};
+use crate::signs::is_less;
+use exact_geom::{Frac, are_opposite, cross, dot, is_at_least_zero, is_left, is_zero, vector};
 use plane_spec::{Corner, Point, Segment as Wall};
 use std::marker::Model;
 
@@ -110,7 +110,7 @@ fn turn_to(p: Point, d: Point, x: Point) -> i128
 /// Twice the area of the triangle from `p` to the wall or screen.
 fn spread(p: Point, wall: &Wall) -> i128
     requires p_in { InRange p }
-    requires wall_in { IsWallInRange wall.now }
+    requires wall_in { IsSegmentInRange wall.now }
     ensures value { result ≡ cross_of (vectors.vector p wall.now.a) (vectors.vector p wall.now.b) }
     ensures within { IsWithin (pos (10 ^ 12)) result }
 {
@@ -121,7 +121,7 @@ fn spread(p: Point, wall: &Wall) -> i128
 fn is_across(p: Point, d: Point, wall: &Wall) -> bool
     requires p_in { InRange p }
     requires d_in { IsDirection d }
-    requires wall_in { IsWallInRange wall.now }
+    requires wall_in { IsSegmentInRange wall.now }
     ensures { result ≡ stops.is_across p d wall.now }
 {
     are_opposite(turn_to(p, d, wall.a), turn_to(p, d, wall.b))
@@ -131,7 +131,7 @@ fn is_across(p: Point, d: Point, wall: &Wall) -> bool
 fn width(p: Point, d: Point, wall: &Wall) -> i128
     requires p_in { InRange p }
     requires d_in { IsDirection d }
-    requires wall_in { IsWallInRange wall.now }
+    requires wall_in { IsSegmentInRange wall.now }
     requires across { stops.is_across p d wall.now ≡ true }
     ensures value { result ≡ cross_of d (vectors.vector p wall.now.b) -ℤ cross_of d (vectors.vector p wall.now.a) }
     ensures within { IsWithin (pos (10 ^ 12)) result }
@@ -144,7 +144,7 @@ fn width(p: Point, d: Point, wall: &Wall) -> i128
 fn meeting(p: Point, d: Point, wall: &Wall) -> Hit
     requires p_in { InRange p }
     requires d_in { IsDirection d }
-    requires wall_in { IsWallInRange wall.now }
+    requires wall_in { IsSegmentInRange wall.now }
     requires across { stops.is_across p d wall.now ≡ true }
     ensures { result ≡ stops.meeting p d wall.now }
 {
@@ -156,7 +156,7 @@ fn meeting(p: Point, d: Point, wall: &Wall) -> Hit
 pub(crate) fn line_hit(p: Point, d: Point, wall: &Wall) -> Option<Hit>
     requires p_in { InRange p }
     requires d_in { IsDirection d }
-    requires wall_in { IsWallInRange wall.now }
+    requires wall_in { IsSegmentInRange wall.now }
     ensures { result ≡ stops.line_hit p d wall.now }
 {
     if !is_across(p, d, wall) {
@@ -212,7 +212,7 @@ pub(crate) fn corner_hit(p: Point, d: Point, corner: &Corner) -> Option<Hit>
 pub(crate) fn start_hit(p: Point, d: Point, wall: &Wall) -> Option<Hit>
     requires p_in { InRange p }
     requires d_in { IsDirection d }
-    requires wall_in { IsWallInRange wall.now }
+    requires wall_in { IsSegmentInRange wall.now }
     ensures { result ≡ stops.start_hit p d wall.now }
 {
     if is_on_middle(p, wall) && is_left(vector(wall.a, wall.b), d) {

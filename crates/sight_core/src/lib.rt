@@ -35,7 +35,6 @@ mod scene;
 mod sharing;
 mod sight;
 mod signs;
-mod vectors;
 
 pub use cone::in_cone;
 pub use openness::is_open;

@@ -6,7 +6,8 @@ ghost use Rattle.exact_geom.specs.Parts.{HasPartsWithin};
 ghost use Rattle.plane_spec.specs.Vectors.{InRange, IsDirected, IsDirection};
 ghost use Rattle.plan_spec.specs.Stops as stops;
 ghost use Rattle.sight_core.specs.Hits as hits;
-ghost use Rattle.sight_core.specs.Ranges.{IsCornerInRange, IsWallInRange};
+ghost use Rattle.plane_spec.specs.Segments.{IsSegmentInRange};
+ghost use Rattle.plane_spec.specs.Cones.{IsCornerInRange};
 
 use crate::hits::{Hit, corner_hit, line_hit, nearer, start_hit};
 use crate::scene::Scene;
@@ -15,7 +16,7 @@ use plane_spec::{Corner, Point, Segment as Wall};
 
 /// The first of the least among the best so far and where the ray meets walls or screens.
 fn nearest_line(best: Option<Hit>, lines: &[Wall], p: Point, d: Point) -> Option<Hit>
-    requires lines_in { All IsWallInRange lines.now }
+    requires lines_in { All IsSegmentInRange lines.now }
     requires p_in { InRange p }
     requires d_in { IsDirection d }
     ensures { result ≡ hits.least_from best (filter_map (stops.line_hit p d) lines.now) }
@@ -44,7 +45,7 @@ fn nearest_corner(best: Option<Hit>, corners: &[Corner], p: Point, d: Point) -> 
 
 /// The first of the least among the best so far and where the ray begins, for each wall that it leaves to its left.
 fn nearest_start(best: Option<Hit>, walls: &[Wall], p: Point, d: Point) -> Option<Hit>
-    requires walls_in { All IsWallInRange walls.now }
+    requires walls_in { All IsSegmentInRange walls.now }
     requires p_in { InRange p }
     requires d_in { IsDirection d }
     ensures { result ≡ hits.least_from best (filter_map (stops.start_hit p d) walls.now) }

@@ -7,8 +7,7 @@ ghost use Rattle.plane_spec.specs.Vectors.{InRange};
 ghost use Rattle.plan_spec.specs.Scene as scenes;
 ghost use Rattle.sight_core.specs.Rounds as rounds;
 
-use crate::signs::is_positive;
-use exact_geom::{cross, edge};
+use exact_geom::{cross, edge, is_positive};
 use plane_spec::{Corner, Point, Segment};
 use text_spec::NoMemory;
 

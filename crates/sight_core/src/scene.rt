@@ -2,7 +2,8 @@
 
 ghost use Rattle.std.specs.Prelude.{All, IfOk, ◌≡◌};
 ghost use Rattle.plan_spec.specs.Scene as scenes;
-ghost use Rattle.sight_core.specs.Ranges.{IsWallInRange, IsCornerInRange};
+ghost use Rattle.plane_spec.specs.Segments.{IsSegmentInRange};
+ghost use Rattle.plane_spec.specs.Cones.{IsCornerInRange};
 ghost use Rattle.sight_core.specs.Scenes.{IsOfSoundPlan};
 
 use crate::parts::{corners_of, screens_of, walls_of};
@@ -36,7 +37,7 @@ impl Scene {
     /// The walls, directed so that what is blocked lies on their left.
     pub fn walls(&self) -> &[Wall]
         ensures walls { result.now ≡ self.now.walls }
-        ensures in_range { All IsWallInRange result.now }
+        ensures in_range { All IsSegmentInRange result.now }
         ensures of_plan { IsOfSoundPlan self.now }
     {
         &self.walls
@@ -45,7 +46,7 @@ impl Scene {
     /// The screens, each from its first end to its second.
     pub fn screens(&self) -> &[Wall]
         ensures screens { result.now ≡ self.now.screens }
-        ensures in_range { All IsWallInRange result.now }
+        ensures in_range { All IsSegmentInRange result.now }
         ensures of_plan { IsOfSoundPlan self.now }
     {
         &self.screens

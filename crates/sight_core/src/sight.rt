@@ -8,25 +8,19 @@ ghost use Rattle.plane_spec.specs.declared.Point.{Point};
 ghost use Rattle.plan_spec.specs.Scene.{Scene};
 ghost use Rattle.plan_spec.specs.Sight as sight;
 ghost use Rattle.sight_core.specs.Blocks as blocks;
-ghost use Rattle.sight_core.specs.Ranges.{IsWallInRange, IsCornerInRange};
+ghost use Rattle.plane_spec.specs.Segments.{IsSegmentInRange};
+ghost use Rattle.plane_spec.specs.Cones.{IsCornerInRange};
 
 use crate::cone::in_cone;
 use crate::scene::Scene;
 use crate::signs::are_alike;
-use crate::vectors::{lies_left, vector};
-use exact_geom::{crosses, on_segment, orient};
+use exact_geom::{crosses, lies_left, on_segment, orient, same_point, vector};
 use plane_spec::{Corner, Point, Segment as Wall};
-
-pub(crate) fn same_point(p: Point, q: Point) -> bool
-    ensures { result ≡ vectors.same_point p q }
-{
-    p.x == q.x && p.y == q.y
-}
 
 /// Whether `p` lies on the wall, not at its ends.
 pub(crate) fn is_on_middle(p: Point, wall: &Wall) -> bool
     requires p_in { InRange p }
-    requires wall_in { IsWallInRange wall.now }
+    requires wall_in { IsSegmentInRange wall.now }
     ensures { result ≡ sight.is_on_middle p wall.now }
 {
     on_segment(p, wall.a, wall.b) && !same_point(p, wall.a) && !same_point(p, wall.b)
@@ -37,7 +31,7 @@ pub(crate) fn is_on_middle(p: Point, wall: &Wall) -> bool
 fn leaves_wall(p: Point, q: Point, wall: &Wall) -> bool
     requires p_in { InRange p }
     requires q_in { InRange q }
-    requires wall_in { IsWallInRange wall.now }
+    requires wall_in { IsSegmentInRange wall.now }
     ensures { result ≡ sight.leaves_wall p q wall.now }
 {
     is_on_middle(p, wall) && lies_left(wall.a, wall.b, q)
@@ -47,7 +41,7 @@ fn leaves_wall(p: Point, q: Point, wall: &Wall) -> bool
 fn enters_wall(p: Point, q: Point, wall: &Wall) -> bool
     requires p_in { InRange p }
     requires q_in { InRange q }
-    requires wall_in { IsWallInRange wall.now }
+    requires wall_in { IsSegmentInRange wall.now }
     ensures { result ≡ sight.enters_wall p q wall.now }
 {
     leaves_wall(p, q, wall) || leaves_wall(q, p, wall)
@@ -58,7 +52,7 @@ fn enters_wall(p: Point, q: Point, wall: &Wall) -> bool
 fn lies_aside(p: Point, q: Point, wall: &Wall) -> bool
     requires p_in { InRange p }
     requires q_in { InRange q }
-    requires wall_in { IsWallInRange wall.now }
+    requires wall_in { IsSegmentInRange wall.now }
     ensures { result ≡ blocks.lies_aside p q wall.now }
 {
     are_alike(orient(p, q, wall.a), orient(p, q, wall.b))
@@ -69,7 +63,7 @@ fn lies_aside(p: Point, q: Point, wall: &Wall) -> bool
 fn wall_blocks(p: Point, q: Point, wall: &Wall) -> bool
     requires p_in { InRange p }
     requires q_in { InRange q }
-    requires wall_in { IsWallInRange wall.now }
+    requires wall_in { IsSegmentInRange wall.now }
     ensures { result ≡ blocks.wall_blocks p q wall.now }
 {
     !lies_aside(p, q, wall) && (crosses(wall.a, wall.b, p, q) || enters_wall(p, q, wall))
@@ -96,7 +90,7 @@ fn corner_blocks(p: Point, q: Point, corner: &Corner) -> bool
 }
 
 fn any_wall_blocks(walls: &[Wall], p: Point, q: Point) -> bool
-    requires walls_in { All IsWallInRange walls.now }
+    requires walls_in { All IsSegmentInRange walls.now }
     requires p_in { InRange p }
     requires q_in { InRange q }
     ensures { result ≡ list_any (blocks.wall_blocks p q) walls.now }
@@ -105,7 +99,7 @@ fn any_wall_blocks(walls: &[Wall], p: Point, q: Point) -> bool
 }
 
 fn any_screen_blocks(screens: &[Wall], p: Point, q: Point) -> bool
-    requires screens_in { All IsWallInRange screens.now }
+    requires screens_in { All IsSegmentInRange screens.now }
     requires p_in { InRange p }
     requires q_in { InRange q }
     ensures { result ≡ list_any (sight.crosses p q) screens.now }
@@ -126,8 +120,8 @@ fn any_corner_blocks(corners: &[Corner], p: Point, q: Point) -> bool
 
 /// Whether something is in the way of the segment from `p` to `q`.
 fn is_blocked(walls: &[Wall], screens: &[Wall], corners: &[Corner], p: Point, q: Point) -> bool
-    requires walls_in { All IsWallInRange walls.now }
-    requires screens_in { All IsWallInRange screens.now }
+    requires walls_in { All IsSegmentInRange walls.now }
+    requires screens_in { All IsSegmentInRange screens.now }
     requires corners_in { All IsCornerInRange corners.now }
     requires p_in { InRange p }
     requires q_in { InRange q }

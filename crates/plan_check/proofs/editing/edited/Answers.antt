@@ -4,8 +4,7 @@ use Rattle.std.proofs.lemmas.Int.{to_z-of_z, fits_signed_from_abs}
 use Rattle.plane_spec.specs.Vectors.{IsWithin}
 use Rattle.exact_geom.proofs.Bounds.{size_within}
 use Rattle.plan_spec.specs.Plan.{with_item}
-use Rattle.plan_spec.specs.Edits.{edited, why_not_edit}
-use Rattle.plan_spec.specs.Edits.{IsShift, HasShift}
+use Rattle.plan_spec.specs.Edits.{IsShift, HasShift, edited, why_not_edit}
 use Rattle.plan_check.proofs.Causes.{new_obstacle, new_screen, new_route}
 use Rattle.plan_check.proofs.editing.edited.Goals.{in-Add+in_ok-points-in-Add+in_ok-add_obstacle-in-Add, in-Remove, in-Move+in_ok-move_obstacle-in-Move, in-AddScreen+in_ok-add_screen-in-AddScreen, in-RemoveScreen, in-AddRoute+in_ok-add_route-in-AddRoute, in-RemoveRoute}
 use Rattle.plan_check.proofs.editing.edited.Goals as goal
