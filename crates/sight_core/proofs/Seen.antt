@@ -3,7 +3,7 @@ use Rattle.std.proofs.Common.{Bool, true, false, List, [], ◌∷◌, ◌++◌, 
 use Rattle.std.specs.Prelude.{All, IsTrue}
 use Rattle.std.specs.List.{flat_map}
 use Rattle.std.proofs.lemmas.Bool.{cond_both}
-use Rattle.std.proofs.lemmas.List.Elements.{All-nil, All-cons, All-head, All-tail, All-append, All-map}
+use Rattle.std.proofs.lemmas.List.Elements.{All-nil, All-cons, All-head, All-tail, All-append, All-map, All-weaker}
 use Rattle.plane_spec.specs.declared.Point.{Point}
 use Rattle.plane_spec.specs.declared.Segment.{Segment}
 use Rattle.plane_spec.specs.declared.Corner.{Corner}
@@ -74,7 +74,7 @@ turned_corner-in_range c h = record { prev = h.next; here = h.here; next = h.pre
 corners_round-in_range : (way : Bool) (points : List Point) → All InRange points → All IsCornerInRange (corners_round way points)
 unfolding corners_round
 corners_round-in_range way points h =
-    let corners = corners_along-in_range (edges_of points) (edges-in_range points h) in
+    let corners = corners_along-in_range (edges_of points) (edges_of-in_range points h) in
     cond_both (goes_round way points) (corners_along (edges_of points)) (map turned_corner (corners_along (edges_of points))) (λ cs. All IsCornerInRange cs)
     (λ _. corners)
     (λ _. All-map IsCornerInRange turned_corner (corners_along (edges_of points)) (All-weaker IsCornerInRange (λ c. IsCornerInRange (turned_corner c)) turned_corner-in_range (corners_along (edges_of points)) corners))
