@@ -10,8 +10,8 @@ use Rattle.report_spec.specs.Replies.{plan_after, replies}
 use Rattle.report_spec.specs.Tables.{edges_table}
 
 -- the replies to the lines of the script, and then the edges of the plan that they leave
-unfoldable pub output_of : Plan → List (List ℕ) → List ℕ
-output_of plan lines = records_bytes Text (replies plan 1 lines ++ edges_table (plan_after plan 1 lines))
+unfoldable pub edges_output_of : Plan → List (List ℕ) → List ℕ
+edges_output_of plan lines = records_bytes Text (replies plan 1 lines ++ edges_table (plan_after plan 1 lines))
 
 -- ---- the bytes of a plan file
 
@@ -31,15 +31,15 @@ pub record IsRefused (bytes : List ℕ) (line : ℕ) (reason : Reason) : Type 0 
 pub record IsAnswered (bytes : List ℕ) (before after : Option (List ℕ)) : Type 0 where
   pub plan : Plan
   pub held : HoldsPlan bytes plan
-  pub written : after ≡ with_end before (output_of plan [])
+  pub written : after ≡ with_end before (edges_output_of plan [])
 
 -- the bytes hold a plan, and a front of its output was written
 pub record IsAnsweredInPart (bytes : List ℕ) (before after : Option (List ℕ)) : Type 0 where
   pub plan : Plan
   pub held : HoldsPlan bytes plan
-  pub written : PutsFront before after (output_of plan [])
+  pub written : PutsFront before after (edges_output_of plan [])
 
 -- a front of the output was written where there is a plan, and nothing where there is none
 abbrev pub WritesAtMost : PlanFound → Option (List ℕ) → Option (List ℕ) → Type 0
-WritesAtMost (Ok plan) before after = PutsFront before after (output_of plan [])
+WritesAtMost (Ok plan) before after = PutsFront before after (edges_output_of plan [])
 WritesAtMost (Err fault) before after = after ≡ before

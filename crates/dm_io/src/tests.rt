@@ -160,11 +160,17 @@ fn a_fault_comes_after_each_whole_line(rt: HostRuntime) -> Result<(), Fail> {
     for (ending, shown) in ENDINGS {
         let text = text_of(rt.alloc(), ending, 1)?;
         for (most, step) in PIECES {
+            let mut past_the_end = false;
             for run in 0..1000u64 {
                 let fault = run.saturating_mul(step);
                 let (reading, taken) = read_with_fault(rt.alloc(), &text, most, fault)?;
                 if reading.end == Next::End {
-                    assert!(rt; taken == text.len() && run > 3, "pieces of {most}");
+                    assert_eq!(rt; reading.shown.len(), shown.len() + 1, "pieces of {most}");
+                    assert!(rt;
+                        reading.shown.starts_with(&shown) && run > 3,
+                        "pieces of {most}"
+                    );
+                    past_the_end = true;
                     break;
                 }
                 assert_eq!(rt; reading.end, Next::Failed, "take {fault} of {most}");
@@ -176,6 +182,7 @@ fn a_fault_comes_after_each_whole_line(rt: HostRuntime) -> Result<(), Fail> {
                     "take {fault} of {most}"
                 );
             }
+            assert!(rt; past_the_end, "pieces of {most}");
         }
     }
     Ok(())

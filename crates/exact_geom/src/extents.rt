@@ -118,7 +118,5 @@ mod tests {
         assert!(rt; meets(&after, &start, 0));
         assert!(rt; meets(&start, &before, -3));
         assert!(rt; !meets(&border, &after, 2));
-        let copied = border;
-        assert!(rt; copied == border);
     }
 }

@@ -15,7 +15,7 @@
 //! | [`turn_order`], [`turn_order_laws`] | the order of directions counterclockwise from (1,0), and that it is one |
 //! | [`box_of`], [`meets_box`] | the least box round points, and which segments meet a box |
 //! | [`Frac`], [`RPoint`] | a fraction in lowest terms, and a point whose coordinates are fractions |
-//! | [`lowest_terms`] | the laws of lowest terms: one form for each value |
+//! | [`lowest_terms`], [`places_are_small`] | the laws of lowest terms: one form for each value; the parts of a point on a ray |
 //! | [`extent_meets_box`] | whether a part of a line meets a box |
 //! | [`types_are_shared`] | every type here may be moved to a thread and shared between threads |
 #![tactic(auto)]
@@ -38,7 +38,7 @@ pub use boxes::{box_of, meets_box};
 pub use directions::{turn_order, turn_order_laws};
 pub use extents::extent_meets_box;
 pub use fractions::{Frac, lowest_terms};
-pub use places::RPoint;
+pub use places::{RPoint, places_are_small};
 pub use plane_spec::{Corner, PlanBox, Point, Segment};
 pub use polygons::{edge, inside, on_border};
 pub use products::{cross, dot, in_range, orient, orient_laws};

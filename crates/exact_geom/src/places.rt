@@ -6,7 +6,9 @@ ghost use Rattle.std.specs.Cmp.{partial_equiv_from_equiv};
 ghost use Rattle.std.specs.Cmp.Rules.{comparing};
 ghost use Rattle.std.proofs.Common.{rules};
 ghost use Rattle.plane_spec.specs.Vectors.{InRange, IsDirection, IsWithin};
+ghost use Rattle.plane_spec.specs.declared.Point.{Point};
 ghost use Rattle.plane_spec.specs.Fractions as fractions;
+ghost use Rattle.plane_spec.specs.Fractions.{Fraction};
 ghost use Rattle.exact_geom.specs.Parts.{HasPartsWithin, HasCoordinatesWithin, same_parts};
 
 use crate::fractions::{Frac, lowest};
@@ -93,6 +95,8 @@ fn shifted(z: i64, d: i64, t: &Frac) -> Frac
 
 impl RPoint {
     /// The point `p + t d`. Its parts are small enough to be compared.
+    ///
+    /// Cost: two greatest common divisors.
     pub fn along(p: Point, d: Point, t: &Frac) -> RPoint
         requires p_in { InRange p }
         requires d_in { IsDirection d }
@@ -106,3 +110,8 @@ impl RPoint {
         }
     }
 }
+
+/// The parts of `p + t d` are at most 10^18 in size, for callers that hold such a point by its definition alone.
+pub fn places_are_small()
+    ensures { (p d : Point) (t : Fraction) → InRange p → IsDirection d → HasPartsWithin (pos (10 ^ 12)) t → HasCoordinatesWithin (pos (10 ^ 18)) (fractions.along p d t) }
+{}
