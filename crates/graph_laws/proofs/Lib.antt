@@ -1,0 +1,5 @@
+pub mod Paths
+pub mod Walks
+pub mod Depths
+pub mod Members
+pub mod Steps
