@@ -1,8 +1,9 @@
 -- The depth that is computed is the least number of edges of a walk, and there is no other.
-use Rattle.std.specs.Prelude.{◌≡◌, ℕ, zero, suc, ◌+◌, ◌<◌, ◌≤◌, Bool, true, false, cond, Option, Some, None}
-use Rattle.std.proofs.Common.{refl, sym, ap, ◌∙◌, inl, inr, arith}
-use Rattle.std.proofs.lemmas.Bool.{cases_eq, cases_lt, cases_Bool, both_ways}
-use Rattle.plan_spec.specs.Graphs.{Graph, Walk, IsDepth, has_walk, first_from, depth_of}
+use Rattle.std.specs.Prelude.{◌≡◌, ℕ, zero, suc, ◌+◌, ◌<◌, ◌≤◌, Bool, true, false, cond, length, get_or, Option, Some, None}
+use Rattle.std.proofs.Common.{refl, sym, ap, ◌∙◌, inl, inr, arith, subst}
+use Rattle.std.proofs.lemmas.Bool.{cases_eq, cases_lt, both_ways}
+use Rattle.std.proofs.lemmas.List.FromFn.{length-map-range_with_len, get_or-map-range_with_len}
+use Rattle.plan_spec.specs.Graphs.{Graph, IsDepth, has_walk, first_from, depth_of, depths_of}
 use Rattle.graph_laws.proofs.Walks.{walk_is_found, found_is_walk, shorter_walk}
 
 -- none of so many numbers from k on passes, or it is the first that does
@@ -15,10 +16,13 @@ later_is_first passes k count None fails first = λ m above below. elim (cases_e
   | inl same ↦ ap passes (sym same) ∙ fails
   | inr other ↦ first m (omega arith) (omega arith)
 ]
-later_is_first passes k count (Some d) fails first = (first.0, λ m above below. elim (cases_eq k m) [
-  | inl same ↦ ap passes (sym same) ∙ fails
-  | inr other ↦ first.1 m (omega arith) (omega arith)
-])
+later_is_first passes k count (Some d) fails first = (
+  first.0,
+  λ m above below. elim (cases_eq k m) [
+    | inl same ↦ ap passes (sym same) ∙ fails
+    | inr other ↦ first.1 m (omega arith) (omega arith)
+  ],
+)
 
 first_is : (passes : ℕ → Bool) (k count : ℕ) → IsFirst passes k count (first_from passes k count)
 first_is passes k zero = λ m above below. absurd (omega arith)
@@ -33,14 +37,24 @@ first_is_depth : (graph : Graph) (i j : ℕ) (d : Option ℕ) → j < graph.coun
 first_is_depth graph i j None node first = λ steps walk.
     let short = shorter_walk graph i j steps node walk in
     both_ways (has_walk graph i j short.0) (first short.0 (omega arith) (omega (arith, short.1))) (walk_is_found graph i j short.0 short.2)
-first_is_depth graph i j (Some d) node first = (found_is_walk graph i j d first.0, λ steps walk. elim (cases_lt steps d) [
-  | inl fewer ↦ absurd (both_ways (has_walk graph i j steps) (first.1 steps (omega arith) fewer) (walk_is_found graph i j steps walk))
-  | inr least ↦ least
-])
+first_is_depth graph i j (Some d) node first = (
+  found_is_walk graph i j d first.0,
+  λ steps walk. elim (cases_lt steps d) [
+    | inl fewer ↦ absurd (both_ways (has_walk graph i j steps) (first.1 steps (omega arith) fewer) (walk_is_found graph i j steps walk))
+    | inr least ↦ least
+  ],
+)
 
 pub least_depth : (graph : Graph) (i j : ℕ) → j < graph.count → IsDepth graph i j (depth_of graph i j)
 unfolding depth_of
 least_depth graph i j node = first_is_depth graph i j (first_from (has_walk graph i j) 0 graph.count) node (first_is (has_walk graph i j) 0 graph.count)
+
+pub one_depth_each : (graph : Graph) (i : ℕ) → length (depths_of graph i) ≡ graph.count
+one_depth_each graph i = length-map-range_with_len (depth_of graph i) 0 graph.count
+
+pub listed_depth : (graph : Graph) (i j : ℕ) → j < graph.count → IsDepth graph i j (get_or (depths_of graph i) j None)
+listed_depth graph i j node =
+    subst (IsDepth graph i j) (sym (get_or-map-range_with_len (depth_of graph i) 0 graph.count j j None node (omega arith))) (least_depth graph i j node)
 
 pub same_depth : (graph : Graph) (i j : ℕ) (a b : Option ℕ) → IsDepth graph i j a → IsDepth graph i j b → a ≡ b
 same_depth graph i j None None g h = refl

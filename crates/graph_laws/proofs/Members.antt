@@ -1,9 +1,9 @@
 -- Elements of lists that are made of others.
-use Rattle.std.specs.Prelude.{◌≡◌, ℕ, zero, suc, ◌+◌, ◌<◌, ◌≤◌, List, [], ◌∷◌, ◌++◌, map, length, get_or}
+use Rattle.std.specs.Prelude.{◌≡◌, ℕ, zero, suc, ◌<◌, List, [], ◌∷◌, map, length, get_or}
 use Rattle.std.specs.List.{Contains, enumerate_from, flat_map}
 use Rattle.std.proofs.Common.{refl, sym, ap, ◌∙◌, ◌⊎◌, inl, inr, arith, subst}
 use Rattle.std.proofs.lemmas.List.{get_or_default}
-use Rattle.std.proofs.lemmas.List.Elements.{Contains-append_left, Contains-append_right, Contains-append_cases}
+use Rattle.std.proofs.lemmas.List.Elements.{Contains-append_right, Contains-append_cases}
 use Rattle.std.proofs.lemmas.List.FromFn.{length-enumerate_from, get_or-enumerate_from}
 
 pub contains_first : {X : Type 0} (x : X) (xs : List X) → Contains (x ∷ xs) x
@@ -31,13 +31,6 @@ mapped_from f [] y h = absurd (contains_none y h)
 mapped_from f (w ∷ xs) y h = elim (first_or_later (f w) (map f xs) y h) [
   | inl first ↦ (w, contains_first w xs, first)
   | inr later ↦ let found = mapped_from f xs y later in (found.0, contains_later w xs found.0 found.1, found.2)
-]
-
-pub contains_among : {X Y : Type 0} (f : X → List Y) (xs : List X) (x : X) (y : Y) → Contains xs x → Contains (f x) y → Contains (flat_map f xs) y
-contains_among f [] x y h i = absurd (contains_none x h)
-contains_among f (w ∷ xs) x y h i = elim (first_or_later w xs x h) [
-  | inl first ↦ Contains-append_left (f w) (flat_map f xs) y (subst (λ z. Contains (f z) y) (sym first) i)
-  | inr later ↦ Contains-append_right (f w) (flat_map f xs) y (contains_among f xs x y later i)
 ]
 
 pub among_from : {X Y : Type 0} (f : X → List Y) (xs : List X) (y : Y) → Contains (flat_map f xs) y → (x : X) × Contains xs x × Contains (f x) y

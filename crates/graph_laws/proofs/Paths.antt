@@ -1,7 +1,7 @@
 -- Paths that meet no place twice: where a path comes back to a place, what lies between is left out.
-use Rattle.std.specs.Prelude.{◌≡◌, ℕ, ◌+◌, ◌<◌, ◌≤◌, Bool, true, false, ◌||◌, List, [], ◌∷◌, map, length, eqb}
+use Rattle.std.specs.Prelude.{◌≡◌, ℕ, ◌+◌, ◌<◌, ◌≤◌, true, false, List, [], ◌∷◌, map, length, eqb}
 use Rattle.std.specs.List.{AllByRecursion, IsDistinct, list_any}
-use Rattle.std.proofs.Common.{refl, sym, ap, ◌∙◌, inl, inr, arith, subst}
+use Rattle.std.proofs.Common.{sym, inl, inr, arith, subst}
 use Rattle.std.proofs.lemmas.Bool.{cases_Bool, or_cases, or_parts, eqb-true}
 use Rattle.std.proofs.lemmas.List.{length-map}
 use Rattle.std.proofs.lemmas.Map.Keys.{IsDistinct-cons, IsDistinct-tail}
@@ -11,11 +11,12 @@ none_distinct : IsDistinct eqb []
 unfolding IsDistinct
 none_distinct = tt
 
--- a number that equals none
+-- where no number equals n, each differs from it
 none_equal : (n : ℕ) (xs : List ℕ) → list_any (eqb n) xs ≡ false → AllByRecursion (λ x. eqb n x ≡ false) xs
 none_equal n [] h = tt
 none_equal n (x ∷ xs) h = let parts = or_parts (eqb n x) (list_any (eqb n) xs) h in (parts.0, none_equal n xs parts.1)
 
+-- places that have numbers, those where a path may start, and which leads to which at what cost
 module _ {X : Type 0} (IsPlace IsStart : X → Type 0) (LeadsTo : X → X → Type 0) (cost : X → X → ℕ) (number : X → ℕ) where
   -- a path to a place, told by the places before it, the last first
   abbrev pub IsPath : X → List X → Type 0
@@ -38,6 +39,7 @@ module _ {X : Type 0} (IsPlace IsStart : X → Type 0) (LeadsTo : X → X → Ty
   end_is_place t [] p = p.0
   end_is_place t (s ∷ before) p = p.0
 
+  -- the path of no step
   pub stays : (t : X) (most : ℕ) → IsPlace t → IsStart t → ShortPath t most
   stays t most place start = record {
     before = [];
@@ -47,7 +49,7 @@ module _ {X : Type 0} (IsPlace IsStart : X → Type 0) (LeadsTo : X → X → Ty
   }
 
   -- of a path that meets a number, the part up to where it meets it
-  pub cut : (n : ℕ) (s : X) (most : ℕ) (before : List X) → IsPath s before → IsDistinct eqb (map number (s ∷ before)) → path_cost s before ≤ most
+  cut : (n : ℕ) (s : X) (most : ℕ) (before : List X) → IsPath s before → IsDistinct eqb (map number (s ∷ before)) → path_cost s before ≤ most
       → list_any (eqb n) (map number (s ∷ before)) ≡ true → (u : X) × (n ≡ number u) × ShortPath u most
   cut n s most [] path apart cheap met = elim (or_cases (eqb n (number s)) false met) [
     | inl here ↦ (s, eqb-true n (number s) here, record { before = []; path = path; apart = apart; cheap = cheap })
@@ -58,8 +60,9 @@ module _ {X : Type 0} (IsPlace IsStart : X → Type 0) (LeadsTo : X → X → Ty
     | inr later ↦ cut n r most before path.1 (IsDistinct-tail eqb (number s) (map number (r ∷ before)) apart) (omega arith) later
   ]
 
+  -- where no two places have one number
   module _ (same : (u t : X) → IsPlace u → IsPlace t → number u ≡ number t → u ≡ t) where
-    -- one step more
+    -- one step more; where it comes back to a place, the path ends there
     pub extend : (s t : X) (most : ℕ) → ShortPath s most → IsPlace t → LeadsTo s t → ShortPath t (most + cost s t)
     extend s t most short place leads = elim (cases_Bool (list_any (eqb (number t)) (map number (s ∷ short.before)))) [
       | inl met ↦
@@ -73,6 +76,7 @@ module _ {X : Type 0} (IsPlace IsStart : X → Type 0) (LeadsTo : X → X → Ty
       }
     ]
 
+  -- where the numbers are below a count
   module _ (count : ℕ) (below : (t : X) → IsPlace t → number t < count) where
     numbers_below : (n : ℕ) (t : X) (before : List X) → IsPath t before → list_any (eqb n) (map number (t ∷ before)) ≡ true → n < count
     numbers_below n t [] path met = elim (or_cases (eqb n (number t)) false met) [

@@ -1,9 +1,9 @@
 -- Walks in a graph: the test for a walk finds each, and a shortest has fewer edges than the graph has nodes.
-use Rattle.std.specs.Prelude.{◌≡◌, ℕ, zero, suc, ◌+◌, ◌<◌, ◌≤◌, Bool, true, false, ◌&&◌, ◌||◌, List, [], ◌∷◌, length, eqb}
+use Rattle.std.specs.Prelude.{◌≡◌, ℕ, zero, suc, ◌+◌, ◌<◌, ◌≤◌, Bool, true, ◌&&◌, List, [], ◌∷◌, length}
 use Rattle.std.specs.List.{list_any, range_with_len}
-use Rattle.std.proofs.Common.{refl, sym, ap, ◌∙◌, inl, inr, arith}
+use Rattle.std.proofs.Common.{sym, ap, ◌∙◌, inl, inr, arith}
 use Rattle.std.proofs.lemmas.Bool.{cases_eq, and_from, and_parts, or_cases, or_left, or_right, eqb-true, eq-eqb}
-use Rattle.plan_spec.specs.Graphs.{Graph, Walk, has_walk, nodes}
+use Rattle.plan_spec.specs.Graphs.{Graph, Walk, has_walk}
 use Rattle.graph_laws.proofs.Paths.{IsPath, ShortPath, end_is_place, stays, extend, few_steps}
 
 -- ---- the test for a walk
@@ -41,6 +41,9 @@ module _ (graph : Graph) (i : ℕ) where
   abbrev IsNode : ℕ → Type 0
   IsNode k = k < graph.count
 
+  abbrev IsBegin : ℕ → Type 0
+  IsBegin k = i ≡ k
+
   abbrev AreJoined : ℕ → ℕ → Type 0
   AreJoined k j = graph.joins k j ≡ true
 
@@ -50,18 +53,21 @@ module _ (graph : Graph) (i : ℕ) where
   abbrev itself : ℕ → ℕ
   itself k = k
 
-  path_of_walk : (j steps : ℕ) → j < graph.count → Walk graph i j steps → ShortPath IsNode (λ k. i ≡ k) AreJoined no_cost itself j 0
-  path_of_walk j zero node walk = stays IsNode (λ k. i ≡ k) AreJoined no_cost itself j 0 node walk
+  path_of_walk : (j steps : ℕ) → j < graph.count → Walk graph i j steps → ShortPath IsNode IsBegin AreJoined no_cost itself j 0
+  path_of_walk j zero node walk = stays IsNode IsBegin AreJoined no_cost itself j 0 node walk
   path_of_walk j (suc steps) node walk =
-      extend IsNode (λ k. i ≡ k) AreJoined no_cost itself (λ u t _ _ e. e) walk.0 j 0 (path_of_walk walk.0 steps (omega (arith, walk.2)) walk.1) node walk.3
+      let before = path_of_walk walk.0 steps (omega (arith, walk.2)) walk.1 in
+      extend IsNode IsBegin AreJoined no_cost itself (λ u t _ _ e. e) walk.0 j 0 before node walk.3
 
-  walk_of_path : (j : ℕ) (before : List ℕ) → IsPath IsNode (λ k. i ≡ k) AreJoined no_cost itself j before → Walk graph i j (length before)
+  walk_of_path : (j : ℕ) (before : List ℕ) → IsPath IsNode IsBegin AreJoined no_cost itself j before → Walk graph i j (length before)
   walk_of_path j [] path = path.1
   walk_of_path j (k ∷ before) path =
-      let node = end_is_place IsNode (λ k. i ≡ k) AreJoined no_cost itself k before path.1 in
+      let node = end_is_place IsNode IsBegin AreJoined no_cost itself k before path.1 in
       (k, walk_of_path k before path.1, omega (arith, node), path.2)
 
+  -- where there is a walk, there is one with fewer edges than the graph has nodes
   pub shorter_walk : (j steps : ℕ) → j < graph.count → Walk graph i j steps → (fewer : ℕ) × (fewer < graph.count) × Walk graph i j fewer
   shorter_walk j steps node walk =
       let short = path_of_walk j steps node walk in
-      (length short.before, few_steps IsNode (λ k. i ≡ k) AreJoined no_cost itself graph.count (λ _ h. h) j 0 short, walk_of_path j short.before short.path)
+      let few = few_steps IsNode IsBegin AreJoined no_cost itself graph.count (λ _ h. h) j 0 short in
+      (length short.before, few, walk_of_path j short.before short.path)
