@@ -9,3 +9,4 @@ pub mod PrintedItems
 pub mod PrintedLengths
 pub mod PrintedText
 pub mod Shifts
+pub mod SoundItems
