@@ -5,3 +5,4 @@ pub mod Along
 pub mod Nearest
 pub mod Sound
 pub mod Seen
+pub mod Counts

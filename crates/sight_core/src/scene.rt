@@ -1,6 +1,6 @@
 //! The walls, screens and corners of an accepted plan.
 
-ghost use Rattle.std.specs.Prelude.{All, IfOk, ◌≡◌};
+ghost use Rattle.std.specs.Prelude.{All, IfOk, length, ◌≡◌, ◌≤◌};
 ghost use Rattle.plan_spec.specs.Scene as scenes;
 ghost use Rattle.plane_spec.specs.Segments.{IsSegmentInRange};
 ghost use Rattle.plane_spec.specs.Cones.{IsCornerInRange};
@@ -38,6 +38,7 @@ impl Scene {
     pub fn walls(&self) -> &[Wall]
         ensures walls { result.now ≡ self.now.walls }
         ensures in_range { All IsSegmentInRange result.now }
+        ensures few { length result.now ≤ 1024 }
         ensures of_plan { IsOfSoundPlan self.now }
     {
         &self.walls
@@ -47,6 +48,7 @@ impl Scene {
     pub fn screens(&self) -> &[Wall]
         ensures screens { result.now ≡ self.now.screens }
         ensures in_range { All IsSegmentInRange result.now }
+        ensures few { length result.now ≤ 256 }
         ensures of_plan { IsOfSoundPlan self.now }
     {
         &self.screens
@@ -56,6 +58,7 @@ impl Scene {
     pub fn corners(&self) -> &[Corner]
         ensures corners { result.now ≡ self.now.corners }
         ensures in_range { All IsCornerInRange result.now }
+        ensures few { length result.now ≤ 1024 }
         ensures of_plan { IsOfSoundPlan self.now }
     {
         &self.corners
