@@ -6,3 +6,4 @@ pub mod Nearest
 pub mod Sound
 pub mod Seen
 pub mod Counts
+pub mod Stops
