@@ -80,6 +80,8 @@ fn nearest_of(scene: &Scene, p: Point, d: Point) -> Option<Hit>
 /// with what is blocked ahead. `None` exactly where nothing stops it.
 ///
 /// Cost: two passes over the walls and one over the screens and corners, and the reduction of one fraction.
+///
+/// Source: the rays of an isovist after Benedikt (1979); the rules at corners and at the beginning are this project's own.
 #[tactic(auto, unfolding(plan_spec::specs::Stops::stop_of))]
 pub fn stop(scene: &Scene, p: Point, d: Point) -> Option<Frac>
     requires p_in { InRange p }

@@ -34,7 +34,7 @@ impl Model for Scene {
 }
 
 impl Scene {
-    /// The walls, directed so that what is blocked lies on their left.
+    /// The walls, directed so that what is blocked lies on their left: at most 1024.
     pub fn walls(&self) -> &[Wall]
         ensures walls { result.now ≡ self.now.walls }
         ensures in_range { All IsSegmentInRange result.now }
@@ -44,7 +44,7 @@ impl Scene {
         &self.walls
     }
 
-    /// The screens, each from its first end to its second.
+    /// The screens, each from its first end to its second: at most 256.
     pub fn screens(&self) -> &[Wall]
         ensures screens { result.now ≡ self.now.screens }
         ensures in_range { All IsSegmentInRange result.now }
@@ -54,7 +54,7 @@ impl Scene {
         &self.screens
     }
 
-    /// The corners between the walls, and then the ends of the screens.
+    /// The corners between the walls, and then the ends of the screens: at most 1024.
     pub fn corners(&self) -> &[Corner]
         ensures corners { result.now ≡ self.now.corners }
         ensures in_range { All IsCornerInRange result.now }
