@@ -1,5 +1,5 @@
 -- A sound plan has few walls, screens and corners.
-use Rattle.std.proofs.Common.{◌≡◌, ◌≤◌, ◌+◌, ◌*◌, ℕ, suc, Bool, true, false, List, [], ◌∷◌, ◌++◌, length, map, refl, sym, ap, ◌∙◌, arith}
+use Rattle.std.proofs.Common.{◌≡◌, ◌≤◌, ◌+◌, ◌*◌, ℕ, suc, Bool, true, false, List, [], ◌∷◌, ◌++◌, length, map, refl, ap, ◌∙◌, arith}
 use Rattle.std.specs.Prelude.{IsTrue, if◌then◌else◌}
 use Rattle.std.specs.List.{flat_map, sum_by}
 use Rattle.std.proofs.lemmas.List.{length-map, length-append}
@@ -9,7 +9,7 @@ use Rattle.plane_spec.specs.declared.Segment.{Segment}
 use Rattle.plane_spec.specs.Polygons.{edges_of}
 use Rattle.exact_geom.proofs.Edges.{length-edges_of}
 use Rattle.plan_spec.specs.declared.kinds.Screen.{Screen}
-use Rattle.plan_spec.specs.Plan.{Obstacle, Plan, corner_count, corners_of_obstacle_count}
+use Rattle.plan_spec.specs.Plan.{Plan, corner_count, corners_of_obstacle_count}
 use Rattle.plan_spec.specs.Accepted.{is_sound}
 use Rattle.plan_spec.specs.Scene.{Scene, turned_edge, goes_round, walls_round, walls_of_obstacle, walls_of, segment_of_screen, screens_of, corners_after, last_edge, corners_along, turned_corner, corners_round, corners_of_obstacle, ends_of_screen, corners_of}
 use Rattle.plan_laws.proofs.Ranges.{sound_limits}
