@@ -31,15 +31,3 @@ next_screen_in plan k s rest sound next = next_of_all (λ s. IsLineInRange s.fro
 
 pub next_route_in : (plan : Plan) (k : ℕ) (r : Route) (rest : List Route) → IsTrue (is_sound plan) → drop k plan.routes ≡ r ∷ rest → IsLineInRange r.from r.to
 next_route_in plan k r rest sound next = next_of_all (λ r. IsLineInRange r.from r.to) plan.routes k r rest next (sound_routes plan sound)
-
--- what holds of each part holds of the parts joined
-joined_in : {X : Type 0} (P : Point → Type 0) (f : X → List Point) (xs : List X) → All (λ x. All P (f x)) xs → All P (flat_map f xs)
-joined_in P f [] all = All-nil P
-joined_in P f (x ∷ xs) all =
-    All-append P (f x) (flat_map f xs) (All-head (λ x. All P (f x)) x xs all) (joined_in P f xs (All-tail (λ x. All P (f x)) x xs all))
-
--- the points of the obstacle of a name are in range
-pub named_points_in : (plan : Plan) (name : List ℕ) → IsTrue (is_sound plan) → All InRange (points_named name plan.obstacles)
-named_points_in plan name sound =
-    joined_in InRange (λ (o : Obstacle). o.points) (filter (is_obstacle_named name) plan.obstacles)
-    (All-filter (is_obstacle_named name) (λ (o : Obstacle). All InRange o.points) plan.obstacles (obstacles_in_range plan sound))
