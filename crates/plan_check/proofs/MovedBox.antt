@@ -1,13 +1,10 @@
 -- The least box of points that are moved is the box moved.
-use Rattle.std.specs.Prelude.{◌≡◌, ℤ, pos, ◌+ℤ◌, Bool, true, false, cond, int_lt, List, [], ◌∷◌, map, Some, All}
+use Rattle.std.specs.Prelude.{◌≡◌, ℤ, ◌+ℤ◌, Bool, true, false, cond, int_lt, List, [], ◌∷◌, map, Some}
 use Rattle.std.specs.Option.{option_map}
 use Rattle.std.specs.Int.{int_min, int_max}
 use Rattle.std.proofs.Common.{refl, ap, ◌∙◌}
-use Rattle.std.proofs.lemmas.Option.{same_Some}
-use Rattle.std.proofs.lemmas.List.Elements.{All-head, All-tail}
 use Rattle.plane_spec.specs.declared.Point.{Point}
 use Rattle.plane_spec.specs.declared.PlanBox.{PlanBox}
-use Rattle.plane_spec.specs.Vectors.{IsWithin, InRange}
 use Rattle.plane_spec.specs.Boxes.{with_point, with_points, box_of_points}
 use Rattle.plan_spec.specs.Edits.{shifted_point}
 use Rattle.plan_laws.proofs.Shifts.{lt_shifted}

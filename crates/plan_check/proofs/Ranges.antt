@@ -1,18 +1,16 @@
 -- The parts of a sound plan are in range, one after the other.
-use Rattle.std.specs.Prelude.{◌≡◌, ℕ, ◌<◌, IsTrue, List, [], ◌∷◌, drop, filter, length}
-use Rattle.std.specs.List.{All, flat_map}
+use Rattle.std.specs.Prelude.{◌≡◌, ℕ, ◌<◌, IsTrue, List, ◌∷◌, drop, length}
+use Rattle.std.specs.List.{All}
 use Rattle.std.proofs.Common.{ap, add-zero, arith, get_or, subst, sym}
 use Rattle.std.proofs.lemmas.List.{get_or-drop, length-drop}
-use Rattle.std.proofs.lemmas.List.Elements.{All-nil, All-append, All-filter, All-head, All-tail}
 use Rattle.plane_spec.specs.declared.Point.{Point}
 use Rattle.plane_spec.specs.Vectors.{InRange}
 use Rattle.plan_spec.specs.declared.kinds.Screen.{Screen}
 use Rattle.plan_spec.specs.declared.kinds.Route.{Route}
-use Rattle.plan_spec.specs.Plan.{Obstacle, Plan, is_obstacle_named}
-use Rattle.plan_spec.specs.Edits.{points_named}
+use Rattle.plan_spec.specs.Plan.{Obstacle, Plan}
 use Rattle.plan_spec.specs.Accepted.{is_sound}
 use Rattle.plan_laws.specs.Ranges.{IsLineInRange, IsPolygonInRange}
-use Rattle.plan_laws.proofs.Ranges.{obstacles_in_range, sound_obstacles, sound_screens, sound_routes}
+use Rattle.plan_laws.proofs.Ranges.{sound_obstacles, sound_screens, sound_routes}
 
 -- what holds of all elements holds of the next
 pub next_of_all : {X : Type 0} (P : X → Type 0) (xs : List X) (k : ℕ) (x : X) (rest : List X) → drop k xs ≡ x ∷ rest → All P xs → P x

@@ -1,7 +1,7 @@
 -- The box of points in range is in range, and so are the boxes of an edit that isn't refused.
 use Rattle.std.specs.Prelude.{◌≡◌, ℕ, ℤ, pos, Bool, true, false, ◌&&◌, not, cond, IfSome, is_none, int_lt, List, [], ◌∷◌, ◌++◌, map, filter, None}
 use Rattle.std.specs.List.{All, flat_map, list_all, list_any}
-use Rattle.std.proofs.Common.{refl, sym, ◌∙◌}
+use Rattle.std.proofs.Common.{sym, ◌∙◌}
 use Rattle.std.proofs.lemmas.Bool.{and_parts}
 use Rattle.std.proofs.lemmas.List.Elements.{All-nil, All-cons, All-append, All-filter, All-head, All-tail, All-weaker}
 use Rattle.plane_spec.specs.declared.Point.{Point}
