@@ -1,5 +1,5 @@
 -- The options that the words of the command give.
-use Rattle.std.specs.Prelude.{ℕ, Bool, true, List, [], ◌∷◌, Option, Some, None, codes, bytes_eq, if◌then◌else◌}
+use Rattle.std.specs.Prelude.{ℕ, true, List, [], ◌∷◌, Option, Some, None, codes, bytes_eq, if◌then◌else◌, option_and_then}
 use Rattle.clap.specs.Words.{App, Shape, Row, Rule, new_app, new_rule, with_rule, matches_of, takes}
 use Rattle.clap.specs.declared.builder.action.ArgAction.TheVariants.{Set}
 use Rattle.report_spec.specs.Output.{Options, Given, options_of}
@@ -12,6 +12,7 @@ option_rule name letter = record (new_rule name) { long = Some name; short = let
 abbrev pub plain_shape : Shape → Shape
 plain_shape s = record s { no_binary_name = true; disable_help_flag = true; disable_version_flag = true }
 
+-- the command with that shape, whatever else it has
 abbrev pub plain_app : App → App
 plain_app a = record a { top = plain_shape a.top }
 
@@ -28,15 +29,17 @@ command =
     (option_rule (codes "format") None))
     (option_rule (codes "number") None)
 
--- the first value of the option of a name
+-- the first of some texts
 abbrev pub first_text : List (List ℕ) → Option (List ℕ)
 first_text [] = None
 first_text (text ∷ texts) = Some text
 
+-- the text that was given for the option of a name, where one was
 abbrev pub text_given : List Row → List ℕ → Option (List ℕ)
 text_given [] name = None
 text_given (row ∷ rows) name = if bytes_eq row.id name then first_text row.values else text_given rows name
 
+-- the texts of the five options
 abbrev pub given_by : List Row → Given
 given_by rows =
     record {
@@ -47,6 +50,10 @@ given_by rows =
       number = text_given rows (codes "number");
     }
 
+-- the texts that the words give for the options, where the command takes the words
+unfoldable pub given_in : List (List ℕ) → Option Given
+given_in words = if takes command words then Some (given_by (matches_of command words)) else None
+
 -- the options, where the command takes the words and their texts stand for some
 unfoldable pub options_in : List (List ℕ) → Option Options
-options_in words = if takes command words then options_of (given_by (matches_of command words)) else None
+options_in words = option_and_then options_of (given_in words)
