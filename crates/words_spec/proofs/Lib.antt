@@ -1,1 +1,3 @@
 mod CommandExamples
+pub mod NoFault
+pub mod Parses

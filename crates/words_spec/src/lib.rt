@@ -3,3 +3,6 @@
 //! The definition stands in `specs/CommandWords.antt`. It is a crate of its own so that nothing but the program's top
 //! crate stands on `clap`.
 #![tactic(auto)]
+
+#[cfg(test)]
+mod tests;
