@@ -110,6 +110,7 @@ settle_ok c again h = go h.pending
     used_ok : (found : Option Rule) (vs : List Text) → option_map_or (λ a. use_fault again a vs h.rows) found [] ≡ [] → option_map_or (λ a. use_passes again a vs h.rows) found true ≡ true
     used_ok None vs e = refl
     used_ok (Some a) vs e = use_ok again a vs h.rows e
+
     go : (p : Option (Text × List Text)) → option_map_or (λ p. option_map_or (λ a. use_fault again a p.1 h.rows) (arg_by_id c p.0) []) p [] ≡ []
         → option_map_or (λ p. option_map_or (λ a. use_passes again a p.1 h.rows) (arg_by_id c p.0) true) p true ≡ true
     go None e = refl
@@ -215,6 +216,7 @@ turn_ok s names w word = go (is_some w.stopped)
   where
     met : Held × Step
     met = word_met s.rules names w.is_trailing w.waiting w.position word w.held
+
     go : (stopped : Bool) → cond stopped [] (or_else (word_fault s names w.is_trailing w.waiting word w.held) (step_fault s w.position met.0 met.1)) ≡ []
         → (stopped || (word_passes s names w.is_trailing w.waiting word w.held && step_passes s w.position met.0 met.1)) ≡ true
     go true e = refl

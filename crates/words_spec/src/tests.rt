@@ -26,11 +26,11 @@ impl<'a> Model for Texts<'a> {
     ghost Value = { Given };
 
     ghost view = { λ a. record {
-        mode = option_map (λ text. text.now) a.mode;
-        file = option_map (λ text. text.now) a.file;
-        workers = option_map (λ text. text.now) a.workers;
-        format = option_map (λ text. text.now) a.format;
-        number = option_map (λ text. text.now) a.number;
+      mode = option_map (λ text. text.now) a.mode;
+      file = option_map (λ text. text.now) a.file;
+      workers = option_map (λ text. text.now) a.workers;
+      format = option_map (λ text. text.now) a.format;
+      number = option_map (λ text. text.now) a.number;
     } };
 }
 

@@ -19,6 +19,6 @@ returns-in-Err-2-clause-texts c =
     let app = app_of c.in_ok-five_options.field-0 in
     let words = map (λ word. word.now) c.args.words.now in
     refused_give_none app words is (λ taken.
-        let no_memory = c.kind.ensures ∙ c.in-Err.ensures.passes taken in
-        let same = rw no_memory at c.eq.ensures in
-        true≢false (sym same ∙ c.if-eq.false))
+    let no_memory = c.kind.ensures ∙ c.in-Err.ensures.passes taken in
+    let same = rw no_memory at c.eq.ensures in
+    true≢false (sym same ∙ c.if-eq.false))
