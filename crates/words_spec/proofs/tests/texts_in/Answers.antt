@@ -1,4 +1,4 @@
-use Rattle.std.proofs.Common.{◌≡◌, ◌∙◌, refl, Some, List, [], ◌∷◌, ℕ, Bool, true, false, codes, cond, slice_get, find, option_and_then}
+use Rattle.std.proofs.Common.{◌≡◌, ◌∙◌, refl, Some, List, [], ◌∷◌, Bool, true, false, codes, cond, slice_get, find, option_and_then}
 use Rattle.std.specs.Str.{bytes_eq}
 use Rattle.clap.specs.Words.{Row, Text, first_of, found_of, rows_of}
 use Rattle.clap.proofs.WalkLemmas.{first_value-rows}
@@ -13,6 +13,7 @@ first_is_given (row ∷ rows) name = go (bytes_eq row.id name) (first_is_given r
     first_is : (texts : List Text) → slice_get texts 0 ≡ first_text texts
     first_is [] = refl
     first_is (text ∷ texts) = refl
+
     go : (b : Bool) → first_of name rows ≡ text_given rows name
         → option_and_then (λ (r : Row). slice_get r.values 0) (cond b (Some row) (find (λ r. bytes_eq r.id name) rows)) ≡ cond b (first_text row.values) (text_given rows name)
     go true rest = first_is row.values

@@ -1,4 +1,4 @@
-use Rattle.std.proofs.Common.{◌∙◌, ap, sym, map, true≢false, Some}
+use Rattle.std.proofs.Common.{◌≡◌, ◌∙◌, ap, sym, map, true, false, true≢false, Some}
 use Rattle.clap.specs.Words.{app_of, found_of, rows_of}
 use Rattle.words_spec.proofs.Parses.{is_free_command, is_simple_command, matches_are_given, refused_give_none}
 use Rattle.words_spec.proofs.tests.texts_of.Goals as goal
@@ -19,6 +19,6 @@ returns-in-Err-2-clause-texts c =
     let app = app_of c.in_ok-five_options.field-0 in
     let words = map (λ word. word.now) c.args.words.now in
     refused_give_none app words is (λ taken.
-        let no_memory = c.kind.ensures ∙ c.in-Err.ensures.passes taken in
-        let same = rw no_memory at c.eq.ensures in
-        true≢false (sym same ∙ c.if-eq.false))
+    let no_memory = c.kind.ensures ∙ c.in-Err.ensures.passes taken in
+    let same : false ≡ true = rw (no_memory, c.if-eq.false) at c.eq.ensures in
+    true≢false (sym same))
