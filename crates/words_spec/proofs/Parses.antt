@@ -5,6 +5,7 @@ use Rattle.clap.specs.Words.{App, Row, Text, fault_of, is_simple, is_simple_and_
 use Rattle.words_spec.specs.CommandWords.{command, given_by, given_in}
 use Rattle.words_spec.proofs.NoFault.{no_fault_takes}
 
+-- clap states its matches and its faults of such a command
 pub is_simple_command : (a : App) → a ≡ command → is_simple a ≡ true
 is_simple_command a is = ap is_simple is
 
