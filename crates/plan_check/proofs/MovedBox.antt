@@ -1,19 +1,14 @@
--- The least box of points that are moved is the box moved, and the box of points in range is in range.
-use Rattle.std.specs.Prelude.{◌≡◌, ℤ, pos, ◌+ℤ◌, Bool, true, false, cond, int_lt, List, [], ◌∷◌, map, Some, All}
+-- The least box of points that are moved is the box moved.
+use Rattle.std.specs.Prelude.{◌≡◌, ℤ, ◌+ℤ◌, Bool, true, false, cond, int_lt, List, [], ◌∷◌, map, Some}
 use Rattle.std.specs.Option.{option_map}
 use Rattle.std.specs.Int.{int_min, int_max}
 use Rattle.std.proofs.Common.{refl, ap, ◌∙◌}
-use Rattle.std.proofs.lemmas.Option.{same_Some}
-use Rattle.std.proofs.lemmas.List.Elements.{All-head, All-tail}
 use Rattle.plane_spec.specs.declared.Point.{Point}
 use Rattle.plane_spec.specs.declared.PlanBox.{PlanBox}
-use Rattle.plane_spec.specs.Vectors.{IsWithin, InRange}
 use Rattle.plane_spec.specs.Boxes.{with_point, with_points, box_of_points}
 use Rattle.plan_spec.specs.Edits.{shifted_point}
 use Rattle.plan_laws.proofs.Shifts.{lt_shifted}
 use Rattle.plan_check.specs.Shifts.{shifted_box}
-
--- ---- moved
 
 either_shifted : (t : Bool) (a b d : ℤ) → cond t (a +ℤ d) (b +ℤ d) ≡ cond t a b +ℤ d
 either_shifted true a b d = refl
@@ -39,38 +34,3 @@ with_points_shifted dx dy area (p ∷ points) =
 pub box_shifted : (dx dy : ℤ) (points : List Point) → box_of_points (map (shifted_point dx dy) points) ≡ option_map (shifted_box dx dy) (box_of_points points)
 box_shifted dx dy [] = refl
 box_shifted dx dy (p ∷ points) = ap Some (with_points_shifted dx dy (record { low = p; high = p }) points)
-
--- ---- in range
-
-pub record IsBoxInRange (area : PlanBox) : Type 0 where
-  pub low : InRange area.low
-  pub high : InRange area.high
-
-either_within : (t : Bool) (a b : ℤ) → IsWithin (pos 100000) a → IsWithin (pos 100000) b → IsWithin (pos 100000) (cond t a b)
-either_within true a b h k = h
-either_within false a b h k = k
-
-with_point_in : (area : PlanBox) (p : Point) → IsBoxInRange area → InRange p → IsBoxInRange (with_point area p)
-with_point_in area p area_in p_in = record {
-  low = record {
-    x = either_within (int_lt p.x area.low.x) p.x area.low.x p_in.x area_in.low.x;
-    y = either_within (int_lt p.y area.low.y) p.y area.low.y p_in.y area_in.low.y;
-  };
-  high = record {
-    x = either_within (int_lt p.x area.high.x) area.high.x p.x area_in.high.x p_in.x;
-    y = either_within (int_lt p.y area.high.y) area.high.y p.y area_in.high.y p_in.y;
-  };
-}
-
-with_points_in : (area : PlanBox) (points : List Point) → IsBoxInRange area → All InRange points → IsBoxInRange (with_points area points)
-unfolding with_points
-with_points_in area [] area_in all = area_in
-with_points_in area (p ∷ points) area_in all =
-    with_points_in (with_point area p) points (with_point_in area p area_in (All-head InRange p points all)) (All-tail InRange p points all)
-
-pub box_in_range : (points : List Point) (area : PlanBox) → All InRange points → box_of_points points ≡ Some area → IsBoxInRange area
-box_in_range [] area all e = cc
-box_in_range (p ∷ points) area all e =
-    let p_in = All-head InRange p points all in
-    let whole = with_points_in (record { low = p; high = p }) points (record { low = p_in; high = p_in }) (All-tail InRange p points all) in
-    rw (← same_Some _ area e) whole

@@ -1,18 +1,16 @@
 -- The parts of a sound plan are in range, one after the other.
-use Rattle.std.specs.Prelude.{◌≡◌, ℕ, ◌<◌, IsTrue, List, [], ◌∷◌, drop, filter, length}
-use Rattle.std.specs.List.{All, flat_map}
+use Rattle.std.specs.Prelude.{◌≡◌, ℕ, ◌<◌, IsTrue, List, ◌∷◌, drop, length}
+use Rattle.std.specs.List.{All}
 use Rattle.std.proofs.Common.{ap, add-zero, arith, get_or, subst, sym}
 use Rattle.std.proofs.lemmas.List.{get_or-drop, length-drop}
-use Rattle.std.proofs.lemmas.List.Elements.{All-nil, All-append, All-filter, All-head, All-tail}
 use Rattle.plane_spec.specs.declared.Point.{Point}
 use Rattle.plane_spec.specs.Vectors.{InRange}
 use Rattle.plan_spec.specs.declared.kinds.Screen.{Screen}
 use Rattle.plan_spec.specs.declared.kinds.Route.{Route}
-use Rattle.plan_spec.specs.Plan.{Obstacle, Plan, is_obstacle_named}
-use Rattle.plan_spec.specs.Edits.{points_named}
+use Rattle.plan_spec.specs.Plan.{Obstacle, Plan}
 use Rattle.plan_spec.specs.Accepted.{is_sound}
 use Rattle.plan_laws.specs.Ranges.{IsLineInRange, IsPolygonInRange}
-use Rattle.plan_laws.proofs.Ranges.{obstacles_in_range, sound_obstacles, sound_screens, sound_routes}
+use Rattle.plan_laws.proofs.Ranges.{sound_obstacles, sound_screens, sound_routes}
 
 -- what holds of all elements holds of the next
 pub next_of_all : {X : Type 0} (P : X → Type 0) (xs : List X) (k : ℕ) (x : X) (rest : List X) → drop k xs ≡ x ∷ rest → All P xs → P x
@@ -31,15 +29,3 @@ next_screen_in plan k s rest sound next = next_of_all (λ s. IsLineInRange s.fro
 
 pub next_route_in : (plan : Plan) (k : ℕ) (r : Route) (rest : List Route) → IsTrue (is_sound plan) → drop k plan.routes ≡ r ∷ rest → IsLineInRange r.from r.to
 next_route_in plan k r rest sound next = next_of_all (λ r. IsLineInRange r.from r.to) plan.routes k r rest next (sound_routes plan sound)
-
--- what holds of each part holds of the parts joined
-joined_in : {X : Type 0} (P : Point → Type 0) (f : X → List Point) (xs : List X) → All (λ x. All P (f x)) xs → All P (flat_map f xs)
-joined_in P f [] all = All-nil P
-joined_in P f (x ∷ xs) all =
-    All-append P (f x) (flat_map f xs) (All-head (λ x. All P (f x)) x xs all) (joined_in P f xs (All-tail (λ x. All P (f x)) x xs all))
-
--- the points of the obstacle of a name are in range
-pub named_points_in : (plan : Plan) (name : List ℕ) → IsTrue (is_sound plan) → All InRange (points_named name plan.obstacles)
-named_points_in plan name sound =
-    joined_in InRange (λ (o : Obstacle). o.points) (filter (is_obstacle_named name) plan.obstacles)
-    (All-filter (is_obstacle_named name) (λ (o : Obstacle). All InRange o.points) plan.obstacles (obstacles_in_range plan sound))

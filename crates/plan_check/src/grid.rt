@@ -7,6 +7,14 @@ ghost use Rattle.plan_spec.specs.Accepted as accepted;
 
 use plan_spec::GridSpec;
 
+const LEAST_COORDINATE: i128 = -100_000;
+
+const MOST_COORDINATE: i128 = 100_000;
+
+const MOST_STEP: i64 = 999_999_999;
+
+const MOST_POINTS: i128 = 4096;
+
 /// The product, which always fits twice as many bits.
 fn product(a: i64, b: i64) -> i128
     ensures value { result ≡ a *ℤ b }
@@ -42,7 +50,7 @@ fn last_coordinate(first: i64, step: i64, count: i64) -> i128
 fn is_coordinate(z: i128) -> bool
     ensures { result ≡ vectors.is_coordinate z }
 {
-    -100_000 <= z && z <= 100_000
+    LEAST_COORDINATE <= z && z <= MOST_COORDINATE
 }
 
 /// Whether the first and the last of `count` coordinates are in range.
@@ -65,7 +73,7 @@ fn has_points(grid: GridSpec) -> bool
     ensures cols { OnTrue result (pos 1 ≤ℤ grid.cols) }
     ensures rows { OnTrue result (pos 1 ≤ℤ grid.rows) }
 {
-    is_from_one(999_999_999, grid.step) && 1 <= grid.cols && 1 <= grid.rows
+    is_from_one(MOST_STEP, grid.step) && 1 <= grid.cols && 1 <= grid.rows
 }
 
 /// Whether the step is from 1 to 999999999, there is at least one column and one row, and all points are in range.
@@ -83,5 +91,5 @@ pub(crate) fn is_grid_in_range(grid: GridSpec) -> bool
 pub(crate) fn is_grid_small(grid: GridSpec) -> bool
     ensures { result ≡ accepted.is_grid_small grid }
 {
-    product(grid.cols, grid.rows) <= 4096
+    product(grid.cols, grid.rows) <= MOST_POINTS
 }

@@ -5,6 +5,7 @@ ghost use Rattle.plan_spec.specs.Accepted.{is_sound};
 ghost use Rattle.plan_spec.specs.Plan.{is_route_named, items_of};
 ghost use Rattle.plan_spec.specs.Refusals.{checked};
 ghost use Rattle.plan_spec.specs.Edits.{HasShift, changed_boxes, edited, why_not_edit};
+ghost use Rattle.plan_laws.specs.Ranges.{AreBoxesInRange};
 ghost use Rattle.plan_check.specs.Faults.{IfRefused};
 ghost use Rattle.plan_check.specs.Kept.{obstacle_at};
 
@@ -155,10 +156,11 @@ impl Plan {
     }
 
     /// The boxes of the obstacle, or of the screen's ends, before and after the edit, where there is one; a route has
-    /// none. The shift of a move has at most nine digits.
+    /// none. Where nothing refuses the edit they are in range. The shift of a move has at most nine digits.
     pub fn changed(&self, edit: &Edit) -> Changed
         requires shift { HasShift edit.now }
-        ensures { result ≡ changed_boxes self.now edit.now }
+        ensures boxes { result ≡ changed_boxes self.now edit.now }
+        ensures in_range { why_not_edit self.now edit.now ≡ None → AreBoxesInRange result }
     {
         changed_boxes(&self.draft, edit)
     }

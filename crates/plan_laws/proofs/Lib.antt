@@ -10,4 +10,5 @@ pub mod Shifts
 pub mod Meeting
 pub mod Names
 pub mod Edits
+pub mod Boxes
 pub mod Again

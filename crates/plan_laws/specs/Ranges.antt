@@ -1,9 +1,11 @@
 -- What the numbers of a plan are within, as premises of what is computed with them.
-use Rattle.std.specs.Prelude.{◌≤◌, ◌≡◌, List, length, ℤ, pos, ◌+ℤ◌, ◌-ℤ◌, ◌*ℤ◌, ◌≤ℤ◌, false}
+use Rattle.std.specs.Prelude.{◌≤◌, ◌≡◌, IfSome, List, length, ℤ, pos, ◌+ℤ◌, ◌-ℤ◌, ◌*ℤ◌, ◌≤ℤ◌, false}
 use Rattle.std.specs.List.{All}
 use Rattle.plane_spec.specs.declared.Point.{Point}
+use Rattle.plane_spec.specs.declared.PlanBox.{PlanBox}
 use Rattle.plane_spec.specs.Vectors.{IsWithin, InRange, same_point}
 use Rattle.plan_spec.specs.declared.kinds.GridSpec.{GridSpec}
+use Rattle.plan_spec.specs.declared.changes.Changed.{Changed}
 use Rattle.plan_spec.specs.Plan.{Plan, corner_count}
 
 -- at least three points and at most 1024, all in range
@@ -17,6 +19,16 @@ pub record IsLineInRange (from to : Point) : Type 0 where
   pub from_in : InRange from
   pub to_in : InRange to
   pub apart : same_point from to ≡ false
+
+-- both corners are in range
+pub record IsBoxInRange (area : PlanBox) : Type 0 where
+  pub low : InRange area.low
+  pub high : InRange area.high
+
+-- the box before an edit and the one after it are in range, where there is one
+pub record AreBoxesInRange (boxes : Changed) : Type 0 where
+  pub first : IfSome boxes.first IsBoxInRange
+  pub second : IfSome boxes.second IsBoxInRange
 
 -- z is from low to high
 pub record IsFromTo (low high z : ℤ) : Type 0 where

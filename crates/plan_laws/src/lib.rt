@@ -8,6 +8,7 @@
 //! | [`checking_items`] | adding items one after the other accepts what the condition on the whole list accepts |
 //! | [`the_ranges_of_a_sound_plan`] | its points are in range, and no limit is passed |
 //! | [`editing_a_sound_plan`] | an edit is refused exactly where it names nothing or the plan after it would not be sound |
+//! | [`the_boxes_of_an_edit`] | where nothing refuses the edit, they are in range |
 //! | [`the_items_of_a_plan`] | the items of a sound plan are accepted and make that plan again |
 //!
 //! Proofs of code cite the laws by the lemmas in `proofs/`, which state them kind by kind.
@@ -24,11 +25,11 @@ ghost use Rattle.plan_spec.specs.declared.kinds.Item.TheVariants.{Outer};
 ghost use Rattle.plan_spec.specs.Plan.{Plan, empty_plan, has_outer, items_of, with_item, with_items};
 ghost use Rattle.plan_spec.specs.Accepted.{is_accepted, is_sound};
 ghost use Rattle.plan_spec.specs.Refusals.{checked, why_not_item};
-ghost use Rattle.plan_spec.specs.Edits.{edited, why_not_edit};
+ghost use Rattle.plan_spec.specs.Edits.{changed_boxes, edited, why_not_edit};
 ghost use Rattle.plan_spec.specs.Grid.{grid_points};
 ghost use Rattle.plan_laws.specs.Named.{is_there};
 ghost use Rattle.plan_laws.specs.Order.{may_follow};
-ghost use Rattle.plan_laws.specs.Ranges.{IsGridInRange, IsLineInRange, IsPolygonInRange, IsWithinLimits};
+ghost use Rattle.plan_laws.specs.Ranges.{AreBoxesInRange, IsGridInRange, IsLineInRange, IsPolygonInRange, IsWithinLimits};
 
 /// An item may follow and leaves a sound plan exactly where the plan is sound and nothing refuses the item. The outer
 /// polygon by itself is a sound plan exactly where nothing refuses it on the empty plan.
@@ -66,6 +67,11 @@ pub fn the_ranges_of_a_sound_plan()
 pub fn editing_a_sound_plan()
     ensures refused { (p : Plan) (e : Edit) → is_sound p ≡ true → is_none (why_not_edit p e) ≡ (is_there p e && is_sound (edited p e)) }
     ensures sound { (p : Plan) (e : Edit) → is_sound p ≡ true → why_not_edit p e ≡ None → is_sound (edited p e) ≡ true }
+{}
+
+/// The boxes in which an edit of a sound plan changes something are in range, where nothing refuses the edit.
+pub fn the_boxes_of_an_edit()
+    ensures { (p : Plan) (e : Edit) → is_sound p ≡ true → why_not_edit p e ≡ None → AreBoxesInRange (changed_boxes p e) }
 {}
 
 /// The items of any plan make that plan. They are accepted exactly where the plan is sound, and then checking them gives

@@ -9,29 +9,29 @@ use std::alloc::Global;
 use std::test::Fail;
 use text_spec::Name;
 
-/// What a row of a table stands for. Its numbers are pairs: points, corners of a box, a shift, the ends of a line; for a
-/// grid the step beside 0, the first point, the columns beside the rows.
-#[derive(Clone, Copy)]
-enum Form {
-    Outer,
-    Grid,
-    Polygon,
-    Box,
-    Move,
-    Remove,
-    Screen,
-    RemoveScreen,
-    Route,
-    RemoveRoute,
-}
+type Pair = (i64, i64);
 
-type Row = (Form, &'static str, &'static [(i64, i64)]);
+/// A row of a table: an item, an edit, or both. Those with a name begin with it; a box has its low and its high corner, a
+/// line its ends, a move its shift, and a grid its step, its first point, and its columns beside its rows.
+#[derive(Clone, Copy)]
+enum Row {
+    Outer(&'static [Pair]),
+    Grid(i64, Pair, Pair),
+    Polygon(&'static str, &'static [Pair]),
+    Box(&'static str, Pair, Pair),
+    Move(&'static str, i64, i64),
+    Remove(&'static str),
+    Screen(&'static str, Pair, Pair),
+    RemoveScreen(&'static str),
+    Route(&'static str, Pair, Pair),
+    RemoveRoute(&'static str),
+}
 
 fn name(text: &str) -> Result<Name, Fail> {
     Ok(Name::of(text.as_bytes()).ok_or("a row has no name")?)
 }
 
-fn points(alloc: Global, pairs: &[(i64, i64)]) -> Result<Points, Fail> {
+fn points(alloc: Global, pairs: &[Pair]) -> Result<Points, Fail> {
     let mut points = Points::new(alloc);
     for (x, y) in pairs {
         points.push(Point { x: *x, y: *y })?;
@@ -39,11 +39,11 @@ fn points(alloc: Global, pairs: &[(i64, i64)]) -> Result<Points, Fail> {
     Ok(points)
 }
 
-fn box_points(alloc: Global, low: (i64, i64), high: (i64, i64)) -> Result<Points, Fail> {
+fn box_points(alloc: Global, low: Pair, high: Pair) -> Result<Points, Fail> {
     points(alloc, &[low, (high.0, low.1), high, (low.0, high.1)])
 }
 
-fn point(pair: (i64, i64)) -> Point {
+fn point(pair: Pair) -> Point {
     Point {
         x: pair.0,
         y: pair.1,
@@ -51,23 +51,19 @@ fn point(pair: (i64, i64)) -> Point {
 }
 
 fn item(alloc: Global, row: Row) -> Result<Item, Fail> {
-    let (form, text, pairs) = row;
-    match (form, pairs) {
-        (Form::Outer, _) => Ok(Item::Outer(points(alloc, pairs)?)),
-        (Form::Grid, [(step, _), (x0, y0), (cols, rows)]) => Ok(Item::Grid(GridSpec {
-            step: *step,
-            x0: *x0,
-            y0: *y0,
-            cols: *cols,
-            rows: *rows,
+    match row {
+        Row::Outer(pairs) => Ok(Item::Outer(points(alloc, pairs)?)),
+        Row::Grid(step, (x0, y0), (cols, rows)) => Ok(Item::Grid(GridSpec {
+            step,
+            x0,
+            y0,
+            cols,
+            rows,
         })),
-        (Form::Polygon, _) => Ok(Item::Obstacle(name(text)?, points(alloc, pairs)?)),
-        (Form::Box, [low, high]) => Ok(Item::Obstacle(
-            name(text)?,
-            box_points(alloc, *low, *high)?,
-        )),
-        (Form::Screen, [from, to]) => Ok(Item::Screen(name(text)?, point(*from), point(*to))),
-        (Form::Route, [from, to]) => Ok(Item::Route(name(text)?, point(*from), point(*to))),
+        Row::Polygon(text, pairs) => Ok(Item::Obstacle(name(text)?, points(alloc, pairs)?)),
+        Row::Box(text, low, high) => Ok(Item::Obstacle(name(text)?, box_points(alloc, low, high)?)),
+        Row::Screen(text, from, to) => Ok(Item::Screen(name(text)?, point(from), point(to))),
+        Row::Route(text, from, to) => Ok(Item::Route(name(text)?, point(from), point(to))),
         _ => Err("the row is no item")?,
     }
 }
@@ -75,16 +71,15 @@ fn item(alloc: Global, row: Row) -> Result<Item, Fail> {
 fn edit(alloc: Global, row: Row) -> Result<Edit, Fail>
     ensures shift { IfOk result HasShift }
 {
-    let (form, text, pairs) = row;
-    match (form, pairs) {
-        (Form::Polygon, _) => Ok(Edit::Add(name(text)?, points(alloc, pairs)?)),
-        (Form::Box, [low, high]) => Ok(Edit::Add(name(text)?, box_points(alloc, *low, *high)?)),
-        (Form::Remove, _) => Ok(Edit::Remove(name(text)?)),
-        (Form::Move, [(dx, dy)]) => moved(name(text)?, *dx, *dy),
-        (Form::Screen, [from, to]) => Ok(Edit::AddScreen(name(text)?, point(*from), point(*to))),
-        (Form::RemoveScreen, _) => Ok(Edit::RemoveScreen(name(text)?)),
-        (Form::Route, [from, to]) => Ok(Edit::AddRoute(name(text)?, point(*from), point(*to))),
-        (Form::RemoveRoute, _) => Ok(Edit::RemoveRoute(name(text)?)),
+    match row {
+        Row::Polygon(text, pairs) => Ok(Edit::Add(name(text)?, points(alloc, pairs)?)),
+        Row::Box(text, low, high) => Ok(Edit::Add(name(text)?, box_points(alloc, low, high)?)),
+        Row::Remove(text) => Ok(Edit::Remove(name(text)?)),
+        Row::Move(text, dx, dy) => moved(name(text)?, dx, dy),
+        Row::Screen(text, from, to) => Ok(Edit::AddScreen(name(text)?, point(from), point(to))),
+        Row::RemoveScreen(text) => Ok(Edit::RemoveScreen(name(text)?)),
+        Row::Route(text, from, to) => Ok(Edit::AddRoute(name(text)?, point(from), point(to))),
+        Row::RemoveRoute(text) => Ok(Edit::RemoveRoute(name(text)?)),
         _ => Err("the row is no edit")?,
     }
 }
@@ -175,399 +170,143 @@ fn says(why: &Option<Why>, expected: &str, name: &str) -> bool {
 }
 
 /// What is asked after these rows, and the word and the name of the answer.
-#[derive(Clone, Copy)]
-struct Case {
-    rows: &'static [Row],
-    last: Row,
-    word: &'static str,
-    carried: &'static str,
-}
+type Case = (&'static [Row], Row, &'static str, &'static str);
 
-const OUTER: Row = (Form::Outer, "", &[(0, 0), (10, 0), (10, 10), (0, 10)]);
+const OUTER: Row = Row::Outer(&[(0, 0), (10, 0), (10, 10), (0, 10)]);
 
 const APART: &[Row] = &[
     OUTER,
-    (Form::Box, "A", &[(1, 1), (3, 3)]),
-    (Form::Box, "B", &[(5, 5), (7, 7)]),
+    Row::Box("A", (1, 1), (3, 3)),
+    Row::Box("B", (5, 5), (7, 7)),
 ];
 
-const ONE: &[Row] = &[OUTER, (Form::Box, "A", &[(2, 2), (4, 4)])];
+const ONE: &[Row] = &[OUTER, Row::Box("A", (2, 2), (4, 4))];
 
 const SCREENED: &[Row] = &[
     OUTER,
-    (Form::Box, "A", &[(4, 4), (6, 6)]),
-    (Form::Screen, "S", &[(1, 1), (1, 9)]),
+    Row::Box("A", (4, 4), (6, 6)),
+    Row::Screen("S", (1, 1), (1, 9)),
 ];
 
-const GRIDDED: &[Row] = &[OUTER, (Form::Grid, "", &[(5, 0), (0, 0), (3, 2)])];
+const GRIDDED: &[Row] = &[OUTER, Row::Grid(5, (0, 0), (3, 2))];
 
-const ROUTED: &[Row] = &[OUTER, (Form::Route, "A", &[(0, 0), (10, 0)])];
+const ROUTED: &[Row] = &[OUTER, Row::Route("A", (0, 0), (10, 0))];
+
+/// Its corners lie on edges of the box that stands there.
+const INSCRIBED: Row = Row::Polygon("B", &[(3, 2), (4, 3), (3, 4)]);
+
+/// A corner is out of range.
+const FAR: Row = Row::Polygon("P", &[(2, 2), (6, 2), (100_001, 6)]);
+
+/// Two neighbouring corners are equal.
+const TWICE: Row = Row::Polygon("P", &[(2, 2), (4, 2), (4, 2), (3, 4)]);
+
+/// Two edges cross.
+const CROSSED: Row = Row::Polygon("P", &[(2, 2), (6, 6), (6, 2), (2, 6)]);
+
+/// All edges lie on one line.
+const FOLDED: Row = Row::Polygon("P", &[(2, 2), (6, 2), (4, 2)]);
+
+/// A corner lies between its neighbours, in line with them.
+const IN_LINE: Row = Row::Polygon("P", &[(2, 2), (4, 2), (6, 2), (4, 6)]);
 
 /// An edit of the plan of these rows, and the words of its refusal.
 const EDITS: &[Case] = &[
-    Case {
-        rows: APART,
-        last: (Form::Move, "A", &[(3, 3)]),
-        word: "touch",
-        carried: "B",
-    },
-    Case {
-        rows: APART,
-        last: (Form::Move, "A", &[(6, 0)]),
-        word: "ok",
-        carried: "",
-    },
-    Case {
-        rows: APART,
-        last: (Form::Move, "A", &[(-1, 0)]),
-        word: "outside",
-        carried: "",
-    },
-    Case {
-        rows: APART,
-        last: (Form::Move, "A", &[(100_000, 0)]),
-        word: "range",
-        carried: "",
-    },
-    Case {
-        rows: APART,
-        last: (Form::Move, "C", &[(999_999_999, 0)]),
-        word: "missing",
-        carried: "",
-    },
-    Case {
-        rows: ONE,
-        last: (Form::Box, "B", &[(4, 4), (6, 6)]),
-        word: "touch",
-        carried: "A",
-    },
-    Case {
-        rows: ONE,
-        last: (Form::Box, "B", &[(1, 1), (5, 5)]),
-        word: "touch",
-        carried: "A",
-    },
-    Case {
-        rows: ONE,
-        last: (Form::Polygon, "B", &[(3, 2), (4, 3), (3, 4)]),
-        word: "touch",
-        carried: "A",
-    },
-    Case {
-        rows: APART,
-        last: (Form::Box, "C", &[(2, 2), (6, 6)]),
-        word: "touch",
-        carried: "A",
-    },
-    Case {
-        rows: ONE,
-        last: (Form::Box, "A", &[(2, 2), (4, 4)]),
-        word: "touch",
-        carried: "A",
-    },
-    Case {
-        rows: ONE,
-        last: (Form::Box, "B", &[(0, 6), (2, 8)]),
-        word: "outside",
-        carried: "",
-    },
-    Case {
-        rows: ONE,
-        last: (Form::Box, "A", &[(6, 6), (8, 8)]),
-        word: "taken",
-        carried: "",
-    },
-    Case {
-        rows: ONE,
-        last: (Form::Remove, "Z", &[]),
-        word: "missing",
-        carried: "",
-    },
-    Case {
-        rows: ONE,
-        last: (Form::Remove, "A", &[]),
-        word: "ok",
-        carried: "",
-    },
-    Case {
-        rows: ONE,
-        last: (Form::Polygon, "P", &[(2, 2), (4, 4)]),
-        word: "count",
-        carried: "",
-    },
-    Case {
-        rows: ONE,
-        last: (Form::Polygon, "P", &[(2, 2), (6, 2), (100_001, 6)]),
-        word: "range",
-        carried: "",
-    },
-    Case {
-        rows: ONE,
-        last: (Form::Polygon, "P", &[(2, 2), (4, 2), (4, 2), (3, 4)]),
-        word: "repeat",
-        carried: "",
-    },
-    Case {
-        rows: ONE,
-        last: (Form::Polygon, "P", &[(2, 2), (6, 6), (6, 2), (2, 6)]),
-        word: "cross",
-        carried: "",
-    },
-    Case {
-        rows: ONE,
-        last: (Form::Polygon, "P", &[(2, 2), (6, 2), (4, 2)]),
-        word: "cross",
-        carried: "",
-    },
-    Case {
-        rows: ONE,
-        last: (Form::Box, "P", &[(6, 6), (6, 8)]),
-        word: "repeat",
-        carried: "",
-    },
-    Case {
-        rows: &[OUTER],
-        last: (Form::Polygon, "P", &[(2, 2), (4, 2), (6, 2), (4, 6)]),
-        word: "ok",
-        carried: "",
-    },
-    Case {
-        rows: SCREENED,
-        last: (Form::Screen, "T", &[(0, 5), (2, 5)]),
-        word: "outside",
-        carried: "",
-    },
-    Case {
-        rows: SCREENED,
-        last: (Form::Screen, "T", &[(3, 5), (5, 5)]),
-        word: "touch",
-        carried: "A",
-    },
-    Case {
-        rows: SCREENED,
-        last: (Form::Screen, "T", &[(1, 5), (3, 5)]),
-        word: "screen",
-        carried: "S",
-    },
-    Case {
-        rows: SCREENED,
-        last: (Form::Screen, "S", &[(2, 2), (2, 8)]),
-        word: "taken",
-        carried: "",
-    },
-    Case {
-        rows: SCREENED,
-        last: (Form::Screen, "T", &[(3, 3), (3, 3)]),
-        word: "repeat",
-        carried: "",
-    },
-    Case {
-        rows: SCREENED,
-        last: (Form::RemoveScreen, "Z", &[]),
-        word: "missing",
-        carried: "",
-    },
-    Case {
-        rows: SCREENED,
-        last: (Form::RemoveScreen, "A", &[]),
-        word: "missing",
-        carried: "",
-    },
-    Case {
-        rows: SCREENED,
-        last: (Form::RemoveScreen, "S", &[]),
-        word: "ok",
-        carried: "",
-    },
-    Case {
-        rows: SCREENED,
-        last: (Form::Box, "B", &[(1, 2), (3, 3)]),
-        word: "screen",
-        carried: "S",
-    },
-    Case {
-        rows: SCREENED,
-        last: (Form::Box, "A", &[(1, 2), (3, 3)]),
-        word: "screen",
-        carried: "S",
-    },
-    Case {
-        rows: SCREENED,
-        last: (Form::Move, "A", &[(-3, 0)]),
-        word: "screen",
-        carried: "S",
-    },
-    Case {
-        rows: SCREENED,
-        last: (Form::Move, "A", &[(-4, 0)]),
-        word: "outside",
-        carried: "",
-    },
-    Case {
-        rows: ROUTED,
-        last: (Form::Route, "C", &[(2, 0), (4, 0)]),
-        word: "overlap",
-        carried: "A",
-    },
-    Case {
-        rows: ROUTED,
-        last: (Form::Route, "A", &[(2, 0), (4, 0)]),
-        word: "taken",
-        carried: "",
-    },
-    Case {
-        rows: ROUTED,
-        last: (Form::Route, "C", &[(10, 0), (12, 0)]),
-        word: "ok",
-        carried: "",
-    },
-    Case {
-        rows: ROUTED,
-        last: (Form::Route, "C", &[(5, -5), (5, 5)]),
-        word: "ok",
-        carried: "",
-    },
-    Case {
-        rows: ROUTED,
-        last: (Form::Route, "C", &[(5, 5), (5, 5)]),
-        word: "repeat",
-        carried: "",
-    },
-    Case {
-        rows: ROUTED,
-        last: (Form::RemoveRoute, "B", &[]),
-        word: "missing",
-        carried: "",
-    },
-    Case {
-        rows: ROUTED,
-        last: (Form::RemoveRoute, "A", &[]),
-        word: "ok",
-        carried: "",
-    },
+    (APART, Row::Move("A", 3, 3), "touch", "B"),
+    (APART, Row::Move("A", 6, 0), "ok", ""),
+    (APART, Row::Move("A", -1, 0), "outside", ""),
+    (APART, Row::Move("A", 100_000, 0), "range", ""),
+    (APART, Row::Move("C", 999_999_999, 0), "missing", ""),
+    (ONE, Row::Box("B", (4, 4), (6, 6)), "touch", "A"),
+    (ONE, Row::Box("B", (1, 1), (5, 5)), "touch", "A"),
+    (ONE, INSCRIBED, "touch", "A"),
+    (APART, Row::Box("C", (2, 2), (6, 6)), "touch", "A"),
+    (ONE, Row::Box("A", (2, 2), (4, 4)), "touch", "A"),
+    (ONE, Row::Box("B", (0, 6), (2, 8)), "outside", ""),
+    (ONE, Row::Box("A", (6, 6), (8, 8)), "taken", ""),
+    (ONE, Row::Remove("Z"), "missing", ""),
+    (ONE, Row::Remove("A"), "ok", ""),
+    (ONE, Row::Polygon("P", &[(2, 2), (4, 4)]), "count", ""),
+    (ONE, FAR, "range", ""),
+    (ONE, TWICE, "repeat", ""),
+    (ONE, CROSSED, "cross", ""),
+    (ONE, FOLDED, "cross", ""),
+    (ONE, Row::Box("P", (6, 6), (6, 8)), "repeat", ""),
+    (&[OUTER], IN_LINE, "ok", ""),
+    (SCREENED, Row::Screen("T", (0, 5), (2, 5)), "outside", ""),
+    (SCREENED, Row::Screen("T", (3, 5), (5, 5)), "touch", "A"),
+    (SCREENED, Row::Screen("T", (1, 5), (3, 5)), "screen", "S"),
+    (SCREENED, Row::Screen("S", (2, 2), (2, 8)), "taken", ""),
+    (SCREENED, Row::Screen("T", (3, 3), (3, 3)), "repeat", ""),
+    (SCREENED, Row::RemoveScreen("Z"), "missing", ""),
+    (SCREENED, Row::RemoveScreen("A"), "missing", ""),
+    (SCREENED, Row::RemoveScreen("S"), "ok", ""),
+    (SCREENED, Row::Box("B", (1, 2), (3, 3)), "screen", "S"),
+    (SCREENED, Row::Box("A", (1, 2), (3, 3)), "screen", "S"),
+    (SCREENED, Row::Move("A", -3, 0), "screen", "S"),
+    (SCREENED, Row::Move("A", -4, 0), "outside", ""),
+    (ROUTED, Row::Route("C", (2, 0), (4, 0)), "overlap", "A"),
+    (ROUTED, Row::Route("A", (2, 0), (4, 0)), "taken", ""),
+    (ROUTED, Row::Route("C", (10, 0), (12, 0)), "ok", ""),
+    (ROUTED, Row::Route("C", (5, -5), (5, 5)), "ok", ""),
+    (ROUTED, Row::Route("C", (5, 5), (5, 5)), "repeat", ""),
+    (ROUTED, Row::RemoveRoute("B"), "missing", ""),
+    (ROUTED, Row::RemoveRoute("A"), "ok", ""),
 ];
 
 #[test]
 fn edits_are_answered_by_their_first_cause(rt: HostRuntime) -> Result<(), Fail> {
     let alloc = rt.alloc();
-    for case in EDITS {
-        let before = plan(alloc, case.rows)?;
-        let asked = edit(alloc, case.last)?;
+    for (rows, last, word, carried) in EDITS {
+        let before = plan(alloc, rows)?;
+        let asked = edit(alloc, *last)?;
         let why = edit_refusal(before.with(alloc, &asked))?;
-        assert!(rt;
-            says(&why, case.word, case.carried),
-            "{} {}",
-            case.word,
-            case.carried
-        );
+        assert!(rt; says(&why, word, carried), "{} {}", *word, *carried);
     }
     Ok(())
 }
 
+/// The last corner has the least and the greatest number that there is.
+const OUTER_FAR: Row = Row::Outer(&[(0, 0), (9, 0), (i64::MIN, i64::MAX)]);
+
+/// The first corner is told again as the last.
+const OUTER_CLOSED: Row = Row::Outer(&[(0, 0), (9, 0), (0, 9), (0, 0)]);
+
+/// Two edges cross.
+const OUTER_CROSSED: Row = Row::Outer(&[(0, 0), (9, 9), (9, 0), (0, 9)]);
+
+/// The most rows that there are, as far apart as they may be.
+const TALL: Row = Row::Grid(999_999_999, (0, 0), (1, i64::MAX));
+
 /// An item after these rows, and the words of its refusal.
 const ITEMS: &[Case] = &[
-    Case {
-        rows: &[],
-        last: (Form::Box, "A", &[(2, 2), (4, 4)]),
-        word: "order",
-        carried: "",
-    },
-    Case {
-        rows: &[],
-        last: (Form::Grid, "", &[(1, 0), (0, 0), (2, 2)]),
-        word: "order",
-        carried: "",
-    },
-    Case {
-        rows: &[OUTER],
-        last: OUTER,
-        word: "order",
-        carried: "",
-    },
-    Case {
-        rows: GRIDDED,
-        last: (Form::Grid, "", &[(1, 0), (0, 0), (2, 2)]),
-        word: "order",
-        carried: "",
-    },
-    Case {
-        rows: &[],
-        last: (Form::Outer, "", &[(0, 0), (9, 0)]),
-        word: "count",
-        carried: "",
-    },
-    Case {
-        rows: &[],
-        last: (Form::Outer, "", &[(0, 0), (9, 0), (i64::MIN, i64::MAX)]),
-        word: "range",
-        carried: "",
-    },
-    Case {
-        rows: &[],
-        last: (Form::Outer, "", &[(0, 0), (9, 0), (0, 9), (0, 0)]),
-        word: "repeat",
-        carried: "",
-    },
-    Case {
-        rows: &[],
-        last: (Form::Outer, "", &[(0, 0), (9, 9), (9, 0), (0, 9)]),
-        word: "cross",
-        carried: "",
-    },
-    Case {
-        rows: &[OUTER],
-        last: (Form::Grid, "", &[(0, 0), (0, 0), (2, 2)]),
-        word: "range",
-        carried: "",
-    },
-    Case {
-        rows: &[OUTER],
-        last: (Form::Grid, "", &[(999_999_999, 0), (0, 0), (1, i64::MAX)]),
-        word: "range",
-        carried: "",
-    },
-    Case {
-        rows: &[OUTER],
-        last: (Form::Grid, "", &[(1, 0), (0, 0), (65, 64)]),
-        word: "full points",
-        carried: "",
-    },
-    Case {
-        rows: ONE,
-        last: (Form::Box, "B", &[(4, 4), (6, 6)]),
-        word: "touch",
-        carried: "A",
-    },
-    Case {
-        rows: SCREENED,
-        last: (Form::Box, "A", &[(1, 2), (3, 3)]),
-        word: "screen",
-        carried: "S",
-    },
-    Case {
-        rows: ROUTED,
-        last: (Form::Route, "C", &[(20, 0), (9, 0)]),
-        word: "overlap",
-        carried: "A",
-    },
+    (&[], Row::Box("A", (2, 2), (4, 4)), "order", ""),
+    (&[], Row::Grid(1, (0, 0), (2, 2)), "order", ""),
+    (&[OUTER], OUTER, "order", ""),
+    (GRIDDED, Row::Grid(1, (0, 0), (2, 2)), "order", ""),
+    (&[], Row::Outer(&[(0, 0), (9, 0)]), "count", ""),
+    (&[], OUTER_FAR, "range", ""),
+    (&[], OUTER_CLOSED, "repeat", ""),
+    (&[], OUTER_CROSSED, "cross", ""),
+    (&[OUTER], Row::Grid(0, (0, 0), (2, 2)), "range", ""),
+    (&[OUTER], TALL, "range", ""),
+    (&[OUTER], Row::Grid(1, (0, 0), (65, 64)), "full points", ""),
+    (ONE, Row::Box("B", (4, 4), (6, 6)), "touch", "A"),
+    (SCREENED, Row::Box("A", (1, 2), (3, 3)), "screen", "S"),
+    (ROUTED, Row::Route("C", (20, 0), (9, 0)), "overlap", "A"),
 ];
 
 #[test]
 fn the_first_refused_item_is_told(rt: HostRuntime) -> Result<(), Fail> {
     let alloc = rt.alloc();
-    for case in ITEMS {
-        let mut given = listed(alloc, case.rows)?;
-        given.items.push(item(alloc, case.last)?)?;
+    for (rows, last, word, carried) in ITEMS {
+        let mut given = listed(alloc, rows)?;
+        given.items.push(item(alloc, *last)?)?;
         // A second outer polygon is refused too, and isn't told.
         given.items.push(item(alloc, OUTER)?)?;
         let (number, why) = item_refusal(check(alloc, &given))?;
-        assert_eq!(rt; number as usize, case.rows.len(), "{}", case.word);
-        assert!(rt;
-            says(&why, case.word, case.carried),
-            "{} {}",
-            case.word,
-            case.carried
-        );
+        assert_eq!(rt; number as usize, rows.len(), "{}", *word);
+        assert!(rt; says(&why, word, carried), "{} {}", *word, *carried);
     }
     let (number, why) = item_refusal(check(alloc, &listed(alloc, &[])?))?;
     assert!(rt; number == 0 && says(&why, "order", ""));
@@ -661,12 +400,12 @@ fn limits_are_kept(rt: HostRuntime) -> Result<(), Fail> {
 
 const WHOLE: &[Row] = &[
     OUTER,
-    (Form::Grid, "", &[(5, 0), (0, 0), (3, 2)]),
-    (Form::Box, "A", &[(1, 1), (3, 3)]),
-    (Form::Box, "B", &[(5, 5), (7, 7)]),
-    (Form::Screen, "S", &[(1, 9), (4, 9)]),
-    (Form::Route, "R", &[(0, 0), (10, 0)]),
-    (Form::Route, "Q", &[(0, 1), (10, 1)]),
+    Row::Grid(5, (0, 0), (3, 2)),
+    Row::Box("A", (1, 1), (3, 3)),
+    Row::Box("B", (5, 5), (7, 7)),
+    Row::Screen("S", (1, 9), (4, 9)),
+    Row::Route("R", (0, 0), (10, 0)),
+    Row::Route("Q", (0, 1), (10, 1)),
 ];
 
 fn is_whole(plan: &Plan) -> bool {
@@ -698,7 +437,7 @@ fn a_plan_is_read_and_listed(rt: HostRuntime) -> Result<(), Fail> {
 #[test]
 fn an_edit_changes_two_boxes(rt: HostRuntime) -> Result<(), Fail> {
     let alloc = rt.alloc();
-    let asked = edit(alloc, (Form::Move, "B", &[(-2, 1)]))?;
+    let asked = edit(alloc, Row::Move("B", -2, 1))?;
     let changed = plan(alloc, WHOLE)?.changed(&asked);
     let before = PlanBox {
         low: Point { x: 5, y: 5 },

@@ -8,3 +8,5 @@ pub mod PrintedWords
 pub mod PrintedItems
 pub mod PrintedLengths
 pub mod PrintedText
+pub mod Shifts
+pub mod SoundItems

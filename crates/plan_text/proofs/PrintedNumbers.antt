@@ -18,7 +18,7 @@ IsNumber z = nat_abs z < 10 ^ 9
 pub own : IsNumeralModel (λ digits. all_ascii_digits digits ≡ true) (digits_value 10)
 own = numerals_by_value (λ digits. all_ascii_digits digits ≡ true) tells_all_ascii_digits
 
-digits_same : (digits : List ℕ) → list_all is_ascii_digit digits ≡ all_ascii_digits digits
+pub digits_same : (digits : List ℕ) → list_all is_ascii_digit digits ≡ all_ascii_digits digits
 digits_same [] = refl
 digits_same (d ∷ digits) = ap (λ t. is_ascii_digit d && t) (digits_same digits)
 

@@ -1,9 +1,10 @@
 -- What is answered of a plan and of a line of a script.
-use Rattle.std.specs.Prelude.{◌≡◌, ℕ, List, Bool, true, false, Result, Ok, Err}
+use Rattle.std.specs.Prelude.{◌≡◌, ⊤, ℕ, List, Bool, true, false, Result, Ok, Err}
 use Rattle.plan_spec.specs.declared.kinds.Item.{Item}
 use Rattle.plan_spec.specs.declared.changes.Edit.TheVariants.{Add}
+use Rattle.plan_spec.specs.Edits.{HasShift}
 use Rattle.report_spec.specs.declared.readings.Line.{Line}
-use Rattle.report_spec.specs.declared.readings.Line.TheVariants.{Edit}
+use Rattle.report_spec.specs.declared.readings.Line.TheVariants.{Blank, Edit, Query}
 use Rattle.report_spec.specs.declared.readings.TextWhy.{TextWhy}
 use Rattle.report_spec.specs.PlanText.{read_plan_text, items_read, numbers_read}
 use Rattle.plan_text.specs.declared.faults.ReadLineFault.{ReadLineFault}
@@ -30,3 +31,9 @@ abbrev pub ReadsLine : Result Line TextWhy → Result Line ReadLineFault → Typ
 ReadsLine reading (Ok line) = reading ≡ Ok line
 ReadsLine reading (Err (Bad why)) = reading ≡ Err why
 ReadsLine reading (Err NoMemory) = is_add reading ≡ true
+
+-- where the line moves an obstacle, its shift is at most 999999999 in each coordinate
+abbrev pub HasShiftInLine : Line → Type 0
+HasShiftInLine Blank = ⊤
+HasShiftInLine (Edit edit) = HasShift edit
+HasShiftInLine (Query query) = ⊤

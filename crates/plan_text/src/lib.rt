@@ -6,6 +6,7 @@
 //! | [`read_line`] | the edit or the question of a line of a script, or why it is outside the grammar |
 //! | [`print_plan`] | the text of items |
 //! | [`prints_and_reads`] | the law that what is printed is read again |
+//! | [`accepted_plans_are_printable`] | the law that the items of a sound plan keep the limits of printing |
 //! | [`PlanText`] | a plan as it is read |
 //! | [`ReadPlanFault`], [`ReadLineFault`] | why bytes aren't read |
 //! | [`Line`], [`Query`], [`TextWhy`], [`LineNumbers`] | what is read from a line |
@@ -31,7 +32,7 @@ pub use faults::{ReadLineFault, ReadPlanFault};
 pub use plan_spec::{Edit, GridSpec, Item, Items, PlanData, Points};
 pub use plane_spec::Point;
 pub use plans::{PlanText, read_plan};
-pub use printing::{print_plan, prints_and_reads};
+pub use printing::{accepted_plans_are_printable, print_plan, prints_and_reads};
 pub use report_spec::{Line, LineNumbers, Query, TextWhy};
 pub use script_lines::read_line;
 pub use text_spec::{Name, NoMemory};

@@ -1,11 +1,14 @@
 //! The text of a plan, printed.
 
-ghost use Rattle.std.specs.Prelude.{◌≡◌, ◌∷◌, ◌++◌, [], List, IfOk, OnOk, map};
+ghost use Rattle.std.specs.Prelude.{◌≡◌, ◌∷◌, ◌++◌, [], List, IfOk, OnOk, IsTrue, map};
 ghost use Rattle.std.specs.Fmt.{signed_decimal};
 ghost use Rattle.std.specs.List.{list_any};
+ghost use Rattle.text_spec.specs.Names.{IsName};
+ghost use Rattle.plan_spec.specs.Plan.{Plan, items_of};
+ghost use Rattle.plan_spec.specs.Accepted.{is_sound};
 ghost use Rattle.report_spec.specs.Shapes.{numbers_of_points, field_words};
 ghost use Rattle.report_spec.specs.PlanText.{keyword, word_of_item, shape_of, fields_of_item, is_screen, item_words, header_words, ended_line, plan_text_of, ArePrintable};
-ghost use Rattle.plan_text.specs.RoundTrip.{HaveNames, ReadsAgain};
+ghost use Rattle.plan_text.specs.RoundTrip.{has_name, HaveNames, ReadsAgain};
 ghost use Rattle.plan_text.specs.Printing.{spaced};
 
 use itoa::Buffer;
@@ -73,7 +76,8 @@ fn put_ends(text: &mut Vec<u8>, from: Point, to: Point) -> Result<(), NoMemory>
 /// Appends a name and two points, each word after a space.
 #[tactic(auto, using(crate::proofs::Printed::spaced_more))]
 fn put_segment(text: &mut Vec<u8>, name: &Name, from: Point, to: Point) -> Result<(), NoMemory>
-    ensures { OnOk result (text.new.items ≡ text.old.items ++ spaced (name.now ∷ map signed_decimal (from.x ∷ from.y ∷ to.x ∷ to.y ∷ []))) }
+    ensures text { OnOk result (text.new.items ≡ text.old.items ++ spaced (name.now ∷ map signed_decimal (from.x ∷ from.y ∷ to.x ∷ to.y ∷ []))) }
+    ensures named { OnOk result (IsName name.now) }
 {
     put_word(text, name.bytes())?;
     put_ends(text, from, to)
@@ -95,7 +99,8 @@ fn keyword(item: &Item) -> &'static [u8]
 /// Appends the words of an item after its keyword.
 #[tactic(auto, using(crate::proofs::Printed::spaced_more))]
 fn put_fields(text: &mut Vec<u8>, item: &Item) -> Result<(), NoMemory>
-    ensures { OnOk result (text.new.items ≡ text.old.items ++ spaced (field_words (shape_of (word_of_item item.now)) (fields_of_item item.now))) }
+    ensures text { OnOk result (text.new.items ≡ text.old.items ++ spaced (field_words (shape_of (word_of_item item.now)) (fields_of_item item.now))) }
+    ensures named { OnOk result (IsTrue (has_name item.now)) }
 {
     match item {
         Item::Grid(grid) => put_numbers(text, &[grid.step, grid.x0, grid.y0, grid.cols, grid.rows]),
@@ -109,10 +114,11 @@ fn put_fields(text: &mut Vec<u8>, item: &Item) -> Result<(), NoMemory>
     }
 }
 
-/// Appends the line of an item.
+/// Appends the line of an item. Callers learn that its name is one.
 #[tactic(auto, using(crate::proofs::Printed::line_ended))]
 fn put_item(text: &mut Vec<u8>, item: &Item) -> Result<(), NoMemory>
-    ensures { OnOk result (text.new.items ≡ text.old.items ++ ended_line (item_words item.now)) }
+    ensures text { OnOk result (text.new.items ≡ text.old.items ++ ended_line (item_words item.now)) }
+    ensures named { OnOk result (IsTrue (has_name item.now)) }
 {
     put(text, keyword(item))?;
     put_fields(text, item)?;
@@ -142,12 +148,14 @@ fn header(items: &[Item]) -> &'static [u8]
     }
 }
 
-/// The text of a plan: `plan 2` where an item is a screen and `plan 1` otherwise, and then a line for each item.
+/// The text of a plan: `plan 2` where an item is a screen and `plan 1` otherwise, and then a line for each item. Where the
+/// items keep the limits of printing, it is read again, with these items and no others.
 ///
 /// Cost: one pass over the items, and memory for the text alone.
 #[tactic(auto, unfolding(report_spec::specs::PlanText::plan_text_of))]
 pub fn print_plan(alloc: Global, plan: &PlanData) -> Result<Vec<u8>, NoMemory>
-    ensures { IfOk result (λ text. text.items ≡ plan_text_of plan.now.items) }
+    ensures text { IfOk result (λ text. text.items ≡ plan_text_of plan.now.items) }
+    ensures again { OnOk result (ArePrintable plan.now.items → ReadsAgain plan.now.items) }
 {
     let items = plan.items.as_slice();
     let mut text = Vec::new(alloc);
@@ -162,4 +170,9 @@ pub fn print_plan(alloc: Global, plan: &PlanData) -> Result<Vec<u8>, NoMemory>
 /// the text is in the grammar, with these items and no others, and neither it nor a line of it is too long.
 pub fn prints_and_reads()
     ensures { (items : List Item) → ArePrintable items → HaveNames items → ReadsAgain items }
+{}
+
+/// The items of a sound plan keep the limits of printing. So the text of such a plan is read again.
+pub fn accepted_plans_are_printable()
+    ensures { (p : Plan) → IsTrue (is_sound p) → ArePrintable (items_of p) }
 {}

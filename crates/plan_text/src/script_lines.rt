@@ -1,13 +1,13 @@
 //! The lines of a script.
 
-ghost use Rattle.std.specs.Prelude.{◌≡◌, option_map, if◌then◌else◌};
+ghost use Rattle.std.specs.Prelude.{◌≡◌, option_map, IfOk, if◌then◌else◌};
 ghost use Rattle.text_spec.specs.Lines.{is_long};
 ghost use Rattle.text_spec.specs.Words.{words_of};
 ghost use Rattle.report_spec.specs.Shapes.{read_fields};
 ghost use Rattle.report_spec.specs.PlanText.{ok_map};
 ghost use Rattle.report_spec.specs.ScriptText.{script_word, script_shape, line_of, shown, read_show, read_script_line};
 ghost use Rattle.plan_text.specs.Kinds.{script_kind};
-ghost use Rattle.plan_text.specs.Readings.{ReadsLine};
+ghost use Rattle.plan_text.specs.Readings.{ReadsLine, HasShiftInLine};
 
 use crate::faults::ReadLineFault;
 use crate::polygons::box_points;
@@ -135,13 +135,15 @@ fn shown_table(words: &[u8]) -> Result<Line, TextWhy>
 }
 
 /// Reads a line of a script, given without its newline and without the carriage return before it. `Bad` has the first
-/// cause that holds. Memory is taken for the points of `add` and `addbox` alone: of any other line, and of any that is
-/// outside the grammar, want of memory is never answered.
+/// cause that holds. A shift that is read has at most nine digits in each coordinate, as an edit of a plan asks. Memory is
+/// taken for the points of `add` and `addbox` alone: of any other line, and of any that is outside the grammar, want of
+/// memory is never answered.
 ///
 /// Cost: one pass over the bytes, each looked at a constant number of times.
 #[tactic(auto, unfolding(report_spec::specs::ScriptText::read_script_line, text_spec::specs::Words::are_blank))]
 pub fn read_line(alloc: Global, bytes: &[u8]) -> Result<Line, ReadLineFault>
-    ensures { ReadsLine (if is_long bytes.now then Err TextWhy.Long else read_script_line bytes.now) result }
+    ensures reads { ReadsLine (if is_long bytes.now then Err TextWhy.Long else read_script_line bytes.now) result }
+    ensures shift { IfOk result HasShiftInLine }
 {
     if is_long(bytes) {
         return Err(ReadLineFault::Bad(TextWhy::Long));

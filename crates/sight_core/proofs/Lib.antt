@@ -2,7 +2,8 @@ pub mod Sides
 pub mod Ways
 pub mod Mutual
 pub mod Along
-pub mod Squares
 pub mod Nearest
 pub mod Sound
 pub mod Seen
+pub mod Counts
+pub mod Stops

@@ -11,7 +11,7 @@ use Rattle.plane_spec.specs.Vectors.{orient_of, same_point}
 use Rattle.plane_spec.specs.Segments.{are_opposite, cross_properly}
 use Rattle.plan_spec.specs.Scene.{Scene, lines_of_scene}
 use Rattle.plan_spec.specs.Sight.{crosses, leaves_wall, enters_wall, corner_stops, corner_blocks, is_blocked, are_in_sight}
-use Rattle.sight_core.proofs.Sides.{orient-turned}
+use Rattle.exact_geom.proofs.Orientation.{orient_of_first_exchanged}
 use Rattle.sight_core.proofs.Ways.{or_turned}
 
 opposite-turned : (s t : ℤ) → are_opposite s t ≡ are_opposite t s
@@ -30,7 +30,7 @@ same-turned p q = rw (equal-turned p.x q.x, equal-turned p.y q.y) refl
 crosses-turned : (p q : Point) (w : Segment) → crosses p q w ≡ crosses q p w
 unfolding cross_properly
 crosses-turned p q w =
-    rw (orient-turned p q w.a, orient-turned p q w.b, opposite-neg (orient_of p q w.a) (orient_of p q w.b))
+    rw (orient_of_first_exchanged p q w.a, orient_of_first_exchanged p q w.b, opposite-neg (orient_of p q w.a) (orient_of p q w.b))
     (ap (λ t. t && are_opposite (orient_of p q w.a) (orient_of p q w.b)) (opposite-turned (orient_of w.a w.b p) (orient_of w.a w.b q)))
 
 enters-turned : (p q : Point) (w : Segment) → enters_wall p q w ≡ enters_wall q p w

@@ -4,23 +4,15 @@ use Rattle.std.specs.Ordering.{int_eq}
 use Rattle.std.proofs.lemmas.Int.{ints}
 use Rattle.std.proofs.lemmas.Bool.{and_parts, and_right, false_from_ne_true, cases_Bool}
 use Rattle.std.proofs.lemmas.Bool.Decides.{Decides-int_eq}
-use Rattle.int_laws.proofs.Ring.{cross_of_three, orient_cycled, orient_exchanged, product_swapped, neg_times, cross_exchanged}
+use Rattle.int_laws.proofs.Ring.{cross_of_three, orient_cycled, product_swapped, neg_times, cross_exchanged}
 use Rattle.int_laws.proofs.Signs.{not_negative_product, opposite_product, zero_factor}
 use Rattle.plane_spec.specs.declared.Point.{Point}
 use Rattle.plane_spec.specs.declared.Segment.{Segment}
 use Rattle.plane_spec.specs.Vectors.{orient_of}
 use Rattle.plane_spec.specs.Segments.{is_between, is_on_segment, are_opposite, cross_properly}
+use Rattle.exact_geom.proofs.Orientation.{orient_of_first_exchanged}
 use Rattle.plan_spec.specs.Sight.{crosses, leaves_wall}
 use Rattle.sight_core.specs.Blocks.{are_alike, lies_aside, wall_blocks}
-
--- ---- orientation, with the first two points exchanged
-
-pub orient-turned : (p q x : Point) → orient_of q p x ≡ neg_ℤ (orient_of p q x)
-orient-turned p q x =
-    let one = orient_cycled x.x x.y q.x q.y p.x p.y in
-    let two = orient_exchanged x.x x.y p.x p.y q.x q.y in
-    let three = orient_cycled x.x x.y p.x p.y q.x q.y in
-    one ∙ two ∙ ap neg_ℤ (sym three)
 
 -- ---- u and v lie in line, on different sides of 0 in each coordinate: then they aren't strictly left of d, both of them
 
@@ -122,7 +114,7 @@ abbrev IsAside : Point → Point → Segment → Type 0
 IsAside p q w = are_alike (orient_of p q w.a) (orient_of p q w.b) ≡ true
 
 aside-turned : (p q : Point) (w : Segment) → IsAside p q w → IsAside q p w
-aside-turned p q w h = rw (orient-turned p q w.a, orient-turned p q w.b, alike-neg (orient_of p q w.a) (orient_of p q w.b)) h
+aside-turned p q w h = rw (orient_of_first_exchanged p q w.a, orient_of_first_exchanged p q w.b, alike-neg (orient_of p q w.a) (orient_of p q w.b)) h
 
 -- so p isn't on it
 off_wall : (p q : Point) (w : Segment) → IsAside p q w → is_on_segment p w.a w.b ≡ false

@@ -13,7 +13,7 @@ use Rattle.plane_spec.specs.Cones.{is_in_cone}
 use Rattle.plan_spec.specs.Scene.{Scene}
 use Rattle.plan_spec.specs.Sight.{crosses, enters_wall, corner_stops, corner_blocks, is_blocked}
 use Rattle.sight_core.specs.Blocks.{wall_blocks, turns_from}
-use Rattle.sight_core.proofs.Sides.{orient-turned}
+use Rattle.exact_geom.proofs.Orientation.{orient_of_first_exchanged}
 
 pub or_turned : (x y : Bool) → (x || y) ≡ (y || x)
 or_turned true true = refl
@@ -33,7 +33,7 @@ zero-turned z =
 pub on-turned : (x p q : Point) → is_on_segment x q p ≡ is_on_segment x p q
 unfolding is_on_segment
 on-turned x p q =
-    rw (orient-turned p q x, zero-turned (orient_of p q x))
+    rw (orient_of_first_exchanged p q x, zero-turned (orient_of p q x))
     (ap (λ t. int_eq (orient_of p q x) (pos 0) && (t && is_between x.y q.y p.y)) (between-turned x.x p.x q.x)
     ∙ ap (λ t. int_eq (orient_of p q x) (pos 0) && (is_between x.x p.x q.x && t)) (between-turned x.y p.y q.y))
 

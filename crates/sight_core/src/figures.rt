@@ -3,9 +3,8 @@
 ghost use Rattle.std.specs.Prelude.{◌≡◌};
 ghost use Rattle.plane_spec.specs.Vectors.{InRange, IsDirected, IsDirection};
 
-use crate::sight::same_point;
 use crate::{Corner, Scene, free, in_cone, is_open, scene_of, stop};
-use exact_geom::in_range;
+use exact_geom::{in_range, same_point};
 use plan_check::{Item, Items, Name, Plan, PlanData, Points, check};
 use plane_spec::Point;
 use std::alloc::Global;
@@ -116,44 +115,49 @@ fn stops(rt: &impl Abort, scene: &Scene, rays: &[(Point, Point, Option<(i128, i1
     }
 }
 
-fn beside_a_box(rt: &impl Abort, alloc: Global, clockwise: bool) {
-    let plan = plan_of(rt, alloc, clockwise, &[(at(4, 4), at(6, 6))], &[]);
-    let scene = scene(rt, alloc, &plan);
-    assert!(rt; scene.walls().len() == 8 && scene.corners().len() == 8);
-    sees(
-        rt,
-        &scene,
-        &[
-            (at(8, 0), at(0, 8), true),
-            (at(0, 0), at(8, 8), false),
-            (at(0, 0), at(8, 0), true),
-            (at(5, 0), at(5, 10), false),
-            (at(4, 0), at(4, 10), true),
-            (at(4, 5), at(6, 5), false),
-            (at(4, 5), at(0, 5), true),
-            (at(4, 4), at(6, 4), true),
-            (at(4, 4), at(6, 6), false),
-            (at(3, 3), at(3, 3), false),
-            (at(0, 5), at(-5, 5), false),
-            (at(-5, 0), at(-5, 10), true),
-        ],
-    );
-    stops(
-        rt,
-        &scene,
-        &[
-            (at(4, 4), at(4, 4), Some((0, 1))),
-            (at(6, 4), at(6, 4), Some((2, 3))),
-            (at(4, 4), at(-2, 0), Some((2, 1))),
-            (at(6, 4), at(2, 0), Some((2, 1))),
-            (at(0, 0), at(4, 4), Some((1, 1))),
-            (at(4, 5), at(1, 0), Some((0, 1))),
-            (at(4, 5), at(-1, 0), Some((4, 1))),
-            (at(0, 0), at(3, 6), Some((5, 3))),
-            (at(-5, 5), at(-1, 0), None),
-        ],
-    );
-    for (x, expected) in [
+/// Each point, and whether it is open.
+fn opens(rt: &impl Abort, plan: &Plan, points: &[(Point, bool)]) {
+    for (x, expected) in points {
+        let x = known(rt, *x);
+        assert!(rt; is_open(plan, x) == *expected, "at ({}, {})", x.x, x.y);
+    }
+}
+
+fn is_seen_beside_a_box(rt: &impl Abort, scene: &Scene) {
+    let pairs = [
+        (at(8, 0), at(0, 8), true),
+        (at(0, 0), at(8, 8), false),
+        (at(0, 0), at(8, 0), true),
+        (at(5, 0), at(5, 10), false),
+        (at(4, 0), at(4, 10), true),
+        (at(4, 5), at(6, 5), false),
+        (at(4, 5), at(0, 5), true),
+        (at(4, 4), at(6, 4), true),
+        (at(4, 4), at(6, 6), false),
+        (at(3, 3), at(3, 3), false),
+        (at(0, 5), at(-5, 5), false),
+        (at(-5, 0), at(-5, 10), true),
+    ];
+    sees(rt, scene, &pairs);
+}
+
+fn is_stopped_beside_a_box(rt: &impl Abort, scene: &Scene) {
+    let rays = [
+        (at(4, 4), at(4, 4), Some((0, 1))),
+        (at(6, 4), at(6, 4), Some((2, 3))),
+        (at(4, 4), at(-2, 0), Some((2, 1))),
+        (at(6, 4), at(2, 0), Some((2, 1))),
+        (at(0, 0), at(4, 4), Some((1, 1))),
+        (at(4, 5), at(1, 0), Some((0, 1))),
+        (at(4, 5), at(-1, 0), Some((4, 1))),
+        (at(0, 0), at(3, 6), Some((5, 3))),
+        (at(-5, 5), at(-1, 0), None),
+    ];
+    stops(rt, scene, &rays);
+}
+
+fn is_open_beside_a_box(rt: &impl Abort, plan: &Plan) {
+    let points = [
         (at(5, 5), false),
         (at(4, 5), true),
         (at(4, 4), true),
@@ -161,9 +165,17 @@ fn beside_a_box(rt: &impl Abort, alloc: Global, clockwise: bool) {
         (at(10, 10), true),
         (at(1, 1), true),
         (at(11, 5), false),
-    ] {
-        assert!(rt; is_open(&plan, known(rt, x)) == expected);
-    }
+    ];
+    opens(rt, plan, &points);
+}
+
+fn beside_a_box(rt: &impl Abort, alloc: Global, clockwise: bool) {
+    let plan = plan_of(rt, alloc, clockwise, &[(at(4, 4), at(6, 6))], &[]);
+    let scene = scene(rt, alloc, &plan);
+    assert!(rt; scene.walls().len() == 8 && scene.corners().len() == 8);
+    is_seen_beside_a_box(rt, &scene);
+    is_stopped_beside_a_box(rt, &scene);
+    is_open_beside_a_box(rt, &plan);
 }
 
 fn between_boxes(rt: &impl Abort, alloc: Global, clockwise: bool) {

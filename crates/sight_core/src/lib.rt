@@ -9,6 +9,7 @@
 //! | [`free`] | whether two points see each other |
 //! | [`sight_is_mutual`] | sight goes both ways |
 //! | [`stop`] | how far a ray reaches |
+//! | [`stops_are_small`] | a stop has small parts and is never behind |
 //! | [`is_open`] | whether a point is open: in the outer polygon, and inside no obstacle |
 //! | [`types_are_shared`] | a scene may be moved to a thread and shared between threads |
 //!
@@ -39,7 +40,7 @@ mod signs;
 pub use cone::in_cone;
 pub use openness::is_open;
 pub use plane_spec::{Corner, Segment as Wall};
-pub use reach::stop;
+pub use reach::{stop, stops_are_small};
 pub use scene::{Scene, scene_of};
 pub use sharing::types_are_shared;
 pub use sight::{free, sight_is_mutual};

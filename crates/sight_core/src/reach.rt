@@ -1,11 +1,15 @@
 //! How far a ray reaches.
 
-ghost use Rattle.std.specs.Prelude.{All, IfSome, ◌≡◌, ◌^◌, pos};
+ghost use Rattle.std.specs.Prelude.{All, IfSome, Some, ◌≡◌, ◌≤ℤ◌, ◌^◌, pos};
 ghost use Rattle.std.specs.List.{filter_map};
 ghost use Rattle.exact_geom.specs.Parts.{HasPartsWithin};
+ghost use Rattle.plane_spec.specs.declared.Point.{Point};
+ghost use Rattle.plane_spec.specs.Fractions.{Fraction};
 ghost use Rattle.plane_spec.specs.Vectors.{InRange, IsDirected, IsDirection};
+ghost use Rattle.plan_spec.specs.Scene.{Scene};
 ghost use Rattle.plan_spec.specs.Stops as stops;
 ghost use Rattle.sight_core.specs.Hits as hits;
+ghost use Rattle.sight_core.specs.Scenes.{IsOfSoundPlan};
 ghost use Rattle.plane_spec.specs.Segments.{IsSegmentInRange};
 ghost use Rattle.plane_spec.specs.Cones.{IsCornerInRange};
 
@@ -62,7 +66,8 @@ fn nearest_of(scene: &Scene, p: Point, d: Point) -> Option<Hit>
     requires p_in { InRange p }
     requires d_in { IsDirection d }
     requires directed { IsDirected d }
-    ensures { result ≡ hits.nearest_of scene.now p d }
+    ensures first { result ≡ hits.nearest_of scene.now p d }
+    ensures of_plan { IsOfSoundPlan scene.now }
 {
     let across_walls = nearest_line(None, scene.walls(), p, d);
     let across = nearest_line(across_walls, scene.screens(), p, d);
@@ -75,6 +80,8 @@ fn nearest_of(scene: &Scene, p: Point, d: Point) -> Option<Hit>
 /// with what is blocked ahead. `None` exactly where nothing stops it.
 ///
 /// Cost: two passes over the walls and one over the screens and corners, and the reduction of one fraction.
+///
+/// Source: the rays of an isovist after Benedikt (1979); the rules at corners and at the beginning are this project's own.
 #[tactic(auto, unfolding(plan_spec::specs::Stops::stop_of))]
 pub fn stop(scene: &Scene, p: Point, d: Point) -> Option<Frac>
     requires p_in { InRange p }
@@ -82,6 +89,17 @@ pub fn stop(scene: &Scene, p: Point, d: Point) -> Option<Frac>
     requires directed { IsDirected d }
     ensures least { result ≡ stops.stop_of scene.now p d }
     ensures small { IfSome result (HasPartsWithin (pos (10 ^ 12))) }
+    ensures ahead { IfSome result (λ t. pos 0 ≤ℤ t.num) }
 {
     nearest_of(scene, p, d).map(|hit| hit.reduced())
 }
+
+/// Stops are small and never behind: in each scene of a sound plan, where a ray from a point in range is stopped at `t`,
+/// numerator and denominator are at most 10^12 in size, and `t` is at least 0. So `RPoint::along` takes a stop of which
+/// only the definition is known.
+///
+/// Proofs cite these laws from `proofs/Stops.antt`.
+pub fn stops_are_small()
+    ensures small { (scene : Scene) (p d : Point) (t : Fraction) → IsOfSoundPlan scene → InRange p → IsDirection d → stops.stop_of scene p d ≡ Some t → HasPartsWithin (pos (10 ^ 12)) t }
+    ensures ahead { (scene : Scene) (p d : Point) (t : Fraction) → IsOfSoundPlan scene → InRange p → IsDirection d → stops.stop_of scene p d ≡ Some t → pos 0 ≤ℤ t.num }
+{}

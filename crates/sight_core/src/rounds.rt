@@ -1,6 +1,6 @@
 //! The walls and corners of one polygon.
 
-ghost use Rattle.std.specs.Prelude.{All, OnOk, ◌≡◌, ◌∷◌, ◌++◌, []};
+ghost use Rattle.std.specs.Prelude.{All, OnErr, OnOk, ◌≡◌, ◌∷◌, ◌++◌, []};
 ghost use Rattle.plane_spec.specs.Cones as cones;
 ghost use Rattle.plane_spec.specs.Polygons as polygons;
 ghost use Rattle.plane_spec.specs.Vectors.{InRange};
@@ -11,9 +11,10 @@ use exact_geom::{cross, edge, is_positive};
 use plane_spec::{Corner, Point, Segment};
 use text_spec::NoMemory;
 
-/// Appends an element. Without memory the list is as before.
+/// Appends an element. Without memory the elements are as before.
 pub(crate) fn append<T: Copy>(list: &mut Vec<T>, x: T) -> Result<(), NoMemory>
-    ensures { OnOk result (list.new.items ≡ list.old.items ++ x ∷ []) }
+    ensures added { OnOk result (list.new.items ≡ list.old.items ++ x ∷ []) }
+    ensures unchanged { OnErr result (list.new.items ≡ list.old.items) }
 {
     list.push(x).map_err(|_| NoMemory)
 }

@@ -1,6 +1,6 @@
 //! The walls, screens and corners of an accepted plan.
 
-ghost use Rattle.std.specs.Prelude.{All, IfOk, ◌≡◌};
+ghost use Rattle.std.specs.Prelude.{All, IfOk, length, ◌≡◌, ◌≤◌};
 ghost use Rattle.plan_spec.specs.Scene as scenes;
 ghost use Rattle.plane_spec.specs.Segments.{IsSegmentInRange};
 ghost use Rattle.plane_spec.specs.Cones.{IsCornerInRange};
@@ -34,28 +34,31 @@ impl Model for Scene {
 }
 
 impl Scene {
-    /// The walls, directed so that what is blocked lies on their left.
+    /// The walls, directed so that what is blocked lies on their left: at most 1024.
     pub fn walls(&self) -> &[Wall]
         ensures walls { result.now ≡ self.now.walls }
         ensures in_range { All IsSegmentInRange result.now }
+        ensures few { length result.now ≤ 1024 }
         ensures of_plan { IsOfSoundPlan self.now }
     {
         &self.walls
     }
 
-    /// The screens, each from its first end to its second.
+    /// The screens, each from its first end to its second: at most 256.
     pub fn screens(&self) -> &[Wall]
         ensures screens { result.now ≡ self.now.screens }
         ensures in_range { All IsSegmentInRange result.now }
+        ensures few { length result.now ≤ 256 }
         ensures of_plan { IsOfSoundPlan self.now }
     {
         &self.screens
     }
 
-    /// The corners between the walls, and then the ends of the screens.
+    /// The corners between the walls, and then the ends of the screens: at most 1024.
     pub fn corners(&self) -> &[Corner]
         ensures corners { result.now ≡ self.now.corners }
         ensures in_range { All IsCornerInRange result.now }
+        ensures few { length result.now ≤ 1024 }
         ensures of_plan { IsOfSoundPlan self.now }
     {
         &self.corners

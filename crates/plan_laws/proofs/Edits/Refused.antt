@@ -28,7 +28,7 @@ use Rattle.plan_laws.proofs.Edits.Moving.{sound_with_other_points, points_of_nam
 
 -- ---- an obstacle that is moved
 
-fits_when_moved : (p : Plan) (name : List ℕ) (points : List Point)
+pub fits_when_moved : (p : Plan) (name : List ℕ) (points : List Point)
     → is_none (why_not_moved p name points)
     ≡ (list_all is_in_range points && (lies_within p.outer points
     && (not (list_any (λ x. polygons_meet x.points points) (without_obstacle name p.obstacles)) && not (list_any (λ s. line_meets_polygon s.from s.to points) p.screens))))
