@@ -1,20 +1,17 @@
 -- Where no step of a parse has a fault, the command takes the words: the tests of `Takes` beside the faults of `Faults`, step by step.
-use Rattle.std.proofs.Common.{◌≡◌, ◌≤◌, ◌∙◌, ◌&&◌, ◌||◌, ◌==◌, ℕ, Bool, cond, codes, true, false, not, zero, suc, refl, sym, ap, arith, List, [], ◌∷◌, length, drop, Option, Some, None, is_some, true≢false, nat_le, nat_lt}
+use Rattle.std.proofs.Common.{◌≡◌, ◌≤◌, ◌&&◌, ◌||◌, ◌==◌, ℕ, Bool, cond, codes, true, false, not, zero, suc, refl, sym, ap, arith, List, [], ◌∷◌, length, drop, Option, Some, None, is_some, true≢false, nat_le, nat_lt}
 use Rattle.std.proofs.lemmas.Bool.{eqb-true, le-leb, ltb-false}
 use Rattle.std.specs.Prelude.{encode_utf8, slice_get}
 use Rattle.std.specs.Str.{bytes_eq, chars}
 use Rattle.std.specs.Option.{option_map_or}
-use Rattle.std.specs.List.{list_all, find}
+use Rattle.std.specs.List.{list_all}
 use Rattle.clap.specs.Facts.{parser_of_value, unwrap_or_range}
-use Rattle.clap.specs.Kinds.{Kinds, or_else, range_kinds, value_kinds, values_kinds}
+use Rattle.clap.specs.Kinds.{Kinds, or_else, range_kinds, value_kinds}
 use Rattle.clap.specs.Lexer.{long_of, short_of}
-use Rattle.clap.specs.Matches.{count_text}
-use Rattle.clap.specs.ValueTests.{accepts}
-use Rattle.clap.specs.Values.{refused_kind}
-use Rattle.clap.specs.Walk.{Held, Names, Row, Rule, Step, Text, Waiting, Walk, action_of, answers_to, arg_by_id, arg_by_index, arg_by_long, arg_by_short, attached_value, has_row, finished, nothing_held, is_pending, most_values, reacted, settled, subcommand_met, takes_several, takes_values, values_or_missing, walk, walk_from, walked, word_met}
+use Rattle.clap.specs.Walk.{Held, Names, Row, Rule, Step, Text, Waiting, Walk, action_of, arg_by_id, arg_by_index, arg_by_long, arg_by_short, attached_value, has_row, finished, nothing_held, is_pending, most_values, reacted, settled, subcommand_met, takes_several, takes_values, values_or_missing, walk, walk_from, walked, word_met}
 use Rattle.clap.specs.Walk.{next, trailing, subcommand, value}
-use Rattle.clap.specs.Simple.{Shape, argument_words, built, entered, is_simple}
-use Rattle.clap.specs.Takes.{takes, built_takes, default_passes, entered_passes, is_valid, action_passes, count_passes, set_passes, bundle_passes, bundle_step_passes, flag_word_passes, flags_pass, level_passes, long_passes, option_passes, other_passes, positional_passes, react_passes, settle_passes, short_passes, step_passes, turn_passes, use_passes, values_pass, value_passes, walk_passes, word_passes}
+use Rattle.clap.specs.Simple.{Shape, built, entered}
+use Rattle.clap.specs.Takes.{takes, default_passes, entered_passes, is_valid, action_passes, count_passes, set_passes, bundle_passes, bundle_step_passes, flag_word_passes, flags_pass, level_passes, long_passes, option_passes, other_passes, positional_passes, react_passes, settle_passes, short_passes, step_passes, turn_passes, use_passes, values_pass, value_passes, walk_passes, word_passes}
 use Rattle.clap.specs.Faults.{fault_of, level_fault, entered_fault, action_fault, count_fault, bundle_fault, bundle_step_fault, flag_word_fault, flags_fault, long_fault, option_fault, other_fault, positional_fault, react_fault, repeat_fault, settle_fault, set_fault, short_fault, step_fault, stray_fault, turn_fault, use_fault, values_fault, walk_fault, word_fault}
 use Rattle.words_spec.specs.CommandWords.{command}
 use Rattle.clap.specs.declared.builder.action.ArgAction.{ArgAction}

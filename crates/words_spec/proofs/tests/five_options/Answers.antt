@@ -1,8 +1,8 @@
-use Rattle.std.proofs.Common.{◌≡◌, ◌∙◌, rules, ap, ap₂, ℕ, Option, Some, None, codes, true, List}
+use Rattle.std.proofs.Common.{◌≡◌, ◌∙◌, rules, ap, ap₂, ℕ, Some, codes, true}
 use Rattle.std.proofs.lemmas.Result.{IfOk-weaker}
 use Rattle.clap.specs.Words.{App, Rule, app_of, new_app, rule_of, with_rule}
 use Rattle.clap.specs.Simple.{app_of_fields}
-use Rattle.words_spec.specs.CommandWords.{command, option_rule, plain_app}
+use Rattle.words_spec.specs.CommandWords.{option_rule, plain_app}
 use Rattle.words_spec.proofs.tests.five_options.Goals as goal
 
 abbrev with_no_binary_name : App → App

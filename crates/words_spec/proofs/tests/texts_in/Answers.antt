@@ -1,4 +1,4 @@
-use Rattle.std.proofs.Common.{◌≡◌, ◌∙◌, refl, Some, List, [], ◌∷◌, ℕ, Bool, true, false, codes, cond, slice_get, find, option_and_then}
+use Rattle.std.proofs.Common.{◌≡◌, ◌∙◌, refl, Some, List, [], ◌∷◌, Bool, true, false, codes, cond, slice_get, find, option_and_then}
 use Rattle.std.specs.Str.{bytes_eq}
 use Rattle.clap.specs.Words.{Row, Text, first_of, found_of, rows_of}
 use Rattle.clap.proofs.WalkLemmas.{first_value-rows}

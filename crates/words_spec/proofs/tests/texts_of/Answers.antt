@@ -1,9 +1,9 @@
-use Rattle.std.proofs.Common.{◌∙◌, ap, sym, map, true≢false, Some}
+use Rattle.std.proofs.Common.{◌≡◌, ◌∙◌, ap, sym, map, true, false, true≢false, Some}
 use Rattle.clap.specs.Words.{app_of, found_of, rows_of}
 use Rattle.words_spec.proofs.Parses.{is_free_command, is_simple_command, matches_are_given, refused_give_none}
 use Rattle.words_spec.proofs.tests.texts_of.Goals as goal
 
--- src/tests.rt:74:1
+-- clap answers matches where no step has a fault
 pub returns-in-Ok-clause-texts : goal.returns-in-Ok-clause-texts
 returns-in-Ok-clause-texts c =
     let is = c.in_ok-five_options.ensures.app in
@@ -12,7 +12,7 @@ returns-in-Ok-clause-texts c =
     ap Some c.texts_in.ensures.texts
     ∙ matches_are_given app words (rows_of (found_of c.in-Ok.matches)) is (c.in-Ok.ensures.kinds (is_free_command app is)) (c.in-Ok.ensures.matches (is_simple_command app is)).0
 
--- src/tests.rt:74:1
+-- an error that isn't want of memory is one of words that aren't taken
 pub returns-in-Err-2-clause-texts : goal.returns-in-Err-2-clause-texts
 returns-in-Err-2-clause-texts c =
     let is = c.in_ok-five_options.ensures.app in
@@ -20,5 +20,5 @@ returns-in-Err-2-clause-texts c =
     let words = map (λ word. word.now) c.args.words.now in
     refused_give_none app words is (λ taken.
     let no_memory = c.kind.ensures ∙ c.in-Err.ensures.passes taken in
-    let same = rw no_memory at c.eq.ensures in
-    true≢false (sym same ∙ c.if-eq.false))
+    let same : false ≡ true = rw (no_memory, c.if-eq.false) at c.eq.ensures in
+    true≢false (sym same))
