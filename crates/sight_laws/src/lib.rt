@@ -1,0 +1,3 @@
+//! Laws of sight past convex obstacles: the rule at walls and corners, which looks at one wall or corner at a time, says
+//! what it should of the whole segment.
+#![tactic(auto)]
