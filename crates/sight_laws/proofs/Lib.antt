@@ -1,0 +1,2 @@
+mod ThroughNumbers
+mod ThroughWalls
