@@ -1,2 +1,3 @@
 mod ThroughNumbers
+mod ThroughRings
 mod ThroughWalls
