@@ -1,3 +1,4 @@
 mod ThroughNumbers
 mod ThroughRings
 mod ThroughWalls
+mod ThroughFacts

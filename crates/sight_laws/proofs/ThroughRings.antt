@@ -238,11 +238,11 @@ not_all_aside g x turning p points left aside apart =
 -- ---- somewhere the line leads in
 
 -- left of the line, or on it after a corner left of it
-abbrev ComesLeft : (Point → ℤ) → Point → Point → Type 0
+abbrev pub ComesLeft : (Point → ℤ) → Point → Point → Type 0
 ComesLeft g u v = (pos 0 <ℤ g v) ⊎ ((g v ≡ pos 0) × (pos 0 <ℤ g u))
 
 -- from left of the line straight to its right, by way of a corner on it, or along it
-abbrev NotDown : (Point → ℤ) → Corner → Type 0
+abbrev pub NotDown : (Point → ℤ) → Corner → Type 0
 NotDown g c =
     ((pos 0 <ℤ g c.here → g c.next <ℤ pos 0 → ⊥) × (pos 0 <ℤ g c.prev → g c.here ≡ pos 0 → g c.next <ℤ pos 0 → ⊥))
     × (g c.here ≡ pos 0 → g c.next ≡ pos 0 → ⊥)
