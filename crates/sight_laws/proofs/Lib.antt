@@ -2,3 +2,5 @@ mod ThroughNumbers
 mod ThroughRings
 mod ThroughWalls
 mod ThroughFacts
+mod ThroughTurned
+mod ThroughLaw

@@ -1,6 +1,6 @@
 -- A convex obstacle that isn't in the way, and which the segment passes through: nowhere round it does the line lead in.
-use Rattle.std.proofs.Common.{◌≡◌, ℕ, ℤ, pos, neg_ℤ, ◌<ℤ◌, ◌≤ℤ◌, refl, sym, ap, ◌∙◌, arith}
-use Rattle.std.specs.Prelude.{Bool, true, false, List, All}
+use Rattle.std.proofs.Common.{◌≡◌, ℤ, pos, neg_ℤ, ◌<ℤ◌, ◌≤ℤ◌, arith}
+use Rattle.std.specs.Prelude.{true, false, List, All}
 use Rattle.std.proofs.lemmas.Int.{ints}
 use Rattle.plane_spec.specs.declared.Point.{Point}
 use Rattle.plane_spec.specs.declared.Segment.{Segment}
@@ -9,7 +9,7 @@ use Rattle.plane_spec.specs.Vectors.{orient_of, lies_left}
 use Rattle.plane_spec.specs.Cones.{corner}
 use Rattle.plan_spec.specs.Scene.{turned_edge, turned_corner}
 use Rattle.plan_spec.specs.Sight.{crosses, enters_wall, corner_blocks}
-use Rattle.sight_laws.proofs.ThroughRings.{ring, edge_after, weaker, both, before_each, after_each, IsTurning, turning-back, turning-exchanged, NotDown, goes_down}
+use Rattle.sight_laws.proofs.ThroughRings.{ring, edge_after, weaker, both, before_each, after_each, turning-back, turning-exchanged, NotDown, goes_down}
 use Rattle.sight_laws.proofs.ThroughWalls.{turn_at, IsPart, left_of_entry, left_of_corner, left_of_other, same_ends, left_where_same, turned_round, turned_alone}
 
 -- ---- tests of all pairs
@@ -64,19 +64,19 @@ not_at_corner wall cs n k p q prev here next passed fit fit_next unblocked befor
 
 -- ---- walls in the order of the points
 
-abbrev pub wall_on : Corner → Segment
-wall_on c = edge_after c
-
 -- neither the wall after the corner nor the corner is in the way
 abbrev pub IsFreeOn : Point → Point → Corner → Type 0
 IsFreeOn p q c = ((crosses p q (edge_after c) ≡ false) × (enters_wall p q (edge_after c) ≡ false)) × (corner_blocks p q c ≡ false)
 
-down_nowhere_on : (cs : List Corner) (n k : ℤ) (p q : Point) → IsPassed wall_on cs n k p q → (c : Corner)
-    → (IsFit wall_on cs n k p q c.prev c.here × IsFit wall_on cs n k p q c.here c.next) × IsFreeOn p q c → NotDown (orient_of p q) c
-down_nowhere_on cs n k p q passed c f =
-    ((λ ha hb. not_at_wall wall_on cs n k p q c.here c.next passed f.0.1 f.1.0.0 f.1.0.1 ha hb
-    , λ before flat after. not_at_corner wall_on cs n k p q c.prev c.here c.next passed f.0.0 f.0.1 f.1.1 before flat after)
-    , λ ha hb. not_along wall_on cs n k p q c.here c.next passed f.0.1 ha hb)
+down_nowhere_on : (cs : List Corner) (n k : ℤ) (p q : Point) → IsPassed edge_after cs n k p q → (c : Corner)
+    → (IsFit edge_after cs n k p q c.prev c.here × IsFit edge_after cs n k p q c.here c.next) × IsFreeOn p q c → NotDown (orient_of p q) c
+down_nowhere_on cs n k p q passed c f = (
+  (
+    λ ha hb. not_at_wall edge_after cs n k p q c.here c.next passed f.0.1 f.1.0.0 f.1.0.1 ha hb,
+    λ before flat after. not_at_corner edge_after cs n k p q c.prev c.here c.next passed f.0.0 f.0.1 f.1.1 before flat after,
+  ),
+  λ ha hb. not_along edge_after cs n k p q c.here c.next passed f.0.1 ha hb,
+)
 
 ends_on : (start : Point) (points : List Point)
     → All (λ j. All (λ c. pos 0 ≤ℤ orient_of j.here j.next c.here) (ring start points)) (ring start points)
@@ -90,19 +90,19 @@ ends_on start points convex =
     (after_each (λ u v. pos 0 ≤ℤ orient_of j.here j.next v) start points all)) cs convex)
 
 -- one of the walls or corners is in the way
-pub blocked_on : (start : Point) (points : List Point) (n k : ℤ) (p q : Point) → IsPassed wall_on (ring start points) n k p q
+pub blocked_on : (start : Point) (points : List Point) (n k : ℤ) (p q : Point) → IsPassed edge_after (ring start points) n k p q
     → All (λ j. All (λ c. pos 0 ≤ℤ orient_of j.here j.next c.here) (ring start points)) (ring start points)
     → All (IsFreeOn p q) (ring start points) → ⊥
 blocked_on start points n k p q passed convex free =
     let cs = ring start points in
     let ends = ends_on start points convex in
     let fit = both (λ c. pos 0 <ℤ turn_at n k p q c.here c.next)
-        (λ c. All (λ j. (pos 0 ≤ℤ orient_of j.here j.next c.here) × (pos 0 ≤ℤ orient_of j.here j.next c.next)) cs) cs passed.inside ends in
-    let fit_before = before_each (IsFit wall_on cs n k p q) start points fit in
-    let fits = both (λ c. IsFit wall_on cs n k p q c.prev c.here) (λ c. IsFit wall_on cs n k p q c.here c.next) cs fit_before fit in
-    let facts = both (λ c. IsFit wall_on cs n k p q c.prev c.here × IsFit wall_on cs n k p q c.here c.next) (IsFreeOn p q) cs fits free in
+    (λ c. All (λ j. (pos 0 ≤ℤ orient_of j.here j.next c.here) × (pos 0 ≤ℤ orient_of j.here j.next c.next)) cs) cs passed.inside ends in
+    let fit_before = before_each (IsFit edge_after cs n k p q) start points fit in
+    let fits = both (λ c. IsFit edge_after cs n k p q c.prev c.here) (λ c. IsFit edge_after cs n k p q c.here c.next) cs fit_before fit in
+    let facts = both (λ c. IsFit edge_after cs n k p q c.prev c.here × IsFit edge_after cs n k p q c.here c.next) (IsFreeOn p q) cs fits free in
     goes_down (orient_of p q) (turn_at n k p q) (record { round = turned_round n k p q; alone = turned_alone n k p q }) start points passed.inside
-    (weaker (λ c. (IsFit wall_on cs n k p q c.prev c.here × IsFit wall_on cs n k p q c.here c.next) × IsFreeOn p q c) (NotDown (orient_of p q))
+    (weaker (λ c. (IsFit edge_after cs n k p q c.prev c.here × IsFit edge_after cs n k p q c.here c.next) × IsFreeOn p q c) (NotDown (orient_of p q))
     (down_nowhere_on cs n k p q passed) cs facts)
 
 -- ---- walls against the order of the points
@@ -124,10 +124,13 @@ none_back z h = omega (arith, ints)
 
 down_nowhere_back : (cs : List Corner) (n k : ℤ) (p q : Point) → IsPassed wall_back cs n k p q → (c : Corner)
     → (IsFit wall_back cs n k p q c.here c.prev × IsFit wall_back cs n k p q c.next c.here) × IsFreeBack p q c → NotDown (λ v. neg_ℤ (orient_of p q v)) c
-down_nowhere_back cs n k p q passed c f =
-    ((λ hb ha. not_at_wall wall_back cs n k p q c.next c.here passed f.0.1 f.1.0.0 f.1.0.1 (negative_back _ ha) (positive_back _ hb)
-    , λ after flat before. not_at_corner wall_back cs n k p q c.next c.here c.prev passed f.0.1 f.0.0 f.1.1 (negative_back _ before) (none_back _ flat) (positive_back _ after))
-    , λ hb ha. not_along wall_back cs n k p q c.next c.here passed f.0.1 (none_back _ ha) (none_back _ hb))
+down_nowhere_back cs n k p q passed c f = (
+  (
+    λ hb ha. not_at_wall wall_back cs n k p q c.next c.here passed f.0.1 f.1.0.0 f.1.0.1 (negative_back _ ha) (positive_back _ hb),
+    λ after flat before. not_at_corner wall_back cs n k p q c.next c.here c.prev passed f.0.1 f.0.0 f.1.1 (negative_back _ before) (none_back _ flat) (positive_back _ after),
+  ),
+  λ hb ha. not_along wall_back cs n k p q c.next c.here passed f.0.1 (none_back _ ha) (none_back _ hb),
+)
 
 ends_back : (start : Point) (points : List Point)
     → All (λ j. All (λ c. pos 0 ≤ℤ orient_of j.next j.here c.next) (ring start points)) (ring start points)
@@ -147,12 +150,12 @@ blocked_back start points n k p q passed convex free =
     let cs = ring start points in
     let ends = ends_back start points convex in
     let fit = both (λ c. pos 0 <ℤ turn_at n k p q c.next c.here)
-        (λ c. All (λ j. (pos 0 ≤ℤ orient_of j.next j.here c.next) × (pos 0 ≤ℤ orient_of j.next j.here c.here)) cs) cs passed.inside ends in
+    (λ c. All (λ j. (pos 0 ≤ℤ orient_of j.next j.here c.next) × (pos 0 ≤ℤ orient_of j.next j.here c.here)) cs) cs passed.inside ends in
     let fit_before = before_each (λ u v. IsFit wall_back cs n k p q v u) start points fit in
     let fits = both (λ c. IsFit wall_back cs n k p q c.here c.prev) (λ c. IsFit wall_back cs n k p q c.next c.here) cs fit_before fit in
     let facts = both (λ c. IsFit wall_back cs n k p q c.here c.prev × IsFit wall_back cs n k p q c.next c.here) (IsFreeBack p q) cs fits free in
     let turning = turning-back (orient_of p q) (λ u v. turn_at n k p q v u)
-        (turning-exchanged (orient_of p q) (turn_at n k p q) (record { round = turned_round n k p q; alone = turned_alone n k p q })) in
+    (turning-exchanged (orient_of p q) (turn_at n k p q) (record { round = turned_round n k p q; alone = turned_alone n k p q })) in
     goes_down (λ v. neg_ℤ (orient_of p q v)) (λ u v. turn_at n k p q v u) turning start points passed.inside
     (weaker (λ c. (IsFit wall_back cs n k p q c.here c.prev × IsFit wall_back cs n k p q c.next c.here) × IsFreeBack p q c) (NotDown (λ v. neg_ℤ (orient_of p q v)))
     (down_nowhere_back cs n k p q passed) cs facts)

@@ -1,5 +1,5 @@
 -- Identities and signs for a segment that passes through a convex obstacle.
-use Rattle.std.proofs.Common.{◌≡◌, ℕ, ◌+◌, ◌*◌, ℤ, pos, ◌+ℤ◌, ◌-ℤ◌, ◌*ℤ◌, neg_ℤ, ◌<ℤ◌, ◌≤ℤ◌, ◌⊎◌, inl, inr, refl, sym, ap, ◌∙◌, arith}
+use Rattle.std.proofs.Common.{◌≡◌, ℕ, ℤ, pos, ◌+ℤ◌, ◌-ℤ◌, ◌*ℤ◌, neg_ℤ, ◌<ℤ◌, ◌≤ℤ◌, ◌⊎◌, inl, inr, ◌∙◌, arith}
 use Rattle.std.proofs.lemmas.Int.{ints, by_lt_z}
 use borrow.Author.Differences.{up, down}
 use Rattle.int_laws.proofs.Ring.{diff, is_diff, same_diff, sum_diff, minus_diff, product_diff, times_sum, times_minus, sum_times, minus_times, neg_times, times_neg, product_swapped}
@@ -117,16 +117,16 @@ pub between_opposite : (s t m n : ℤ) → pos 0 <ℤ s → t <ℤ pos 0 → s *
 between_opposite s t m n hs ht e =
     by_lt_z m (pos 0)
     (λ low.
-        let high = positive_product (neg_ℤ t) (neg_ℤ m) (omega (arith, ints, ht)) (omega (arith, ints, low)) in
-        let first = neg_times t (neg_ℤ m) in
-        let second = times_neg t m in
-        let turn = product_swapped s n in
-        let right = positive_factor n s (omega (arith, ints, high, first, second, e, turn)) hs in
-        inr (omega (arith, ints, low), omega (arith, ints, right)))
+    let high = positive_product (neg_ℤ t) (neg_ℤ m) (omega (arith, ints, ht)) (omega (arith, ints, low)) in
+    let first = neg_times t (neg_ℤ m) in
+    let second = times_neg t m in
+    let turn = product_swapped s n in
+    let right = positive_factor n s (omega (arith, ints, high, first, second, e, turn)) hs in
+    inr (omega (arith, ints, low), omega (arith, ints, right)))
     (λ high.
-        let low = opposite_product t m (omega (arith, ints, ht)) high in
-        let turn = product_swapped s n in
-        inl (high, not_positive_factor n s (omega (arith, ints, low, e, turn)) hs))
+    let low = opposite_product t m (omega (arith, ints, ht)) high in
+    let turn = product_swapped s n in
+    inl (high, not_positive_factor n s (omega (arith, ints, low, e, turn)) hs))
 
 along_up : (s f m z : ℤ) → pos 0 <ℤ s → f ≤ℤ pos 0 → pos 0 <ℤ (s +ℤ f) → pos 0 ≤ℤ z → pos 0 ≡ s *ℤ m +ℤ f *ℤ z → (pos 0 ≤ℤ m) × (m ≤ℤ z)
 along_up s f m z hs hf hsum hz e =
@@ -147,12 +147,12 @@ pub between_along : (s f m z : ℤ) → pos 0 <ℤ s → f ≤ℤ pos 0 → pos 
 between_along s f m z hs hf hsum e =
     by_lt_z z (pos 0)
     (λ low.
-        let first = times_neg s m in
-        let second = times_neg f z in
-        let back = along_up s f (neg_ℤ m) (neg_ℤ z) hs hf hsum (omega (arith, ints, low)) (omega (arith, ints, first, second, e)) in
-        let start = back.0 in
-        let end = back.1 in
-        inr (omega (arith, ints, end), omega (arith, ints, start)))
+    let first = times_neg s m in
+    let second = times_neg f z in
+    let back = along_up s f (neg_ℤ m) (neg_ℤ z) hs hf hsum (omega (arith, ints, low)) (omega (arith, ints, first, second, e)) in
+    let start = back.0 in
+    let end = back.1 in
+    inr (omega (arith, ints, end), omega (arith, ints, start)))
     (λ high. inl (along_up s f m z hs hf hsum high e))
 
 -- left of a wall beyond the place where the line enters is left of it before, too, where p is after that place
@@ -160,14 +160,14 @@ pub left_before : (s f g z n k : ℤ) → pos 0 <ℤ n → pos 0 <ℤ k → pos 
 left_before s f g z n k hn hk hs hf there inside =
     by_lt_z (pos 0) g (λ left. left)
     (λ right.
-        let ng = not_positive_product g n right hn in
-        let turn_n = product_swapped n g in
-        let turn_k = product_swapped k z in
-        let rises = positive_factor z k (omega (arith, ints, ng, turn_n, turn_k, inside)) hk in
-        let fz = positive_product f z hf rises in
-        let sg = not_positive_product g s right hs in
-        let turn_s = product_swapped s g in
-        absurd (omega (arith, ints, fz, sg, turn_s, there)))
+    let ng = not_positive_product g n right hn in
+    let turn_n = product_swapped n g in
+    let turn_k = product_swapped k z in
+    let rises = positive_factor z k (omega (arith, ints, ng, turn_n, turn_k, inside)) hk in
+    let fz = positive_product f z hf rises in
+    let sg = not_positive_product g s right hs in
+    let turn_s = product_swapped s g in
+    absurd (omega (arith, ints, fz, sg, turn_s, there)))
 
 -- left of a wall on the way, and rising: then left of it at the end
 pub left_after : (f z n k : ℤ) → pos 0 <ℤ n → k <ℤ n → pos 0 <ℤ z → pos 0 <ℤ (n *ℤ f +ℤ k *ℤ z) → pos 0 <ℤ (f +ℤ z)

@@ -1,6 +1,6 @@
 -- Corners in a ring, each between its neighbours: what holds all round, and that they can't all lie on one side of a line through a point that they go round.
-use Rattle.std.proofs.Common.{◌≡◌, ℕ, ℤ, pos, ◌+ℤ◌, ◌-ℤ◌, ◌*ℤ◌, neg_ℤ, ◌<ℤ◌, ◌≤ℤ◌, ◌⊎◌, inl, inr, refl, sym, ap, ◌∙◌, subst, arith}
-use Rattle.std.specs.Prelude.{Bool, true, false, List, [], ◌∷◌, map, All}
+use Rattle.std.proofs.Common.{◌≡◌, ℤ, pos, ◌+ℤ◌, ◌*ℤ◌, neg_ℤ, ◌<ℤ◌, ◌≤ℤ◌, ◌⊎◌, inl, inr, refl, ap, ◌∙◌, arith}
+use Rattle.std.specs.Prelude.{Bool, false, List, [], ◌∷◌, map, All}
 use Rattle.std.specs.List.{list_any}
 use Rattle.std.proofs.lemmas.Int.{ints, by_lt_z}
 use Rattle.std.proofs.lemmas.Bool.{or_parts}
@@ -146,12 +146,12 @@ pub turning-back : (g : Point → ℤ) (x : Point → Point → ℤ) → IsTurni
 turning-back g x turning =
     record {
       round = λ u v w.
-        let e = turning.round u v w in
-        let a = neg_times (g v) (x u w) in
-        let b = neg_times (g w) (x u v) in
-        let c = neg_times (g u) (x v w) in
-        omega (arith, ints, e, a, b, c);
-      alone = turning.alone
+          let e = turning.round u v w in
+          let a = neg_times (g v) (x u w) in
+          let b = neg_times (g w) (x u v) in
+          let c = neg_times (g u) (x v w) in
+          omega (arith, ints, e, a, b, c);
+      alone = turning.alone;
     }
 
 -- the same of corners that go round the other way
@@ -159,7 +159,7 @@ pub turning-exchanged : (g : Point → ℤ) (x : Point → Point → ℤ) → Is
 turning-exchanged g x turning =
     record {
       round = λ u v w. let e = turning.round w v u in omega (arith, ints, e);
-      alone = turning.alone
+      alone = turning.alone;
     }
 
 -- the corner and the next are left of the line, and turn left
@@ -225,14 +225,14 @@ not_all_aside g x turning p points left aside apart =
     let more = both (λ c. pos 0 ≤ℤ g c.here) (λ c. g c.here ≡ pos 0 → g c.next ≡ pos 0 → ⊥) cs aside apart in
     let sides = both (λ c. (pos 0 ≤ℤ g c.prev) × (pos 0 ≤ℤ g c.next)) (λ c. (pos 0 ≤ℤ g c.here) × (g c.here ≡ pos 0 → g c.next ≡ pos 0 → ⊥)) cs asides more in
     let facts = both (λ c. (pos 0 <ℤ x c.prev c.here) × (pos 0 <ℤ x c.here c.next))
-        (λ c. ((pos 0 ≤ℤ g c.prev) × (pos 0 ≤ℤ g c.next)) × ((pos 0 ≤ℤ g c.here) × (g c.here ≡ pos 0 → g c.next ≡ pos 0 → ⊥))) cs lefts sides in
+    (λ c. ((pos 0 ≤ℤ g c.prev) × (pos 0 ≤ℤ g c.next)) × ((pos 0 ≤ℤ g c.here) × (g c.here ≡ pos 0 → g c.next ≡ pos 0 → ⊥))) cs lefts sides in
     let strict = weaker (λ c. ((pos 0 <ℤ x c.prev c.here) × (pos 0 <ℤ x c.here c.next))
-        × (((pos 0 ≤ℤ g c.prev) × (pos 0 ≤ℤ g c.next)) × ((pos 0 ≤ℤ g c.here) × (g c.here ≡ pos 0 → g c.next ≡ pos 0 → ⊥))))
-        (λ c. pos 0 <ℤ g c.here)
-        (λ c f. strictly_left g x turning c.prev c.here c.next f.1.0.0 f.1.1.0 f.1.0.1 f.0.0 f.0.1 f.1.1.1) cs facts in
+    × (((pos 0 ≤ℤ g c.prev) × (pos 0 ≤ℤ g c.next)) × ((pos 0 ≤ℤ g c.here) × (g c.here ≡ pos 0 → g c.next ≡ pos 0 → ⊥))))
+    (λ c. pos 0 <ℤ g c.here)
+    (λ c f. strictly_left g x turning c.prev c.here c.next f.1.0.0 f.1.1.0 f.1.0.1 f.0.0 f.0.1 f.1.1.1) cs facts in
     let strict_after = after_each (λ u v. pos 0 <ℤ g v) p points strict in
     let turns = both (λ c. (pos 0 <ℤ g c.here) × (pos 0 <ℤ g c.next)) (λ c. pos 0 <ℤ x c.here c.next) cs
-        (both (λ c. pos 0 <ℤ g c.here) (λ c. pos 0 <ℤ g c.next) cs strict strict_after) left in
+    (both (λ c. pos 0 <ℤ g c.here) (λ c. pos 0 <ℤ g c.next) cs strict strict_after) left in
     not_all_left g x turning (last_point p points) p points turns
 
 -- ---- somewhere the line leads in
@@ -264,6 +264,7 @@ comes_left_or_not g u v =
     right : g v <ℤ pos 0 → ComesLeft g u v → ⊥
     right down (inl left) = absurd (omega (arith, ints))
     right down (inr h) = let flat = h.0 in absurd (omega (arith, ints, flat, down))
+
     neither : g v ≤ℤ pos 0 → g u ≤ℤ pos 0 → ComesLeft g u v → ⊥
     neither low before (inl left) = absurd (omega (arith, ints))
     neither low before (inr h) = let left = h.1 in absurd (omega (arith, ints, left, before))
@@ -284,16 +285,17 @@ pub goes_down : (g : Point → ℤ) (x : Point → Point → ℤ) → IsTurning 
 goes_down g x turning p points left never =
     elim (comes_left_or_not g (last_point p points) p) [
       | inl h ↦ not_all_aside g x turning p points left
-        (weaker (λ c. ComesLeft g c.prev c.here) (λ c. pos 0 ≤ℤ g c.here) (λ c. left_is_aside g c.prev c.here) (ring p points)
-        (all_from (ComesLeft g) (last_point p points) p p points h steps).0) apart
+          (weaker (λ c. ComesLeft g c.prev c.here) (λ c. pos 0 ≤ℤ g c.here) (λ c. left_is_aside g c.prev c.here) (ring p points)
+          (all_from (ComesLeft g) (last_point p points) p p points h steps).0) apart
       | inr h ↦ not_all_aside (λ v. neg_ℤ (g v)) x (turning-back g x turning) p points left
-        (weaker (λ c. ComesLeft g c.prev c.here → ⊥) (λ c. pos 0 ≤ℤ neg_ℤ (g c.here)) (λ c. not_left_is_aside g c.prev c.here) (ring p points)
-        (none_from (ComesLeft g) (last_point p points) p p points h steps))
-        (weaker (λ c. g c.here ≡ pos 0 → g c.next ≡ pos 0 → ⊥) (λ c. neg_ℤ (g c.here) ≡ pos 0 → neg_ℤ (g c.next) ≡ pos 0 → ⊥)
-        (λ c f h k. f (neg_none (g c.here) h) (neg_none (g c.next) k)) (ring p points) apart)
+          (weaker (λ c. ComesLeft g c.prev c.here → ⊥) (λ c. pos 0 ≤ℤ neg_ℤ (g c.here)) (λ c. not_left_is_aside g c.prev c.here) (ring p points)
+          (none_from (ComesLeft g) (last_point p points) p p points h steps))
+          (weaker (λ c. g c.here ≡ pos 0 → g c.next ≡ pos 0 → ⊥) (λ c. neg_ℤ (g c.here) ≡ pos 0 → neg_ℤ (g c.next) ≡ pos 0 → ⊥)
+          (λ c f h k. f (neg_none (g c.here) h) (neg_none (g c.next) k)) (ring p points) apart)
     ]
   where
     steps : All (λ c. ComesLeft g c.prev c.here → ComesLeft g c.here c.next) (ring p points)
     steps = weaker (NotDown g) (λ c. ComesLeft g c.prev c.here → ComesLeft g c.here c.next) (stays_left g) (ring p points) never
+
     apart : All (λ c. g c.here ≡ pos 0 → g c.next ≡ pos 0 → ⊥) (ring p points)
     apart = weaker (NotDown g) (λ c. g c.here ≡ pos 0 → g c.next ≡ pos 0 → ⊥) (λ c f. f.1) (ring p points) never

@@ -1,19 +1,17 @@
 -- One wall or corner of a convex obstacle, where a segment that passes through leads into it.
-use Rattle.std.proofs.Common.{◌≡◌, ℕ, ℤ, pos, ◌+ℤ◌, ◌-ℤ◌, ◌*ℤ◌, neg_ℤ, ◌<ℤ◌, ◌≤ℤ◌, ◌⊎◌, inl, inr, refl, sym, ap, ◌∙◌, subst, arith}
+use Rattle.std.proofs.Common.{◌≡◌, ℕ, ℤ, pos, ◌+ℤ◌, ◌-ℤ◌, ◌*ℤ◌, ◌<ℤ◌, ◌≤ℤ◌, ◌⊎◌, inl, inr, refl, sym, ap, ◌∙◌, subst, arith}
 use Rattle.std.specs.Prelude.{Bool, true, false, not, ◌&&◌, ◌||◌, if◌then◌else◌}
 use Rattle.std.specs.Ordering.{int_eq}
 use Rattle.std.proofs.lemmas.Int.{ints, by_lt_z}
-use Rattle.std.proofs.lemmas.Bool.{and_from, and_parts, or_parts, false_from_ne_true}
+use Rattle.std.proofs.lemmas.Bool.{and_from, and_parts, or_parts}
 use Rattle.int_laws.proofs.Ring.{cross_of_three, cross_of_four, product_swapped, times_zero, zero_times}
 use Rattle.int_laws.proofs.Signs.{positive_factor, zero_factor, not_negative_product, opposite_product, positive_tested, tested_positive}
 use Rattle.int_laws.proofs.Tests.{tested_equal, equal_tested}
 use Rattle.plane_spec.specs.declared.Point.{Point}
-use Rattle.plane_spec.specs.declared.Segment.{Segment}
-use Rattle.plane_spec.specs.declared.Corner.{Corner}
 use Rattle.plane_spec.specs.Vectors.{vector, orient_of, cross_of, same_point, is_left, lies_left}
 use Rattle.plane_spec.specs.Segments.{is_between, is_on_segment, are_opposite, cross_properly}
 use Rattle.plane_spec.specs.Cones.{corner, is_in_cone}
-use Rattle.plan_spec.specs.Sight.{crosses, is_on_middle, leaves_wall, enters_wall, corner_stops, corner_blocks}
+use Rattle.plan_spec.specs.Sight.{crosses, leaves_wall, enters_wall, corner_stops, corner_blocks}
 use Rattle.exact_geom.proofs.Orientation.{orient_of_cycled, orient_of_last_exchanged}
 use Rattle.sight_laws.specs.Convex.{enlarged, part_way}
 use Rattle.sight_laws.proofs.ThroughNumbers.{area, cross_across, chained, side_on_way, turning, between_opposite, between_along, left_before, left_after, side_at_entry}
@@ -193,14 +191,14 @@ left_of_other n k p q a b c e part ha hb left at_a at_b inside =
     let first = cross_of_four (q.x -ℤ p.x) (q.y -ℤ p.y) (e.x -ℤ p.x) (e.y -ℤ p.y) (a.x -ℤ p.x) (a.y -ℤ p.y) (b.x -ℤ p.x) (b.y -ℤ p.y) in
     let second = cross_of_four (q.x -ℤ p.x) (q.y -ℤ p.y) (a.x -ℤ p.x) (a.y -ℤ p.y) (b.x -ℤ p.x) (b.y -ℤ p.y) (c.x -ℤ p.x) (c.y -ℤ p.y) in
     let entry = side_at_entry (orient_of p q a) (orient_of p q b) (orient_of p a b) (orient_of p c e) (orient_of p e a) (orient_of p a c) (orient_of p e b) (orient_of p b c)
-        (orient_of p q c) (orient_of p q e) first second in
+    (orient_of p q c) (orient_of p q e) first second in
     let of_a : pos 0 ≤ℤ ((orient_of p c e +ℤ orient_of p e a) +ℤ orient_of p a c) = subst (λ t. pos 0 ≤ℤ t) (area c.x c.y e.x e.y a.x a.y p.x p.y) at_a in
     let of_b : pos 0 ≤ℤ ((orient_of p c e +ℤ orient_of p e b) +ℤ orient_of p b c) = subst (λ t. pos 0 ≤ℤ t) (area c.x c.y e.x e.y b.x b.y p.x p.y) at_b in
     let up = not_negative_product (orient_of p q a) _ (omega (arith, ints, ha)) of_b in
     let down = opposite_product (orient_of p q b) _ hb of_a in
     let there : pos 0 ≤ℤ ((orient_of p q a -ℤ orient_of p q b) *ℤ orient_of p c e -ℤ orient_of p a b *ℤ (orient_of p q c -ℤ orient_of p q e)) = omega (arith, ints, entry, up, down) in
     let side = left_before (orient_of p q a -ℤ orient_of p q b) (orient_of p a b) (orient_of p c e) (orient_of p q c -ℤ orient_of p q e) n k
-        part.whole part.part (omega (arith, ints, ha, hb)) left there inside in
+    part.whole part.part (omega (arith, ints, ha, hb)) left there inside in
     positive_tested (orient_of c e p) (subst (λ t. pos 0 <ℤ t) (sym (orient_of_cycled p c e)) side)
 
 -- ---- a wall on the line
@@ -218,9 +216,10 @@ same_ends n k p q a b part ha hb inside =
     let b_y : orient_of p q b *ℤ (a.y -ℤ p.y) ≡ pos 0 = ap (λ t. t *ℤ (a.y -ℤ p.y)) hb ∙ zero_times (a.y -ℤ p.y) in
     let a_y : orient_of p q a *ℤ (b.y -ℤ p.y) ≡ pos 0 = ap (λ t. t *ℤ (b.y -ℤ p.y)) ha ∙ zero_times (b.y -ℤ p.y) in
     let turn_x = product_swapped (orient_of p a b) (q.x -ℤ p.x) in
-    let turn_y = product_swapped (orient_of p a b) (q.y -ℤ p.y) in
-    (zero_factor (q.x -ℤ p.x) (orient_of p a b) (omega (arith, ints, x, b_x, a_x, turn_x)) side
-    , zero_factor (q.y -ℤ p.y) (orient_of p a b) (omega (arith, ints, y, b_y, a_y, turn_y)) side)
+    let turn_y = product_swapped (orient_of p a b) (q.y -ℤ p.y) in (
+      zero_factor (q.x -ℤ p.x) (orient_of p a b) (omega (arith, ints, x, b_x, a_x, turn_x)) side,
+      zero_factor (q.y -ℤ p.y) (orient_of p a b) (omega (arith, ints, y, b_y, a_y, turn_y)) side,
+    )
 
 -- where p is q, p itself is left of a wall that has the point on the way on its left
 pub left_where_same : (n k : ℤ) (p q a b : Point) → IsPart n k → q.x -ℤ p.x ≡ pos 0 → q.y -ℤ p.y ≡ pos 0 → pos 0 <ℤ turn_at n k p q a b → lies_left a b p ≡ true
