@@ -22,6 +22,7 @@ use Rattle.plan_spec.specs.Sight.{crosses, enters_wall, corner_blocks, is_blocke
 use Rattle.sight_laws.specs.Convex.{obstacle_alone, is_convex, is_strictly_inside, enlarged_wall, part_way, PassesThrough}
 use Rattle.sight_laws.proofs.ThroughRings.{ring, edge_after, corners_along_is, edges_of_is, weaker, both, none_passes}
 use Rattle.sight_laws.proofs.ThroughWalls.{turn_at, turn_is_left}
+use Rattle.sight_laws.proofs.ThroughTurned.{IsUnblocked, unblocked_turned, passes_turned}
 use Rattle.sight_laws.proofs.ThroughFacts.{IsPassed, IsFreeOn, IsFreeBack, wall_back, blocked_on, blocked_back}
 
 -- ---- the walls and corners of an obstacle, whichever way its points go round
@@ -77,11 +78,6 @@ convex_pairs wall cs h =
   where
     reaches : Segment → Segment → Bool
     reaches w v = int_le (pos 0) (orient_of w.a w.b v.a)
-
-record IsUnblocked (p q : Point) (walls : List Segment) (corners : List Corner) : Type 0 where
-  uncrossed : list_any (crosses p q) walls ≡ false
-  unentered : list_any (enters_wall p q) walls ≡ false
-  unstopped : list_any (corner_blocks p q) corners ≡ false
 
 unblocked_parts : (scene : Scene) (p q : Point) → is_blocked scene p q ≡ false → IsUnblocked p q scene.walls scene.corners
 unfolding is_blocked
@@ -139,17 +135,31 @@ not_free_back start points p q walls corners walls_are corners_are convex outsid
     (convex_pairs wall_back cs (subst (λ t. is_convex t ≡ true) walls_are convex))
     (free_back cs p q (subst (λ t. IsUnblocked p q (map wall_back cs) t) corners_are (subst (λ t. IsUnblocked p q t corners) walls_are free)))
 
-not_free : (points : List Point) (p q : Point) → is_convex (walls_round true points) ≡ true → is_strictly_inside (walls_round true points) p ≡ false
+not_free_from : (points : List Point) (p q : Point) → is_convex (walls_round true points) ≡ true → is_strictly_inside (walls_round true points) p ≡ false
     → PassesThrough (walls_round true points) p q → IsUnblocked p q (walls_round true points) (corners_round true points) → ⊥
 unfolding walls_round is_counterclockwise
-not_free [] p q convex outside way free = let absurdity : true ≡ false = outside in cc
-not_free (start ∷ points) p q convex outside way free =
+not_free_from [] p q convex outside way free = let absurdity : true ≡ false = outside in cc
+not_free_from (start ∷ points) p q convex outside way free =
     elim (cases_Bool (is_counterclockwise (start ∷ points))) [
       | inl h ↦ not_free_on start points p q (walls_round true (start ∷ points)) (corners_round true (start ∷ points)) (walls_on start points h) (corners_on start points h) convex outside way free
       | inr h ↦ not_free_back start points p q (walls_round true (start ∷ points)) (corners_round true (start ∷ points)) (walls_back start points h) (corners_back start points h) convex outside way free
     ]
 
-pub blocked_alone : (points : List Point) (p q : Point) → is_convex (walls_round true points) ≡ true → is_strictly_inside (walls_round true points) p ≡ false
+-- the same from the end that is outside
+not_free_by : (t : Bool) (points : List Point) (p q : Point) → is_strictly_inside (walls_round true points) p ≡ t → is_convex (walls_round true points) ≡ true
+    → (t && is_strictly_inside (walls_round true points) q) ≡ false
+    → PassesThrough (walls_round true points) p q → IsUnblocked p q (walls_round true points) (corners_round true points) → ⊥
+not_free_by false points p q h convex outside way free = not_free_from points p q convex h way free
+not_free_by true points p q h convex outside way free =
+    not_free_from points q p convex outside (passes_turned (walls_round true points) p q way) (unblocked_turned p q (walls_round true points) (corners_round true points) free)
+
+not_free : (points : List Point) (p q : Point) → is_convex (walls_round true points) ≡ true
+    → (is_strictly_inside (walls_round true points) p && is_strictly_inside (walls_round true points) q) ≡ false
+    → PassesThrough (walls_round true points) p q → IsUnblocked p q (walls_round true points) (corners_round true points) → ⊥
+not_free points p q = not_free_by (is_strictly_inside (walls_round true points) p) points p q refl
+
+pub blocked_alone : (points : List Point) (p q : Point) → is_convex (walls_round true points) ≡ true
+    → (is_strictly_inside (walls_round true points) p && is_strictly_inside (walls_round true points) q) ≡ false
     → PassesThrough (walls_round true points) p q → is_blocked (obstacle_alone points) p q ≡ true
 blocked_alone points p q convex outside way =
     true_from_ne_false (is_blocked (obstacle_alone points) p q)
@@ -190,7 +200,7 @@ unblocked_member plan o p q there h =
     }
 
 pub unseen_in_plan : (plan : Plan) (o : Obstacle) (p q : Point) → Contains plan.obstacles o → is_convex (walls_round true o.points) ≡ true
-    → is_strictly_inside (walls_round true o.points) p ≡ false → PassesThrough (walls_round true o.points) p q → are_in_sight (scene_of plan) p q ≡ false
+    → (is_strictly_inside (walls_round true o.points) p && is_strictly_inside (walls_round true o.points) q) ≡ false → PassesThrough (walls_round true o.points) p q → are_in_sight (scene_of plan) p q ≡ false
 unfolding are_in_sight
 unseen_in_plan plan o p q there convex outside way =
     let blocked = true_from_ne_false (is_blocked (scene_of plan) p q) (λ free. not_free o.points p q convex outside way (unblocked_member plan o p q there free)) in
