@@ -4,3 +4,4 @@ mod ThroughWalls
 mod ThroughFacts
 mod ThroughTurned
 mod ThroughLaw
+mod ThroughExamples

@@ -37,7 +37,7 @@ not_entered wall cs n k p q a b passed fit ha hb left =
     (weaker
     (λ j. (pos 0 <ℤ turn_at n k p q (wall j).a (wall j).b) × ((pos 0 ≤ℤ orient_of (wall j).a (wall j).b a) × (pos 0 ≤ℤ orient_of (wall j).a (wall j).b b)))
     (λ j. lies_left (wall j).a (wall j).b p ≡ true)
-    (λ j f. left_of_other n k p q a b (wall j).a (wall j).b passed.part ha hb left f.1.0 f.1.1 f.0) cs
+    (λ j facts. left_of_other n k p q a b (wall j).a (wall j).b passed.part ha hb left facts.1.0 facts.1.1 facts.0) cs
     (both (λ j. pos 0 <ℤ turn_at n k p q (wall j).a (wall j).b)
     (λ j. (pos 0 ≤ℤ orient_of (wall j).a (wall j).b a) × (pos 0 ≤ℤ orient_of (wall j).a (wall j).b b)) cs passed.inside fit.1))
 
@@ -48,7 +48,7 @@ not_along wall cs n k p q a b passed fit ha hb =
     let same = same_ends n k p q a b passed.part ha hb fit.0 in
     passed.outside
     (weaker (λ j. pos 0 <ℤ turn_at n k p q (wall j).a (wall j).b) (λ j. lies_left (wall j).a (wall j).b p ≡ true)
-    (λ j f. left_where_same n k p q (wall j).a (wall j).b passed.part same.0 same.1 f) cs passed.inside)
+    (λ j facts. left_where_same n k p q (wall j).a (wall j).b passed.part same.0 same.1 facts) cs passed.inside)
 
 not_at_wall : (wall : Corner → Segment) (cs : List Corner) (n k : ℤ) (p q a b : Point) → IsPassed wall cs n k p q → IsFit wall cs n k p q a b
     → crosses p q (record { a = a; b = b }) ≡ false → enters_wall p q (record { a = a; b = b }) ≡ false → pos 0 <ℤ orient_of p q a → orient_of p q b <ℤ pos 0 → ⊥
@@ -70,12 +70,12 @@ IsFreeOn p q c = ((crosses p q (edge_after c) ≡ false) × (enters_wall p q (ed
 
 down_nowhere_on : (cs : List Corner) (n k : ℤ) (p q : Point) → IsPassed edge_after cs n k p q → (c : Corner)
     → (IsFit edge_after cs n k p q c.prev c.here × IsFit edge_after cs n k p q c.here c.next) × IsFreeOn p q c → NotDown (orient_of p q) c
-down_nowhere_on cs n k p q passed c f = (
+down_nowhere_on cs n k p q passed c facts = (
   (
-    λ ha hb. not_at_wall edge_after cs n k p q c.here c.next passed f.0.1 f.1.0.0 f.1.0.1 ha hb,
-    λ before flat after. not_at_corner edge_after cs n k p q c.prev c.here c.next passed f.0.0 f.0.1 f.1.1 before flat after,
+    λ ha hb. not_at_wall edge_after cs n k p q c.here c.next passed facts.0.1 facts.1.0.0 facts.1.0.1 ha hb,
+    λ before flat after. not_at_corner edge_after cs n k p q c.prev c.here c.next passed facts.0.0 facts.0.1 facts.1.1 before flat after,
   ),
-  λ ha hb. not_along edge_after cs n k p q c.here c.next passed f.0.1 ha hb,
+  λ ha hb. not_along edge_after cs n k p q c.here c.next passed facts.0.1 ha hb,
 )
 
 ends_on : (start : Point) (points : List Point)
@@ -124,12 +124,12 @@ none_back z h = omega (arith, ints)
 
 down_nowhere_back : (cs : List Corner) (n k : ℤ) (p q : Point) → IsPassed wall_back cs n k p q → (c : Corner)
     → (IsFit wall_back cs n k p q c.here c.prev × IsFit wall_back cs n k p q c.next c.here) × IsFreeBack p q c → NotDown (λ v. neg_ℤ (orient_of p q v)) c
-down_nowhere_back cs n k p q passed c f = (
+down_nowhere_back cs n k p q passed c facts = (
   (
-    λ hb ha. not_at_wall wall_back cs n k p q c.next c.here passed f.0.1 f.1.0.0 f.1.0.1 (negative_back _ ha) (positive_back _ hb),
-    λ after flat before. not_at_corner wall_back cs n k p q c.next c.here c.prev passed f.0.1 f.0.0 f.1.1 (negative_back _ before) (none_back _ flat) (positive_back _ after),
+    λ hb ha. not_at_wall wall_back cs n k p q c.next c.here passed facts.0.1 facts.1.0.0 facts.1.0.1 (negative_back _ ha) (positive_back _ hb),
+    λ after flat before. not_at_corner wall_back cs n k p q c.next c.here c.prev passed facts.0.1 facts.0.0 facts.1.1 (negative_back _ before) (none_back _ flat) (positive_back _ after),
   ),
-  λ hb ha. not_along wall_back cs n k p q c.next c.here passed f.0.1 (none_back _ ha) (none_back _ hb),
+  λ hb ha. not_along wall_back cs n k p q c.next c.here passed facts.0.1 (none_back _ ha) (none_back _ hb),
 )
 
 ends_back : (start : Point) (points : List Point)

@@ -45,7 +45,7 @@ unblocked_turned p q walls corners free =
     record {
       uncrossed = list_any_agree (crosses q p) (crosses p q) (crosses_turned q p) walls ∙ free.uncrossed;
       unentered = list_any_agree (enters_wall q p) (enters_wall p q) (λ w. or_turned (leaves_wall q p w) (leaves_wall p q w)) walls ∙ free.unentered;
-      unstopped = list_any_agree (corner_blocks q p) (corner_blocks p q) (λ c. or_turned (corner_stops q p c) (corner_stops p q c)) corners ∙ free.unstopped
+      unstopped = list_any_agree (corner_blocks q p) (corner_blocks p q) (λ c. or_turned (corner_stops q p c) (corner_stops p q c)) corners ∙ free.unstopped;
     }
 
 -- ---- the point on the way
@@ -71,9 +71,10 @@ passes_turned walls p q way =
     let k = way.0 in
     let n = way.1 in
     let some = way.2 in
-    let less = way.3 in
-    (n - k
-    , n
-    , omega (arith, less)
-    , omega (arith, some, less)
-    , subst (λ t. is_strictly_inside (map (enlarged_wall n) walls) t ≡ true) (sym (part_way_turned n k p q less)) way.4)
+    let less = way.3 in (
+      n - k,
+      n,
+      omega (arith, less),
+      omega (arith, some, less),
+      subst (λ t. is_strictly_inside (map (enlarged_wall n) walls) t ≡ true) (sym (part_way_turned n k p q less)) way.4,
+    )
