@@ -1,0 +1,5 @@
+pub mod BelowLemmas
+pub mod BelowLists
+pub mod BelowStep
+pub mod BelowBetween
+pub mod BelowCases
