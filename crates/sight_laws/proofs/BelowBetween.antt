@@ -24,7 +24,7 @@ neg_product x y = neg_times x (neg_ℤ y) ∙ ap neg_ℤ (times_neg x y) ∙ neg
 negative_factors : (x y : ℤ) → x ≤ℤ pos 0 → y ≤ℤ pos 0 → pos 0 ≤ℤ (x *ℤ y)
 negative_factors x y h k = subst (λ t. pos 0 ≤ℤ t) (neg_product x y) (not_negative_product (neg_ℤ x) (neg_ℤ y) (omega (arith, ints)) (omega (arith, ints)))
 
-negative_product_both : (x y : ℤ) → x <ℤ pos 0 → y <ℤ pos 0 → pos 0 <ℤ (x *ℤ y)
+pub negative_product_both : (x y : ℤ) → x <ℤ pos 0 → y <ℤ pos 0 → pos 0 <ℤ (x *ℤ y)
 negative_product_both x y h k = subst (λ t. pos 0 <ℤ t) (neg_product x y) (positive_product (neg_ℤ x) (neg_ℤ y) (omega (arith, ints)) (omega (arith, ints)))
 
 low_part : (m a b : ℤ) → is_between m a b ≡ true → pos 0 ≤ℤ ((b -ℤ a) *ℤ (m -ℤ a))
@@ -39,7 +39,7 @@ high_part m a b h = elim (in_order m a b h) [
   | inr k ↦ negative_factors (b -ℤ a) (b -ℤ m) (omega (arith, ints, k.0, k.1)) (omega (arith, ints, k.0, k.1))
 ]
 
-unequal : (x y : ℤ) → int_eq x y ≡ false → (x <ℤ y) ⊎ (y <ℤ x)
+pub unequal : (x y : ℤ) → int_eq x y ≡ false → (x <ℤ y) ⊎ (y <ℤ x)
 unequal x y h = grind (arith, ints)
 
 low_more : (m a b : ℤ) → is_between m a b ≡ true → int_eq m a ≡ false → pos 0 <ℤ ((b -ℤ a) *ℤ (m -ℤ a))
