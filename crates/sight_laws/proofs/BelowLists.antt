@@ -56,3 +56,18 @@ pub source : {X Y : Type 0} (f : X → Y) (xs : List X) (y : Y) → IsIn (map f 
 source f [] y k = absurd k
 source f (x ∷ xs) y (inl e) = record { it = x; is_in = inl refl; is = e }
 source f (x ∷ xs) y (inr k) = source_later f x xs y (source f xs y k)
+
+record BothFail (x y : Bool) : Type 0 where
+  first : x ≡ false
+  second : y ≡ false
+
+both_fail : (x y : Bool) → (x || y) ≡ false → BothFail x y
+both_fail true y h = cc
+both_fail false true h = cc
+both_fail false false h = record { first = refl; second = refl }
+
+-- where none passes, each one fails
+pub each_fails : {X : Type 0} (test : X → Bool) (xs : List X) (x : X) → list_any test xs ≡ false → IsIn xs x → test x ≡ false
+each_fails test [] x h k = absurd k
+each_fails test (y ∷ ys) x h (inl e) = subst (λ t. test t ≡ false) e (both_fail (test y) (list_any test ys) h).first
+each_fails test (y ∷ ys) x h (inr k) = each_fails test ys x (both_fail (test y) (list_any test ys) h).second k

@@ -6,3 +6,4 @@ pub mod BelowCases
 pub mod BelowLine
 pub mod BelowFlat
 pub mod BelowRound
+pub mod Below
