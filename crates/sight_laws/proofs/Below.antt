@@ -3,7 +3,7 @@ use Rattle.std.proofs.Common.{◌≡◌, ◌⊎◌, inl, inr, ℕ, ◌-◌, ◌<
 use Rattle.std.specs.Prelude.{int_le, nat_le}
 use Rattle.std.specs.List.{list_all, list_any}
 use Rattle.std.specs.Ordering.{int_eq}
-use Rattle.std.proofs.lemmas.Int.{ints, by_lt_z}
+use Rattle.std.proofs.lemmas.Int.{ints}
 use Rattle.std.proofs.lemmas.Bool.{and_parts, or_cases, cases_Bool}
 use Rattle.std.proofs.lemmas.List.Folds.{list_any-append}
 use Rattle.int_laws.proofs.Ring.{times_minus, minus_times, cross_exchanged}
@@ -12,22 +12,22 @@ use Rattle.int_laws.proofs.Tests.{tested_at_most}
 use Rattle.plane_spec.specs.declared.Point.{Point}
 use Rattle.plane_spec.specs.declared.Segment.{Segment}
 use Rattle.plane_spec.specs.declared.Corner.{Corner}
-use Rattle.plane_spec.specs.Vectors.{vector, point, cross_of, orient_of, same_point, lies_left}
+use Rattle.plane_spec.specs.Vectors.{vector, point, orient_of, same_point, lies_left}
 use Rattle.plane_spec.specs.Segments.{are_opposite, cross_properly, is_on_segment}
 use Rattle.plane_spec.specs.Cones.{is_in_cone}
 use Rattle.plane_spec.specs.Polygons.{edges_to, edges_of, is_nothing, has_repeat, crosses_nowhere, is_simple, is_on_edge}
-use Rattle.plan_spec.specs.Scene.{walls_round, corners_round, turned_edge}
+use Rattle.plan_spec.specs.Scene.{walls_round, corners_round}
 use Rattle.plan_spec.specs.Sight.{crosses, is_on_middle, leaves_wall, enters_wall, corner_stops, corner_blocks, is_blocked}
 use Rattle.exact_geom.proofs.Orientation.{orient_of_first_exchanged}
 use Rattle.sight_laws.specs.Convex.{obstacle_alone, is_convex, is_strictly_inside, enlarged_wall, part_way, PassesThrough}
 use Rattle.sight_laws.proofs.BelowLemmas.{height_from}
-use Rattle.sight_laws.proofs.BelowLists.{IsIn, Found, found, each_passes, each_fails}
-use Rattle.sight_laws.proofs.BelowStep.{height, rise}
+use Rattle.sight_laws.proofs.BelowLists.{IsIn, found, each_passes, each_fails}
+use Rattle.sight_laws.proofs.BelowStep.{height}
 use Rattle.sight_laws.proofs.BelowBetween.{between}
 use Rattle.sight_laws.proofs.BelowCases.{Tall, AreConvex, rise_is, from_wall, across_wall, at_corner, cone_leads, wall_after}
 use Rattle.sight_laws.proofs.BelowLine.{all_in_line, way_apart}
 use Rattle.sight_laws.proofs.BelowFlat.{not_flat}
-use Rattle.sight_laws.proofs.BelowRound.{WallsOf, walls_of_points, StandsIn, corners_of_points, wall_is_edge}
+use Rattle.sight_laws.proofs.BelowRound.{walls_of_points, StandsIn, corners_of_points, wall_is_edge}
 
 -- ---- simple and convex
 

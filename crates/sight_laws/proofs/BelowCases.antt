@@ -1,5 +1,5 @@
 -- Where a wall or a corner is in the way, all walls are entered there.
-use Rattle.std.proofs.Common.{◌≡◌, ◌⊎◌, inl, inr, Bool, true, false, ◌<◌, ℤ, pos, neg_ℤ, ◌+ℤ◌, ◌-ℤ◌, ◌*ℤ◌, ◌<ℤ◌, ◌≤ℤ◌, refl, sym, ap, ◌∙◌, arith, subst, List}
+use Rattle.std.proofs.Common.{◌≡◌, inl, inr, Bool, true, false, ◌<◌, ℤ, pos, neg_ℤ, ◌+ℤ◌, ◌-ℤ◌, ◌*ℤ◌, ◌<ℤ◌, ◌≤ℤ◌, refl, sym, ap, ◌∙◌, arith, subst, List}
 use Rattle.std.specs.Prelude.{unsigned_abs}
 use Rattle.std.proofs.lemmas.Int.{ints, by_lt_z}
 use Rattle.int_laws.proofs.Ring.{times_sum, sum_times, times_minus, minus_times, neg_times, cross_exchanged, product_swapped, one_times, zero_times, times_zero, orient_cycled}
@@ -14,7 +14,7 @@ use Rattle.sight_laws.specs.Convex.{PassesThrough}
 use Rattle.sight_laws.proofs.BelowLemmas.{height_from, four, none_times, along, same_way, within_corner, through_straight, through_straight_next}
 use Rattle.sight_laws.proofs.BelowLists.{IsIn}
 use Rattle.sight_laws.proofs.BelowStep.{height, rise, height_at, Enters, passes}
-use Rattle.sight_laws.proofs.BelowBetween.{IsBetween, low, high, low_apart, high_apart, parts_of, mixed}
+use Rattle.sight_laws.proofs.BelowBetween.{IsBetween, low, low_apart, high_apart, parts_of, mixed}
 
 -- ---- walls round what is convex
 
@@ -127,7 +127,7 @@ crossing_by x y f a b c h e =
     let first = times_sum (y -ℤ x) f a in
     let first' = minus_times y x a in
     let turn : neg_ℤ x *ℤ ((f +ℤ b) -ℤ (f +ℤ a)) ≡ neg_ℤ (x *ℤ (b -ℤ a)) =
-        ap (λ t. neg_ℤ x *ℤ t) (less_both f b a) ∙ neg_times x (b -ℤ a) in
+    ap (λ t. neg_ℤ x *ℤ t) (less_both f b a) ∙ neg_times x (b -ℤ a) in
     let second = times_minus x b a in
     let third = minus_times (y -ℤ x) h f in
     let fourth = times_sum h f c in
@@ -293,7 +293,7 @@ cone_leads walls points c e convex iu iw cone j ij flat = by_turn (lies_left c.p
     straight_before turn first =
         let x = (convex.tall (wall_after c) iw).it in
         let line = through_straight before after way (vector c.here x) turn beside.before beside.after (convex.tall (wall_after c) iw).high
-            (left_before x (convex.tall (wall_after c) iw).is_in) in
+        (left_before x (convex.tall (wall_after c) iw).is_in) in
         same_way before way (vector c.here (convex.tall j ij).it) e line (left_before (convex.tall j ij).it (convex.tall j ij).is_in) high_j first
 
     straight_after : cross_of before after ≡ pos 0 → pos 0 <ℤ cross_of after e → pos 0 <ℤ cross_of way e
@@ -301,7 +301,7 @@ cone_leads walls points c e convex iu iw cone j ij flat = by_turn (lies_left c.p
         let x = (convex.tall (wall_before c) iu).it in
         let up = subst (λ z. pos 0 <ℤ z) (sym (height_before c x)) (convex.tall (wall_before c) iu).high in
         let line = through_straight_next before after way (vector c.here x) turn beside.before beside.after up
-            (left_after x (convex.tall (wall_before c) iu).is_in) in
+        (left_after x (convex.tall (wall_before c) iu).is_in) in
         same_way after way (vector c.here (convex.tall j ij).it) e line (left_after (convex.tall j ij).it (convex.tall j ij).is_in) high_j second
 
     turn_is : cross_of before after ≡ orient_of c.prev c.here c.next

@@ -1,18 +1,18 @@
 -- The corners of a simple polygon don't all lie on one line.
-use Rattle.std.proofs.Common.{◌≡◌, inl, inr, ℕ, ◌+◌, ◌==◌, Bool, true, false, not, ◌&&◌, ◌||◌, ℤ, pos, ◌-ℤ◌, ◌*ℤ◌, ◌<ℤ◌, ◌≤ℤ◌, refl, sym, ap, ◌∙◌, arith, subst, List, [], ◌∷◌, ◌++◌, map, length}
-use Rattle.std.specs.List.{list_all, list_any, enumerate_from}
+use Rattle.std.proofs.Common.{◌≡◌, inl, inr, ℕ, ◌+◌, ◌==◌, Bool, true, false, not, ℤ, pos, ◌-ℤ◌, ◌*ℤ◌, ◌<ℤ◌, refl, sym, ap, ◌∙◌, arith, subst, List, [], ◌∷◌, map, length}
+use Rattle.std.specs.List.{list_all, enumerate_from}
 use Rattle.std.proofs.lemmas.Int.{ints}
 use Rattle.std.proofs.lemmas.Bool.{and_parts, or_parts}
 use Rattle.std.proofs.lemmas.List.Folds.{list_all-append}
-use Rattle.int_laws.proofs.Ring.{times_zero, product_swapped}
+use Rattle.int_laws.proofs.Ring.{times_zero}
 use Rattle.plane_spec.specs.declared.Point.{Point}
 use Rattle.plane_spec.specs.declared.Segment.{Segment}
-use Rattle.plane_spec.specs.Lists.{pairs, with_each, numbered_pairs}
+use Rattle.plane_spec.specs.Lists.{pairs, with_each}
 use Rattle.plane_spec.specs.Vectors.{vector, dot_of, orient_of, same_point}
 use Rattle.plane_spec.specs.Segments.{is_on_segment}
-use Rattle.plane_spec.specs.Polygons.{edges_to, edges_of, is_on_edge, folds_back, may_stand, crosses_nowhere, has_repeat, is_nothing}
+use Rattle.plane_spec.specs.Polygons.{edges_to, folds_back, may_stand, crosses_nowhere}
 use Rattle.sight_laws.proofs.BelowLists.{IsIn}
-use Rattle.sight_laws.proofs.BelowLine.{ahead_of, ahead_steps, further, way_apart}
+use Rattle.sight_laws.proofs.BelowLine.{ahead_of, further, way_apart}
 
 -- ---- neighbours
 
@@ -79,11 +79,11 @@ ends_ahead o r first p (q ∷ points) count k some hf hp flat stand up =
     let next = next_to first points in
     let hn = next_level o r first points hf later in
     let n = neighbours count k (record { a = p; b = q }) (record { a = q; b = next }) (later_edges first points)
-        (subst (λ t. MayStand count k (record { a = p; b = q } ∷ t)) (first_edge first q points) (subst (λ t. MayStand count k t) (first_edge first p (q ∷ points)) stand)) in
+    (subst (λ t. MayStand count k (record { a = p; b = q } ∷ t)) (first_edge first q points) (subst (λ t. MayStand count k t) (first_edge first p (q ∷ points)) stand)) in
     let apart = or_parts (is_on_segment p q next) (is_on_segment next p q) n.apart in
     let on = further o r p q next some hp hq hn up apart.0 apart.1 in
     let rest = ends_ahead o r first q points count (k + 1) some hf hq later
-        (subst (λ t. MayStand count (k + 1) t) (sym (first_edge first q points)) n.rest) on in
+    (subst (λ t. MayStand count (k + 1) t) (sym (first_edge first q points)) n.rest) on in
     omega (arith, ints, up, rest)
 
 -- ---- not flat

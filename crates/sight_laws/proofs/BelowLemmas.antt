@@ -1,8 +1,8 @@
 -- Heights of points over the line of a wall, and products of directions.
-use Rattle.std.proofs.Common.{◌≡◌, ℕ, ℤ, pos, ◌+ℤ◌, ◌-ℤ◌, ◌*ℤ◌, neg_ℤ, ◌<ℤ◌, ◌≤ℤ◌, sym, ap, ◌∙◌, arith, subst}
+use Rattle.std.proofs.Common.{◌≡◌, ℕ, ℤ, pos, ◌+ℤ◌, ◌-ℤ◌, ◌*ℤ◌, ◌<ℤ◌, ◌≤ℤ◌, ap, ◌∙◌, arith}
 use Rattle.std.proofs.lemmas.Int.{ints, by_lt_z}
 use borrow.Author.Differences.{up, down}
-use Rattle.int_laws.proofs.Ring.{diff, is_diff, same_diff, sum_diff, minus_diff, product_diff, times_sum, times_minus, sum_times, cross_of_four, cross_exchanged, times_zero, zero_times, product_swapped}
+use Rattle.int_laws.proofs.Ring.{diff, is_diff, same_diff, sum_diff, minus_diff, product_diff, times_sum, cross_of_four, cross_exchanged, times_zero, zero_times, product_swapped}
 use Rattle.int_laws.proofs.Signs.{positive_product, not_negative_product, positive_factor, zero_factor}
 use Rattle.plane_spec.specs.declared.Point.{Point}
 use Rattle.plane_spec.specs.Vectors.{vector, cross_of, dot_of, orient_of}

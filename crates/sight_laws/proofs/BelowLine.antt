@@ -1,5 +1,5 @@
 -- Points on one line: which of them lie between others.
-use Rattle.std.proofs.Common.{◌≡◌, ◌⊎◌, inl, inr, Bool, true, false, ◌&&◌, ◌||◌, ℤ, pos, neg_ℤ, ◌+ℤ◌, ◌-ℤ◌, ◌*ℤ◌, ◌<ℤ◌, ◌≤ℤ◌, refl, sym, ap, ◌∙◌, arith, subst}
+use Rattle.std.proofs.Common.{◌≡◌, inl, inr, true, false, ℤ, pos, neg_ℤ, ◌+ℤ◌, ◌-ℤ◌, ◌*ℤ◌, ◌<ℤ◌, ◌≤ℤ◌, sym, ap, ◌∙◌, arith}
 use Rattle.std.specs.Ordering.{int_eq}
 use Rattle.std.proofs.lemmas.Int.{ints, by_lt_z}
 use Rattle.std.proofs.lemmas.Bool.{and_cases, and_from}
@@ -7,7 +7,6 @@ use Rattle.std.proofs.lemmas.Bool.Decides.{Decides-int_eq}
 use Rattle.int_laws.proofs.Ring.{cross_exchanged, dot_times, dot_times_across, product_swapped, times_zero, neg_times}
 use Rattle.int_laws.proofs.Signs.{positive_product, not_negative_product, opposite_product, not_positive_factor, zero_factor, square}
 use Rattle.plane_spec.specs.declared.Point.{Point}
-use Rattle.plane_spec.specs.declared.Segment.{Segment}
 use Rattle.plane_spec.specs.Vectors.{vector, cross_of, dot_of, orient_of, same_point}
 use Rattle.plane_spec.specs.Segments.{is_between, is_on_segment}
 use Rattle.sight_laws.proofs.BelowLemmas.{height_from, along, none_times, times_steps}
@@ -119,11 +118,11 @@ extents_in_order o r a m b some ha hm hb h k =
     let second = follows d (vector m b) some (in_line o r m b hm hb) (omega (arith, ints, second_step, k)) in
     record {
       x = by_lt_z (pos 0) d.x
-        (λ p. up_between m.x a.x b.x (first.right (omega (arith, ints, p))) (second.right (omega (arith, ints, p))))
-        (λ p. down_between m.x a.x b.x (first.left p) (second.left p));
+          (λ p. up_between m.x a.x b.x (first.right (omega (arith, ints, p))) (second.right (omega (arith, ints, p))))
+          (λ p. down_between m.x a.x b.x (first.left p) (second.left p));
       y = by_lt_z (pos 0) d.y
-        (λ p. up_between m.y a.y b.y (first.up (omega (arith, ints, p))) (second.up (omega (arith, ints, p))))
-        (λ p. down_between m.y a.y b.y (first.down p) (second.down p));
+          (λ p. up_between m.y a.y b.y (first.up (omega (arith, ints, p))) (second.up (omega (arith, ints, p))))
+          (λ p. down_between m.y a.y b.y (first.down p) (second.down p));
     }
 
 between_turned : (m a b : ℤ) → is_between m a b ≡ true → is_between m b a ≡ true

@@ -1,7 +1,7 @@
 -- The elements of a list, and what passes a test.
-use Rattle.std.proofs.Common.{◌≡◌, ◌⊎◌, inl, inr, refl, sym, ap, ◌∙◌, subst, Bool, true, false, List, [], ◌∷◌, map, ◌&&◌, ◌||◌}
+use Rattle.std.proofs.Common.{◌≡◌, ◌⊎◌, inl, inr, refl, ap, subst, Bool, true, false, List, [], ◌∷◌, map, ◌||◌}
 use Rattle.std.specs.List.{list_any, list_all}
-use Rattle.std.proofs.lemmas.Bool.{and_from, and_parts, or_cases, or_parts}
+use Rattle.std.proofs.lemmas.Bool.{and_from, and_parts, or_cases}
 
 -- x is an element of the list
 abbrev pub IsIn : {X : Type 0} → List X → X → Type 0

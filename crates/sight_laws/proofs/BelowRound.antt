@@ -1,11 +1,11 @@
 -- The walls and corners round a polygon.
-use Rattle.std.proofs.Common.{◌≡◌, ◌⊎◌, inl, inr, Bool, true, false, not, ◌&&◌, cond, refl, sym, ap, ◌∙◌, subst, List, [], ◌∷◌, map}
+use Rattle.std.proofs.Common.{◌≡◌, ◌⊎◌, inl, inr, Bool, true, false, cond, refl, sym, ap, subst, List, [], ◌∷◌, map}
 use Rattle.plane_spec.specs.declared.Point.{Point}
 use Rattle.plane_spec.specs.declared.Segment.{Segment}
 use Rattle.plane_spec.specs.declared.Corner.{Corner}
 use Rattle.plane_spec.specs.Polygons.{edges_to, edges_of}
 use Rattle.plan_spec.specs.Scene.{turned_edge, goes_round, walls_round, corners_after, corners_along, corners_round, last_edge, turned_corner}
-use Rattle.sight_laws.proofs.BelowLists.{IsIn, mapped, Source, source}
+use Rattle.sight_laws.proofs.BelowLists.{IsIn, mapped, source}
 use Rattle.sight_laws.proofs.BelowCases.{wall_before, wall_after}
 
 -- ---- edges and points

@@ -1,8 +1,7 @@
 -- A step along the segment that leads strictly inside of all walls.
-use Rattle.std.proofs.Common.{◌≡◌, ◌⊎◌, inl, inr, true, ℕ, ◌+◌, ◌-◌, ◌*◌, ◌<◌, ◌≤◌, ℤ, pos, ◌+ℤ◌, ◌-ℤ◌, ◌*ℤ◌, neg_ℤ, ◌<ℤ◌, ◌≤ℤ◌, refl, sym, ap, ◌∙◌, arith, subst, List, [], ◌∷◌, map}
+use Rattle.std.proofs.Common.{◌≡◌, ◌⊎◌, inl, inr, true, ℕ, ◌+◌, ◌-◌, ◌*◌, ◌<◌, ◌≤◌, ℤ, pos, ◌+ℤ◌, ◌-ℤ◌, ◌*ℤ◌, ◌<ℤ◌, ◌≤ℤ◌, refl, sym, ap, ◌∙◌, arith, subst, List, [], ◌∷◌}
 use Rattle.std.specs.Prelude.{unsigned_abs}
-use Rattle.std.specs.List.{list_all}
-use Rattle.std.proofs.lemmas.Int.{ints, by_lt_z}
+use Rattle.std.proofs.lemmas.Int.{ints}
 use Rattle.std.proofs.lemmas.List.Folds.{list_all-map}
 use borrow.Author.Differences.{up, down}
 use Rattle.int_laws.proofs.Ring.{diff, is_diff, same_diff, sum_diff, minus_diff, product_diff, times_sum, times_minus, sum_times, times_zero, product_swapped, product_grouped, times_one}
@@ -10,7 +9,7 @@ use Rattle.int_laws.proofs.Signs.{positive_product, not_negative_product, positi
 use Rattle.plane_spec.specs.declared.Point.{Point}
 use Rattle.plane_spec.specs.declared.Segment.{Segment}
 use Rattle.plane_spec.specs.Vectors.{vector, cross_of, orient_of, lies_left}
-use Rattle.sight_laws.specs.Convex.{enlarged, enlarged_wall, part_way, is_strictly_inside, PassesThrough}
+use Rattle.sight_laws.specs.Convex.{enlarged, enlarged_wall, part_way, PassesThrough}
 use Rattle.sight_laws.proofs.BelowLemmas.{height_from}
 use Rattle.sight_laws.proofs.BelowLists.{IsIn, all_pass}
 
@@ -96,8 +95,8 @@ height_enlarged n a p q w =
     let m = pos n in
     let k = pos a in
     let turned = cross_with _ _ _ _ _ _ _ _
-        (sym (times_minus m w.b.x w.a.x)) (less_moved m p.y k (q.y -ℤ p.y) w.a.y)
-        (sym (times_minus m w.b.y w.a.y)) (less_moved m p.x k (q.x -ℤ p.x) w.a.x) in
+    (sym (times_minus m w.b.x w.a.x)) (less_moved m p.y k (q.y -ℤ p.y) w.a.y)
+    (sym (times_minus m w.b.y w.a.y)) (less_moved m p.x k (q.x -ℤ p.x) w.a.x) in
     let out = scaled m k (w.b.x -ℤ w.a.x) (w.b.y -ℤ w.a.y) (p.x -ℤ w.a.x) (p.y -ℤ w.a.y) (q.x -ℤ p.x) (q.y -ℤ p.y) in
     let step = height_from w.a w.b p q in
     let same : cross_of (vector w.a w.b) (vector p q) ≡ rise p q w = omega (arith, ints, step) in
@@ -130,7 +129,7 @@ inside walls p q s n m h k enters w i =
     let wide : pos (n * m) ≡ pos n *ℤ pos m = omega (arith, ints) in
     let far : pos (s * m + n) ≡ pos s *ℤ pos m +ℤ pos n = omega (arith, ints) in
     let e : pos (n * m) *ℤ height w p +ℤ pos (s * m + n) *ℤ rise p q w ≡ pos m *ℤ height_at (pos s) (pos n) p q w +ℤ pos n *ℤ rise p q w =
-        rw (wide, far) (stepped (pos n) (pos m) (pos s) (height w p) (rise p q w)) in
+    rw (wide, far) (stepped (pos n) (pos m) (pos s) (height w p) (rise p q w)) in
     let big : 0 < n * m = let b = before_end s n m h (omega arith) in omega (arith, b) in
     let high = positive_product (pos (n * m)) _ (omega (arith, ints, big)) (subst (λ t. pos 0 <ℤ t) (sym e) some) in
     positive_tested _ (subst (λ t. pos 0 <ℤ t) (sym (height_enlarged (n * m) (s * m + n) p q w)) high)
@@ -142,5 +141,5 @@ passes walls p q s n h enters =
     let begun : 0 < s * m + n = omega arith in
     let ended : s * m + n < n * m = before_end s n m h (omega arith) in
     let left = all_pass (λ w. lies_left (enlarged (n * m) w.a) (enlarged (n * m) w.b) (part_way (s * m + n) (n * m) p q)) walls
-        (inside walls p q s n m h (omega arith) enters) in
+    (inside walls p q s n m h (omega arith) enters) in
     (s * m + n, n * m, begun, ended, list_all-map _ (enlarged_wall (n * m)) walls ∙ left)

@@ -1,5 +1,5 @@
 -- Convex obstacles, and the points of a segment that are strictly inside one.
-use Rattle.std.specs.Prelude.{ℕ, ℤ, pos, ◌<◌, ◌+ℤ◌, ◌-ℤ◌, ◌*ℤ◌, Bool, true, IsTrue, List, [], map, int_le}
+use Rattle.std.specs.Prelude.{ℕ, pos, ◌<◌, ◌+ℤ◌, ◌-ℤ◌, ◌*ℤ◌, Bool, true, IsTrue, List, [], map, int_le}
 use Rattle.std.specs.List.{list_all}
 use Rattle.plane_spec.specs.declared.Point.{Point}
 use Rattle.plane_spec.specs.declared.Segment.{Segment}
