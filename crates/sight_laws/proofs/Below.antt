@@ -24,7 +24,8 @@ use Rattle.sight_laws.proofs.BelowLemmas.{height_from}
 use Rattle.sight_laws.proofs.BelowLists.{IsIn, found, each_passes, each_fails}
 use Rattle.sight_laws.proofs.BelowStep.{height}
 use Rattle.sight_laws.proofs.BelowBetween.{between}
-use Rattle.sight_laws.proofs.BelowCases.{Tall, AreConvex, rise_is, from_wall, across_wall, at_corner, cone_leads, wall_after}
+use Rattle.sight_laws.proofs.BelowWalls.{Tall, AreConvex, rise_is, from_wall, across_wall}
+use Rattle.sight_laws.proofs.BelowCorners.{at_corner, cone_leads, wall_after}
 use Rattle.sight_laws.proofs.BelowLine.{all_in_line, way_apart}
 use Rattle.sight_laws.proofs.BelowFlat.{not_flat}
 use Rattle.sight_laws.proofs.BelowRound.{walls_of_points, StandsIn, corners_of_points, wall_is_edge}

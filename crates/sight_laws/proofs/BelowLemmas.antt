@@ -40,7 +40,7 @@ none_times x z h = ap (λ t. t *ℤ z) h ∙ zero_times z
 
 -- ---- walls in line
 
--- two walls are in line, and what they have on their left is partly the same: what leads to the left of one leads to the left of the other
+-- two walls in line that have a point on their left, both of them, lead the same way: what is left of one is left of the other
 pub same_way : (u j y e : Point) → cross_of u j ≡ pos 0 → pos 0 ≤ℤ cross_of u y → pos 0 <ℤ cross_of j y → pos 0 <ℤ cross_of u e → pos 0 <ℤ cross_of j e
 same_way u j y e line uy jy ue =
     let all = four u j y e in

@@ -135,7 +135,7 @@ on_segment m a b line e = and_from _ _ ((Decides-int_eq (orient_of a b m) (pos 0
 extents_turned : (m a b : Point) → Extents m a b → Extents m b a
 extents_turned m a b e = record { x = between_turned m.x a.x b.x e.x; y = between_turned m.y a.y b.y e.y }
 
--- a third point doesn't fold back: it isn't on the segment from the first to the second, nor the first on the one from the second to it: then it lies further along
+-- where the way from a over b to c doesn't fold back, it goes on as it went: c lies further along the line than b
 pub further : (o r a b c : Point) → pos 0 <ℤ dot_of (vector o r) (vector o r)
     → orient_of o r a ≡ pos 0 → orient_of o r b ≡ pos 0 → orient_of o r c ≡ pos 0
     → ahead_of o r a <ℤ ahead_of o r b → is_on_segment a b c ≡ false → is_on_segment c a b ≡ false → ahead_of o r b <ℤ ahead_of o r c

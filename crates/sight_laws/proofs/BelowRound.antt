@@ -6,7 +6,7 @@ use Rattle.plane_spec.specs.declared.Corner.{Corner}
 use Rattle.plane_spec.specs.Polygons.{edges_to, edges_of}
 use Rattle.plan_spec.specs.Scene.{turned_edge, goes_round, walls_round, corners_after, corners_along, corners_round, last_edge, turned_corner}
 use Rattle.sight_laws.proofs.BelowLists.{IsIn, mapped, source}
-use Rattle.sight_laws.proofs.BelowCases.{wall_before, wall_after}
+use Rattle.sight_laws.proofs.BelowCorners.{wall_before, wall_after}
 
 -- ---- edges and points
 

@@ -2,8 +2,10 @@ pub mod BelowLemmas
 pub mod BelowLists
 pub mod BelowStep
 pub mod BelowBetween
-pub mod BelowCases
+pub mod BelowWalls
+pub mod BelowCorners
 pub mod BelowLine
 pub mod BelowFlat
 pub mod BelowRound
 pub mod Below
+mod BelowExamples
