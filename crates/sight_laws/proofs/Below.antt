@@ -12,7 +12,7 @@ use Rattle.int_laws.proofs.Tests.{tested_at_most}
 use Rattle.plane_spec.specs.declared.Point.{Point}
 use Rattle.plane_spec.specs.declared.Segment.{Segment}
 use Rattle.plane_spec.specs.declared.Corner.{Corner}
-use Rattle.plane_spec.specs.Vectors.{vector, point, orient_of, same_point, lies_left}
+use Rattle.plane_spec.specs.Vectors.{vector, orient_of, same_point, lies_left}
 use Rattle.plane_spec.specs.Segments.{are_opposite, cross_properly, is_on_segment}
 use Rattle.plane_spec.specs.Cones.{is_in_cone}
 use Rattle.plane_spec.specs.Polygons.{edges_to, edges_of, is_nothing, has_repeat, crosses_nowhere, is_simple, is_on_edge}
@@ -102,12 +102,14 @@ back_by n a p q =
     let fourth = times_minus a q p in
     omega (arith, ints, first, second, third, fourth)
 
-same_place : (a n : ℕ) (p q : Point) → a < n → part_way (n - a) n q p ≡ part_way a n p q
-same_place a n p q h =
+same_coordinate : (a n : ℕ) (p q : ℤ) → a < n → pos n *ℤ q +ℤ pos (n - a) *ℤ (p -ℤ q) ≡ pos n *ℤ p +ℤ pos a *ℤ (q -ℤ p)
+same_coordinate a n p q h =
     let e : pos (n - a) ≡ pos n -ℤ pos a = omega (arith, ints) in
-    let x : pos n *ℤ q.x +ℤ pos (n - a) *ℤ (p.x -ℤ q.x) ≡ pos n *ℤ p.x +ℤ pos a *ℤ (q.x -ℤ p.x) = ap (λ t. pos n *ℤ q.x +ℤ t *ℤ (p.x -ℤ q.x)) e ∙ back_by (pos n) (pos a) p.x q.x in
-    let y : pos n *ℤ q.y +ℤ pos (n - a) *ℤ (p.y -ℤ q.y) ≡ pos n *ℤ p.y +ℤ pos a *ℤ (q.y -ℤ p.y) = ap (λ t. pos n *ℤ q.y +ℤ t *ℤ (p.y -ℤ q.y)) e ∙ back_by (pos n) (pos a) p.y q.y in
-    ap (λ t. point t (pos n *ℤ q.y +ℤ pos (n - a) *ℤ (p.y -ℤ q.y))) x ∙ ap (λ t. point (pos n *ℤ p.x +ℤ pos a *ℤ (q.x -ℤ p.x)) t) y
+    ap (λ t. pos n *ℤ q +ℤ t *ℤ (p -ℤ q)) e ∙ back_by (pos n) (pos a) p q
+
+-- what lies a steps of n from one end lies n - a steps from the other
+same_place : (a n : ℕ) (p q : Point) → a < n → part_way (n - a) n q p ≡ part_way a n p q
+same_place a n p q h = rw (same_coordinate a n p.x q.x h, same_coordinate a n p.y q.y h) refl
 
 turned : (walls : List Segment) (p q : Point) → PassesThrough walls p q → PassesThrough walls q p
 turned walls p q (a, n, some, less, inside) =
