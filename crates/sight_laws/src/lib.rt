@@ -6,8 +6,11 @@
 //! | law | what it says |
 //! |---|---|
 //! | [`no_sight_through_a_convex_obstacle`] | a segment that passes through the inside of a convex obstacle is blocked |
+//! | [`a_convex_obstacle_blocks_no_more`] | a segment that the rule calls blocked passes through the inside |
 #![tactic(auto)]
 
 mod through;
+mod unblocked;
 
 pub use through::no_sight_through_a_convex_obstacle;
+pub use unblocked::a_convex_obstacle_blocks_no_more;
