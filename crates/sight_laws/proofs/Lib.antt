@@ -16,3 +16,6 @@ pub mod BelowFlat
 pub mod BelowRound
 pub mod Below
 mod BelowExamples
+mod PlansTurned
+pub mod PlansOuter
+pub mod PlansLaw

@@ -79,7 +79,7 @@ convex_pairs wall cs h =
     reaches : Segment → Segment → Bool
     reaches w v = int_le (pos 0) (orient_of w.a w.b v.a)
 
-unblocked_parts : (scene : Scene) (p q : Point) → is_blocked scene p q ≡ false → IsUnblocked p q scene.walls scene.corners
+pub unblocked_parts : (scene : Scene) (p q : Point) → is_blocked scene p q ≡ false → IsUnblocked p q scene.walls scene.corners
 unfolding is_blocked
 unblocked_parts scene p q h =
     let first = or_parts (list_any (crosses p q) (lines_of_scene scene)) (list_any (enters_wall p q) scene.walls || list_any (corner_blocks p q) scene.corners) h in
@@ -173,7 +173,7 @@ none_among test f (x ∷ xs) h =
     let parts = or_parts (list_any test (f x)) (list_any test (flat_map f xs)) (sym (list_any-append test (f x) (flat_map f xs)) ∙ h) in
     All-cons (λ x. list_any test (f x) ≡ false) x xs parts.0 (none_among test f xs parts.1)
 
-of_member : {X : Type 0} (holds : X → Type 0) (xs : List X) (x : X) → All holds xs → Contains xs x → holds x
+pub of_member : {X : Type 0} (holds : X → Type 0) (xs : List X) (x : X) → All holds xs → Contains xs x → holds x
 of_member holds xs x all there = subst holds there.2 (all there.0 x there.1)
 
 none_of_member : {X Y : Type 0} (test : Y → Bool) (f : X → List Y) (before after : List Y) (xs : List X) (x : X) → Contains xs x
