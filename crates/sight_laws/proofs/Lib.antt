@@ -19,3 +19,4 @@ mod BelowExamples
 mod PlansTurned
 pub mod PlansOuter
 pub mod PlansLaw
+mod PlansExamples
