@@ -5,3 +5,7 @@ mod ThroughFacts
 mod ThroughTurned
 mod ThroughLaw
 mod ThroughExamples
+mod InsideLists
+mod InsideNumbers
+mod InsideWalls
+mod InsideLaw
