@@ -9,3 +9,4 @@ mod InsideLists
 mod InsideNumbers
 mod InsideWalls
 mod InsideLaw
+mod InsideExamples
