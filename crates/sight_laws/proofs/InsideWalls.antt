@@ -58,7 +58,7 @@ flat_start x a b c d first second at_a at_b at_c at_d =
 
 -- ---- an end on the other wall
 
--- a is on the line of the wall and between the heights of its ends: then it is on the wall
+-- what is on the line of a wall and between the heights of its ends is on the wall
 on_wall : (a c d : Point) → orient_of c d a ≡ pos 0 → c.y ≤ℤ a.y → a.y <ℤ d.y → is_on_segment a c d ≡ true
 unfolding is_on_segment
 on_wall a c d flat low high =
@@ -79,7 +79,7 @@ on_turned a c d h =
     and_from _ _ (equal_tested (orient_of d c a) (pos 0) (orient_of_first_exchanged c d a ∙ ap neg_ℤ flat))
     (and_from _ _ (or_turned (int_le d.x a.x && int_le a.x c.x) (int_le c.x a.x && int_le a.x d.x) ∙ spans.0) (or_turned (int_le d.y a.y && int_le a.y c.y) (int_le c.y a.y && int_le a.y d.y) ∙ spans.1))
 
--- the start of one lies on the other
+-- two walls that go up across the level, where the ends of each aren't right of the other: the start of one lies on the other
 pub start_on_other : (x a b c d : Point) → GoesUp x a b → GoesUp x c d
     → pos 0 ≤ℤ orient_of c d a → pos 0 ≤ℤ orient_of c d b → pos 0 ≤ℤ orient_of a b c → pos 0 ≤ℤ orient_of a b d
     → (is_on_segment a c d ≡ true) ⊎ (is_on_segment c a b ≡ true)
@@ -157,7 +157,7 @@ tested_above m n h = grind (arith, ints)
 no_right : (z : ℤ) → pos 0 <ℤ z → int_lt z (pos 0) ≡ false
 no_right z h = grind (arith, ints)
 
--- x is strictly left of the edge from a to b
+-- of edges that have x strictly on their left, those that pass to its right go up, and no other goes from below to above
 pub passing_goes_up : (x a b : Point) → pos 0 <ℤ orient_of x a b → passes_right x (record { a = a; b = b }) ≡ true → GoesUp x a b
 unfolding passes_right
 passing_goes_up x a b left h =
@@ -176,7 +176,7 @@ failing_stays_below x a b left h low =
     let below = not_above_tested x.y b.y up in
     omega (arith, ints, below)
 
--- x is strictly left of the edge from b to a
+-- of edges that have x strictly on their right, those that pass to its right come down, and no other goes from above to below
 right_of : (x a b : Point) → pos 0 <ℤ orient_of x b a → orient_of a b x <ℤ pos 0
 right_of x a b left =
     let first = orient_of_cycled x b a in
@@ -204,7 +204,7 @@ failing_back_stays_above x a b left h high =
 
 -- ---- borders
 
--- x is on the line of no wall that has it on its left
+-- what isn't on the line of an edge isn't on the edge
 pub not_on_edge : (x a b : Point) → (orient_of a b x ≡ pos 0 → ⊥) → is_on_segment x a b ≡ false
 unfolding is_on_segment
 not_on_edge x a b apart = rw (false_from_ne_true (int_eq (orient_of a b x) (pos 0)) (λ h. apart (tested_equal (orient_of a b x) (pos 0) h))) refl
