@@ -16,3 +16,8 @@ pub mod BelowFlat
 pub mod BelowRound
 pub mod Below
 mod BelowExamples
+mod InsideLists
+mod InsideNumbers
+mod InsideWalls
+mod InsideLaw
+mod InsideExamples
