@@ -20,3 +20,8 @@ mod PlansTurned
 pub mod PlansOuter
 pub mod PlansLaw
 mod PlansExamples
+mod InsideLists
+mod InsideNumbers
+mod InsideWalls
+mod InsideLaw
+mod InsideExamples

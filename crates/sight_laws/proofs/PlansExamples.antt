@@ -1,14 +1,13 @@
 -- What is seen in plans of convex polygons, on small figures.
 use Rattle.std.specs.Prelude.{◌≡◌, refl, List, [], ◌∷◌, true, false, ◌&&◌}
-use Rattle.std.specs.List.{list_all, list_any}
 use Rattle.plane_spec.specs.declared.Point.{Point}
-use Rattle.plane_spec.specs.Segments.{is_on_segment, cross_properly, do_touch}
-use Rattle.plane_spec.specs.Polygons.{edges_to, is_counterclockwise, may_stand, crosses_nowhere}
+use Rattle.plane_spec.specs.Segments.{is_on_segment, cross_properly}
+use Rattle.plane_spec.specs.Polygons.{edges_to, is_counterclockwise}
 use Rattle.plane_spec.specs.Cones.{is_in_cone}
-use Rattle.plan_spec.specs.Scene.{scene_of, walls_round, corners_round}
-use Rattle.plan_spec.specs.Sight.{leaves_wall, corner_stops, is_blocked, are_in_sight}
-use Rattle.plan_spec.proofs.Figures.{at, box, room_with, middle}
-use Rattle.sight_laws.specs.Convex.{outer_alone, is_on_or_inside, is_convex_obstacle, has_both_inside}
+use Rattle.plan_spec.specs.Scene.{walls_round, corners_round}
+use Rattle.plan_spec.specs.Sight.{leaves_wall, corner_stops, is_blocked}
+use Rattle.plan_spec.proofs.Figures.{at, box}
+use Rattle.sight_laws.specs.Convex.{outer_alone, is_on_or_inside}
 
 -- ---- the outer polygon
 

@@ -27,7 +27,7 @@ use Rattle.sight_laws.proofs.ThroughFacts.{IsPassed, IsFreeOn, IsFreeBack, wall_
 
 -- ---- the walls and corners of an obstacle, whichever way its points go round
 
-walls_on : (start : Point) (points : List Point) → is_counterclockwise (start ∷ points) ≡ true → walls_round true (start ∷ points) ≡ map edge_after (ring start points)
+pub walls_on : (start : Point) (points : List Point) → is_counterclockwise (start ∷ points) ≡ true → walls_round true (start ∷ points) ≡ map edge_after (ring start points)
 unfolding walls_round
 walls_on start points h = rw h (edges_of_is start points)
 
@@ -35,7 +35,7 @@ corners_on : (start : Point) (points : List Point) → is_counterclockwise (star
 unfolding corners_round
 corners_on start points h = rw h (corners_along_is start points)
 
-walls_back : (start : Point) (points : List Point) → is_counterclockwise (start ∷ points) ≡ false → walls_round true (start ∷ points) ≡ map wall_back (ring start points)
+pub walls_back : (start : Point) (points : List Point) → is_counterclockwise (start ∷ points) ≡ false → walls_round true (start ∷ points) ≡ map wall_back (ring start points)
 unfolding walls_round
 walls_back start points h = rw h (ap (map turned_edge) (edges_of_is start points) ∙ map-map turned_edge edge_after (ring start points))
 
@@ -67,7 +67,7 @@ passed wall cs k n p q hk hn inside outside =
     left : Segment → Bool
     left w = lies_left (enlarged_wall n w).a (enlarged_wall n w).b (part_way k n p q)
 
-convex_pairs : (wall : Corner → Segment) (cs : List Corner) → is_convex (map wall cs) ≡ true
+pub convex_pairs : (wall : Corner → Segment) (cs : List Corner) → is_convex (map wall cs) ≡ true
     → All (λ j. All (λ c. pos 0 ≤ℤ orient_of (wall j).a (wall j).b (wall c).a) cs) cs
 convex_pairs wall cs h =
     weaker (λ j. list_all (reaches (wall j)) (map wall cs) ≡ true) (λ j. All (λ c. pos 0 ≤ℤ orient_of (wall j).a (wall j).b (wall c).a) cs)
