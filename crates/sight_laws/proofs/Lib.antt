@@ -5,3 +5,8 @@ mod ThroughFacts
 mod ThroughTurned
 mod ThroughLaw
 mod ThroughExamples
+mod OutsideNumbers
+mod OutsideTests
+mod OutsideWalls
+mod OutsideLaw
+mod OutsideExamples

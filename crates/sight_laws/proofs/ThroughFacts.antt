@@ -78,7 +78,7 @@ down_nowhere_on cs n k p q passed c facts = (
   λ ha hb. not_along edge_after cs n k p q c.here c.next passed facts.0.1 ha hb,
 )
 
-ends_on : (start : Point) (points : List Point)
+pub ends_on : (start : Point) (points : List Point)
     → All (λ j. All (λ c. pos 0 ≤ℤ orient_of j.here j.next c.here) (ring start points)) (ring start points)
     → All (λ c. All (λ j. (pos 0 ≤ℤ orient_of j.here j.next c.here) × (pos 0 ≤ℤ orient_of j.here j.next c.next)) (ring start points)) (ring start points)
 ends_on start points convex =
@@ -132,7 +132,7 @@ down_nowhere_back cs n k p q passed c facts = (
   λ hb ha. not_along wall_back cs n k p q c.next c.here passed facts.0.1 (none_back _ ha) (none_back _ hb),
 )
 
-ends_back : (start : Point) (points : List Point)
+pub ends_back : (start : Point) (points : List Point)
     → All (λ j. All (λ c. pos 0 ≤ℤ orient_of j.next j.here c.next) (ring start points)) (ring start points)
     → All (λ c. All (λ j. (pos 0 ≤ℤ orient_of j.next j.here c.next) × (pos 0 ≤ℤ orient_of j.next j.here c.here)) (ring start points)) (ring start points)
 ends_back start points convex =

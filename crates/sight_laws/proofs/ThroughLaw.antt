@@ -27,7 +27,7 @@ use Rattle.sight_laws.proofs.ThroughFacts.{IsPassed, IsFreeOn, IsFreeBack, wall_
 
 -- ---- the walls and corners of an obstacle, whichever way its points go round
 
-walls_on : (start : Point) (points : List Point) → is_counterclockwise (start ∷ points) ≡ true → walls_round true (start ∷ points) ≡ map edge_after (ring start points)
+pub walls_on : (start : Point) (points : List Point) → is_counterclockwise (start ∷ points) ≡ true → walls_round true (start ∷ points) ≡ map edge_after (ring start points)
 unfolding walls_round
 walls_on start points h = rw h (edges_of_is start points)
 
@@ -35,7 +35,7 @@ corners_on : (start : Point) (points : List Point) → is_counterclockwise (star
 unfolding corners_round
 corners_on start points h = rw h (corners_along_is start points)
 
-walls_back : (start : Point) (points : List Point) → is_counterclockwise (start ∷ points) ≡ false → walls_round true (start ∷ points) ≡ map wall_back (ring start points)
+pub walls_back : (start : Point) (points : List Point) → is_counterclockwise (start ∷ points) ≡ false → walls_round true (start ∷ points) ≡ map wall_back (ring start points)
 unfolding walls_round
 walls_back start points h = rw h (ap (map turned_edge) (edges_of_is start points) ∙ map-map turned_edge edge_after (ring start points))
 
@@ -67,7 +67,7 @@ passed wall cs k n p q hk hn inside outside =
     left : Segment → Bool
     left w = lies_left (enlarged_wall n w).a (enlarged_wall n w).b (part_way k n p q)
 
-convex_pairs : (wall : Corner → Segment) (cs : List Corner) → is_convex (map wall cs) ≡ true
+pub convex_pairs : (wall : Corner → Segment) (cs : List Corner) → is_convex (map wall cs) ≡ true
     → All (λ j. All (λ c. pos 0 ≤ℤ orient_of (wall j).a (wall j).b (wall c).a) cs) cs
 convex_pairs wall cs h =
     weaker (λ j. list_all (reaches (wall j)) (map wall cs) ≡ true) (λ j. All (λ c. pos 0 ≤ℤ orient_of (wall j).a (wall j).b (wall c).a) cs)
@@ -87,7 +87,7 @@ unblocked_parts scene p q h =
     let lines = or_parts (list_any (crosses p q) scene.walls) (list_any (crosses p q) scene.screens) (sym (list_any-append (crosses p q) scene.walls scene.screens) ∙ first.0) in
     record { uncrossed = lines.0; unentered = second.0; unstopped = second.1 }
 
-none_mapped : {X Y : Type 0} (test : Y → Bool) (f : X → Y) (xs : List X) → list_any test (map f xs) ≡ false → All (λ x. test (f x) ≡ false) xs
+pub none_mapped : {X Y : Type 0} (test : Y → Bool) (f : X → Y) (xs : List X) → list_any test (map f xs) ≡ false → All (λ x. test (f x) ≡ false) xs
 none_mapped test f xs h = none_passes (λ x. test (f x)) xs (sym (list_any_map test f xs) ∙ h)
 
 free_on : (cs : List Corner) (p q : Point) → IsUnblocked p q (map edge_after cs) cs → All (IsFreeOn p q) cs
@@ -173,7 +173,7 @@ none_among test f (x ∷ xs) h =
     let parts = or_parts (list_any test (f x)) (list_any test (flat_map f xs)) (sym (list_any-append test (f x) (flat_map f xs)) ∙ h) in
     All-cons (λ x. list_any test (f x) ≡ false) x xs parts.0 (none_among test f xs parts.1)
 
-of_member : {X : Type 0} (holds : X → Type 0) (xs : List X) (x : X) → All holds xs → Contains xs x → holds x
+pub of_member : {X : Type 0} (holds : X → Type 0) (xs : List X) (x : X) → All holds xs → Contains xs x → holds x
 of_member holds xs x all there = subst holds there.2 (all there.0 x there.1)
 
 none_of_member : {X Y : Type 0} (test : Y → Bool) (f : X → List Y) (before after : List Y) (xs : List X) (x : X) → Contains xs x

@@ -6,8 +6,11 @@
 //! | law | what it says |
 //! |---|---|
 //! | [`no_sight_through_a_convex_obstacle`] | a segment that passes through the inside of a convex obstacle is blocked |
+//! | [`inside_is_strictly_inside`] | what is inside a convex obstacle, by the edges right of it, is strictly left of each wall |
 #![tactic(auto)]
 
+mod outside;
 mod through;
 
+pub use outside::inside_is_strictly_inside;
 pub use through::no_sight_through_a_convex_obstacle;
