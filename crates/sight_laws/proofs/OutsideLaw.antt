@@ -3,7 +3,7 @@ use Rattle.std.proofs.Common.{◌≡◌, ◌%◌, ◌==◌, pos, ◌<ℤ◌, ◌
 use Rattle.std.specs.Prelude.{Bool, true, false, not, ◌&&◌, List, [], ◌∷◌, map, All, Contains, count_by}
 use Rattle.std.specs.List.{list_any}
 use Rattle.std.proofs.lemmas.Int.{ints, by_lt_z}
-use Rattle.std.proofs.lemmas.Bool.{and_parts, true_from_ne_false, false_from_ne_true, cases_Bool}
+use Rattle.std.proofs.lemmas.Bool.{and_parts, not-true, true_from_ne_false, false_from_ne_true, cases_Bool}
 use Rattle.std.proofs.lemmas.List.Folds.{Any-from_list_any, list_all-map}
 use Rattle.std.proofs.lemmas.List.Sums.{list_all-from_AllPass}
 use Rattle.plan_laws.proofs.Lists.{list_any_map}
@@ -16,10 +16,11 @@ use Rattle.plane_spec.specs.Polygons.{edges_of, is_on_edge, is_on_border, passes
 use Rattle.plan_spec.specs.Scene.{walls_round}
 use Rattle.sight_laws.specs.Convex.{is_convex, is_strictly_inside}
 use Rattle.sight_laws.proofs.ThroughRings.{ring, last_point, edge_after, edges_of_is, weaker, both, after_each, all_from, none_from}
+use Rattle.sight_laws.proofs.ThroughWalls.{not_both}
 use Rattle.sight_laws.proofs.ThroughFacts.{wall_back, pairs_turned, ends_on, ends_back}
 use Rattle.sight_laws.proofs.ThroughLaw.{walls_on, walls_back, convex_pairs, none_mapped, of_member}
 use Rattle.sight_laws.proofs.OutsideTests.{odd_by, odd_is, none_odd, odd_agree, crosses_level, crossings_even, IsAcross, passing_ends, passing_crosses, other_ends, on_across, on_turned}
-use Rattle.sight_laws.proofs.OutsideWalls.{not_both, AreAside, IsBefore, IsEdge, of_edge, left_of_all}
+use Rattle.sight_laws.proofs.OutsideWalls.{AreAside, IsBefore, IsEdge, of_edge, left_of_all}
 
 -- ---- going round
 
@@ -63,10 +64,6 @@ HasRight cs x = (l h : Point) × IsEdge cs l h × IsAcross x l h × (pos 0 <ℤ 
 abbrev HasLeft : List Corner → Point → Type 0
 HasLeft cs x = (l h : Point) × IsEdge cs l h × IsAcross x l h × (orient_of l h x <ℤ pos 0)
 
-not_so : (t : Bool) → not t ≡ true → t ≡ false
-not_so true h = sym h
-not_so false h = refl
-
 has_right : (cs : List Corner) (x : Point) → list_any (passes_right x) (map edge_after cs) ≡ true → HasRight cs x
 has_right cs x h =
     let some = member_passing (λ c. passes_right x (edge_after c)) cs (sym (list_any_map (passes_right x) edge_after cs) ∙ h) in
@@ -93,7 +90,7 @@ has_left cs x off h =
     let c = some.0 in
     let parts = and_parts (crosses_level x (edge_after c)) (not (passes_right x (edge_after c))) some.2 in
     let free = of_member (λ j. is_on_edge x (edge_after j) ≡ false) cs c off some.1 in
-    elim (other_ends x c.here c.next parts.0 (not_so (passes_right x (edge_after c)) parts.1)) [
+    elim (other_ends x c.here c.next parts.0 (not-true (passes_right x (edge_after c)) parts.1)) [
       | inl e ↦ (c.here, c.next, (c, some.1, inl (refl, refl)), e.0, strictly_right x c.here c.next e.0 free e.1)
       | inr e ↦ (c.next, c.here, (c, some.1, inr (refl, refl)), e.0, strictly_right x c.next c.here e.0 (off_turned x c.here c.next free) e.1)
     ]
@@ -125,7 +122,7 @@ within x start points inside =
     let edges_are = edges_of_is start points in
     let odd = sym (odd_is (passes_right x) (edges_of (start ∷ points))) ∙ parts.1 in
     let off = none_mapped (is_on_edge x) edge_after (ring start points)
-    (subst (λ t. list_any (is_on_edge x) t ≡ false) edges_are (not_so (is_on_border x (start ∷ points)) parts.0)) in
+    (subst (λ t. list_any (is_on_edge x) t ≡ false) edges_are (not-true (is_on_border x (start ∷ points)) parts.0)) in
     record {
       off = off;
       right = has_right (ring start points) x (subst (λ t. list_any (passes_right x) t ≡ true) edges_are (some_right x (edges_of (start ∷ points)) odd));

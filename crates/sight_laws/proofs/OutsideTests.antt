@@ -16,6 +16,7 @@ use Rattle.plane_spec.specs.Segments.{is_between, is_on_segment}
 use Rattle.plane_spec.specs.Polygons.{edges_to, edges_of, passes_right}
 use Rattle.exact_geom.proofs.Orientation.{orient_of_first_exchanged}
 use Rattle.sight_laws.proofs.ThroughNumbers.{between_along}
+use Rattle.sight_laws.proofs.ThroughWalls.{between_parts}
 
 -- ---- parity
 
@@ -176,10 +177,6 @@ other_ends x a b crossed h = by_low (int_le a.y x.y) (int_le b.y x.y) refl refl 
     by_low false false i j c k = let absurdity : true ≡ false = sym c in cc
 
 -- ---- on an edge
-
-between_parts : (m a b : ℤ) → ((pos 0 ≤ℤ (m -ℤ a)) × ((m -ℤ a) ≤ℤ (b -ℤ a))) ⊎ (((b -ℤ a) ≤ℤ (m -ℤ a)) × ((m -ℤ a) ≤ℤ pos 0)) → is_between m a b ≡ true
-between_parts m a b (inl h) = let first = h.0 in let second = h.1 in grind (arith, ints, first, second)
-between_parts m a b (inr h) = let first = h.0 in let second = h.1 in grind (arith, ints, first, second)
 
 between_up : (m a b : ℤ) → a ≤ℤ m → m ≤ℤ b → is_between m a b ≡ true
 between_up m a b h k = grind (arith, ints)

@@ -1,6 +1,6 @@
 -- Two edges of a convex obstacle cross the level of a point, one to its right and one to its left: then the point is left of each wall.
-use Rattle.std.proofs.Common.{◌≡◌, pos, ◌-ℤ◌, ◌<ℤ◌, ◌≤ℤ◌, ◌⊎◌, inl, inr, sym, ◌∙◌, subst, arith}
-use Rattle.std.specs.Prelude.{Bool, true, false, List, All, Contains}
+use Rattle.std.proofs.Common.{◌≡◌, pos, ◌-ℤ◌, ◌<ℤ◌, ◌≤ℤ◌, ◌⊎◌, inl, inr, subst, arith}
+use Rattle.std.specs.Prelude.{true, false, List, All, Contains}
 use Rattle.std.proofs.lemmas.Int.{ints, by_lt_z}
 use Rattle.std.proofs.lemmas.Bool.{and_from}
 use Rattle.int_laws.proofs.Signs.{positive_tested}
@@ -11,6 +11,7 @@ use Rattle.plane_spec.specs.declared.Corner.{Corner}
 use Rattle.plane_spec.specs.Vectors.{orient_of, lies_left, same_point}
 use Rattle.plane_spec.specs.Segments.{is_on_segment}
 use Rattle.sight_laws.proofs.ThroughRings.{weaker, both}
+use Rattle.sight_laws.proofs.ThroughWalls.{not_both}
 use Rattle.sight_laws.proofs.ThroughLaw.{of_member}
 use Rattle.sight_laws.proofs.OutsideNumbers.{left_of_rising, left_of_falling, not_below, left_above, left_below, right_of_start, starts_left}
 use Rattle.sight_laws.proofs.OutsideTests.{IsAcross, on_level_edge}
@@ -35,9 +36,6 @@ rises_left x l h low high u v between aside rises = left_of_rising l h u v x bet
 -- x is left of a wall that falls, by the edge to its left
 falls_left : (x l h low high u v : Point) → IsBetween x l h low high → AreAside u v low high → (v.y -ℤ u.y) <ℤ pos 0 → pos 0 <ℤ orient_of u v x
 falls_left x l h low high u v between aside falls = left_of_falling low high u v x between.left.low between.left.high aside.0 aside.1 between.left_side falls
-
-pub not_both : (t : Bool) → t ≡ true → t ≡ false → ⊥
-not_both t h k = absurd (let e : true ≡ false = sym h ∙ k in cc)
 
 -- a wall along a level, which isn't that of x where it leads to the right
 flat_left : (x l h low high u v : Point) → IsBetween x l h low high → AreAside u v l h → same_point u v ≡ false

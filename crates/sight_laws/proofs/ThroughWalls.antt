@@ -61,7 +61,7 @@ between_apart : (m a b : ℤ) → ((pos 0 ≤ℤ (a -ℤ m)) × ((b -ℤ m) ≤�
 between_apart m a b (inl h) = let first = h.0 in let second = h.1 in grind (arith, ints, first, second)
 between_apart m a b (inr h) = let first = h.0 in let second = h.1 in grind (arith, ints, first, second)
 
-between_parts : (m a b : ℤ) → ((pos 0 ≤ℤ (m -ℤ a)) × ((m -ℤ a) ≤ℤ (b -ℤ a))) ⊎ (((b -ℤ a) ≤ℤ (m -ℤ a)) × ((m -ℤ a) ≤ℤ pos 0)) → is_between m a b ≡ true
+pub between_parts : (m a b : ℤ) → ((pos 0 ≤ℤ (m -ℤ a)) × ((m -ℤ a) ≤ℤ (b -ℤ a))) ⊎ (((b -ℤ a) ≤ℤ (m -ℤ a)) × ((m -ℤ a) ≤ℤ pos 0)) → is_between m a b ≡ true
 between_parts m a b (inl h) = let first = h.0 in let second = h.1 in grind (arith, ints, first, second)
 between_parts m a b (inr h) = let first = h.0 in let second = h.1 in grind (arith, ints, first, second)
 
@@ -87,7 +87,7 @@ positive_apart z h e = absurd (omega (arith, ints))
 negative_apart : (z : ℤ) → z <ℤ pos 0 → z ≡ pos 0 → ⊥
 negative_apart z h e = absurd (omega (arith, ints))
 
-not_both : (t : Bool) → t ≡ true → t ≡ false → ⊥
+pub not_both : (t : Bool) → t ≡ true → t ≡ false → ⊥
 not_both t h k = absurd (let e : true ≡ false = sym h ∙ k in cc)
 
 -- ---- the line leads into the obstacle at a wall
