@@ -1,10 +1,26 @@
 mod ThroughNumbers
-mod ThroughRings
+pub mod ThroughRings
 mod ThroughWalls
 mod ThroughFacts
 mod ThroughTurned
-mod ThroughLaw
+pub mod ThroughLaw
 mod ThroughExamples
+pub mod BelowLemmas
+pub mod BelowLists
+pub mod BelowStep
+pub mod BelowBetween
+pub mod BelowWalls
+pub mod BelowCorners
+pub mod BelowLine
+pub mod BelowFlat
+pub mod BelowRound
+pub mod Below
+mod BelowExamples
+mod InsideLists
+mod InsideNumbers
+mod InsideWalls
+mod InsideLaw
+mod InsideExamples
 mod OutsideNumbers
 mod OutsideTests
 mod OutsideWalls

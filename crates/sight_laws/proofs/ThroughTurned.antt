@@ -16,7 +16,7 @@ use Rattle.sight_laws.specs.Convex.{enlarged_wall, part_way, is_strictly_inside,
 
 -- ---- walls and corners
 
-or_turned : (x y : Bool) → (x || y) ≡ (y || x)
+pub or_turned : (x y : Bool) → (x || y) ≡ (y || x)
 or_turned true true = refl
 or_turned true false = refl
 or_turned false true = refl

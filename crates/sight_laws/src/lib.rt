@@ -6,11 +6,20 @@
 //! | law | what it says |
 //! |---|---|
 //! | [`no_sight_through_a_convex_obstacle`] | a segment that passes through the inside of a convex obstacle is blocked |
-//! | [`inside_is_strictly_inside`] | what is inside a convex obstacle, by the edges right of it, is strictly left of each wall |
+//! | [`a_convex_obstacle_blocks_no_more`] | a segment that the rule calls blocked passes through the inside |
+//! | [`strictly_inside_is_inside`] | what lies strictly left of all walls of a simple convex polygon is inside it |
+//! | [`inside_is_strictly_inside`] | what is inside a convex polygon is strictly left of all its walls |
+//! | [`no_sight_between_open_points_through_a_convex_obstacle`] | open points don't see each other through the inside of a convex obstacle of a sound plan |
 #![tactic(auto)]
 
+mod inside;
 mod outside;
 mod through;
+mod unblocked;
 
+pub use inside::{
+    no_sight_between_open_points_through_a_convex_obstacle, strictly_inside_is_inside,
+};
 pub use outside::inside_is_strictly_inside;
 pub use through::no_sight_through_a_convex_obstacle;
+pub use unblocked::a_convex_obstacle_blocks_no_more;
