@@ -19,7 +19,8 @@ use Rattle.sight_laws.proofs.ThroughRings.{ring, last_point, edge_after, edges_o
 use Rattle.sight_laws.proofs.ThroughWalls.{not_both}
 use Rattle.sight_laws.proofs.ThroughFacts.{wall_back, pairs_turned, ends_on, ends_back}
 use Rattle.sight_laws.proofs.ThroughLaw.{walls_on, walls_back, convex_pairs, none_mapped, of_member}
-use Rattle.sight_laws.proofs.OutsideTests.{odd_by, odd_is, none_odd, odd_agree, crosses_level, crossings_even, IsAcross, passing_ends, passing_crosses, other_ends, on_across, on_turned}
+use Rattle.sight_laws.proofs.InsideWalls.{on_wall, on_turned}
+use Rattle.sight_laws.proofs.OutsideTests.{odd_by, odd_is, none_odd, odd_agree, crosses_level, crossings_even, IsAcross, passing_ends, passing_crosses, other_ends}
 use Rattle.sight_laws.proofs.OutsideWalls.{AreAside, IsBefore, IsEdge, of_edge, left_of_all}
 
 -- ---- going round
@@ -77,7 +78,7 @@ has_right cs x h =
 strictly_right : (x l h : Point) → IsAcross x l h → is_on_segment x l h ≡ false → orient_of l h x ≤ℤ pos 0 → orient_of l h x <ℤ pos 0
 strictly_right x l h across off side =
     by_lt_z (orient_of l h x) (pos 0) (λ right. right)
-    (λ line. absurd (not_both (is_on_segment x l h) (on_across x l h across (omega (arith, ints, line, side))) off))
+    (λ line. absurd (not_both (is_on_segment x l h) (on_wall x l h (omega (arith, ints, line, side)) across.low across.high) off))
 
 off_turned : (x a b : Point) → is_on_segment x a b ≡ false → is_on_segment x b a ≡ false
 off_turned x a b off = false_from_ne_true (is_on_segment x b a) (λ on. not_both (is_on_segment x a b) (on_turned x b a on) off)

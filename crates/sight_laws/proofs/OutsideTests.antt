@@ -1,22 +1,19 @@
 -- Edges that cross the level of a point, and those of them that pass to its right: their ends, and that the first are even in number.
-use Rattle.std.proofs.Common.{◌≡◌, ℕ, ◌+◌, ◌%◌, ◌==◌, ℤ, pos, ◌-ℤ◌, neg_ℤ, ◌<ℤ◌, ◌≤ℤ◌, ◌⊎◌, inl, inr, refl, sym, ap, ◌∙◌, arith}
+use Rattle.std.proofs.Common.{◌≡◌, ℕ, ◌+◌, ◌%◌, ◌==◌, ℤ, pos, ◌-ℤ◌, ◌<ℤ◌, ◌≤ℤ◌, ◌⊎◌, inl, inr, refl, sym, ap, ◌∙◌, arith}
 use Rattle.std.specs.Prelude.{Bool, true, false, not, ◌&&◌, List, [], ◌∷◌, int_lt, int_le, if◌then◌else◌, count_by}
 use Rattle.std.specs.List.{list_any}
-use Rattle.std.specs.Ordering.{int_eq}
 use Rattle.std.proofs.lemmas.Int.{ints}
 use Rattle.std.proofs.lemmas.Bool.{and_from, and_parts, or_parts}
 use Rattle.std.proofs.lemmas.Grind.{common_steps}
 use Rattle.std.proofs.lemmas.List.Sums.{sum_by-cons}
-use Rattle.int_laws.proofs.Ring.{product_swapped, neg_times, zero_times, times_zero}
-use Rattle.int_laws.proofs.Tests.{tested_at_most, tested_less, tested_equal, equal_tested}
+use Rattle.int_laws.proofs.Ring.{zero_times, times_zero}
+use Rattle.int_laws.proofs.Tests.{tested_at_most, tested_less, equal_tested}
 use Rattle.plane_spec.specs.declared.Point.{Point}
 use Rattle.plane_spec.specs.declared.Segment.{Segment}
 use Rattle.plane_spec.specs.Vectors.{orient_of}
 use Rattle.plane_spec.specs.Segments.{is_between, is_on_segment}
 use Rattle.plane_spec.specs.Polygons.{edges_to, edges_of, passes_right}
 use Rattle.exact_geom.proofs.Orientation.{orient_of_first_exchanged}
-use Rattle.sight_laws.proofs.ThroughNumbers.{between_along}
-use Rattle.sight_laws.proofs.ThroughWalls.{between_parts}
 
 -- ---- parity
 
@@ -180,34 +177,6 @@ other_ends x a b crossed h = by_low (int_le a.y x.y) (int_le b.y x.y) refl refl 
 
 between_up : (m a b : ℤ) → a ≤ℤ m → m ≤ℤ b → is_between m a b ≡ true
 between_up m a b h k = grind (arith, ints)
-
--- an edge across the level of x that has x in line has it on itself
-pub on_across : (x l h : Point) → IsAcross x l h → orient_of l h x ≡ pos 0 → is_on_segment x l h ≡ true
-unfolding is_on_segment
-on_across x l h across line =
-    let low = across.low in
-    let high = across.high in
-    let turn = product_swapped (h.x -ℤ l.x) (x.y -ℤ l.y) in
-    let back = neg_times (x.y -ℤ l.y) (h.x -ℤ l.x) in
-    let way = between_along (h.y -ℤ l.y) (neg_ℤ (x.y -ℤ l.y)) (x.x -ℤ l.x) (h.x -ℤ l.x) (omega (arith, ints, low, high)) (omega (arith, ints, low)) (omega (arith, ints, high))
-    (omega (arith, ints, line, turn, back)) in
-    and_from _ _ (equal_tested (orient_of l h x) (pos 0) line)
-    (and_from _ _ (between_parts x.x l.x h.x way) (between_up x.y l.y h.y low (omega (arith, ints, high))))
-
-turned_line : (x a b : Point) → orient_of a b x ≡ pos 0 → orient_of b a x ≡ pos 0
-turned_line x a b line = let e = orient_of_first_exchanged a b x in omega (arith, ints, e, line)
-
-between_turned : (m a b : ℤ) → is_between m a b ≡ true → is_between m b a ≡ true
-between_turned m a b h = grind (arith, ints)
-
--- an edge has the same points on it in either direction
-pub on_turned : (x a b : Point) → is_on_segment x a b ≡ true → is_on_segment x b a ≡ true
-unfolding is_on_segment
-on_turned x a b h =
-    let parts = and_parts (int_eq (orient_of a b x) (pos 0)) (is_between x.x a.x b.x && is_between x.y a.y b.y) h in
-    let ends = and_parts (is_between x.x a.x b.x) (is_between x.y a.y b.y) parts.1 in
-    and_from _ _ (equal_tested (orient_of b a x) (pos 0) (turned_line x a b (tested_equal (orient_of a b x) (pos 0) parts.0)))
-    (and_from _ _ (between_turned x.x a.x b.x ends.0) (between_turned x.y a.y b.y ends.1))
 
 -- a level edge to the right has on it what is between its ends
 pub on_level_edge : (x a b : Point) → a.y ≡ x.y → b.y ≡ x.y → a.x ≤ℤ x.x → x.x ≤ℤ b.x → is_on_segment x a b ≡ true
