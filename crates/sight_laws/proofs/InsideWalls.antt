@@ -59,7 +59,7 @@ flat_start x a b c d first second at_a at_b at_c at_d =
 -- ---- an end on the other wall
 
 -- what is on the line of a wall and between the heights of its ends is on the wall
-on_wall : (a c d : Point) → orient_of c d a ≡ pos 0 → c.y ≤ℤ a.y → a.y <ℤ d.y → is_on_segment a c d ≡ true
+pub on_wall : (a c d : Point) → orient_of c d a ≡ pos 0 → c.y ≤ℤ a.y → a.y <ℤ d.y → is_on_segment a c d ≡ true
 unfolding is_on_segment
 on_wall a c d flat low high =
     let across = product_swapped (a.y -ℤ c.y) (d.x -ℤ c.x) in
@@ -70,7 +70,7 @@ on_wall a c d flat low high =
     (between_along (d.y -ℤ c.y) (neg_ℤ (a.y -ℤ c.y)) (a.x -ℤ c.x) (d.x -ℤ c.x) (omega (arith, ints, low, high)) (omega (arith, ints, low)) (omega (arith, ints, high)) (omega (arith, ints, across, back, flat))))
     (between_parts a.y c.y d.y (inl (omega (arith, ints, low), omega (arith, ints, high)))))
 
-on_turned : (a c d : Point) → is_on_segment a c d ≡ true → is_on_segment a d c ≡ true
+pub on_turned : (a c d : Point) → is_on_segment a c d ≡ true → is_on_segment a d c ≡ true
 unfolding is_on_segment
 on_turned a c d h =
     let parts = and_parts (int_eq (orient_of c d a) (pos 0)) (is_between a.x c.x d.x && is_between a.y c.y d.y) h in

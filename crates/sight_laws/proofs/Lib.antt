@@ -25,3 +25,8 @@ mod InsideNumbers
 mod InsideWalls
 mod InsideLaw
 mod InsideExamples
+mod OutsideNumbers
+mod OutsideTests
+mod OutsideWalls
+mod OutsideLaw
+mod OutsideExamples

@@ -87,7 +87,7 @@ unblocked_parts scene p q h =
     let lines = or_parts (list_any (crosses p q) scene.walls) (list_any (crosses p q) scene.screens) (sym (list_any-append (crosses p q) scene.walls scene.screens) ∙ first.0) in
     record { uncrossed = lines.0; unentered = second.0; unstopped = second.1 }
 
-none_mapped : {X Y : Type 0} (test : Y → Bool) (f : X → Y) (xs : List X) → list_any test (map f xs) ≡ false → All (λ x. test (f x) ≡ false) xs
+pub none_mapped : {X Y : Type 0} (test : Y → Bool) (f : X → Y) (xs : List X) → list_any test (map f xs) ≡ false → All (λ x. test (f x) ≡ false) xs
 none_mapped test f xs h = none_passes (λ x. test (f x)) xs (sym (list_any_map test f xs) ∙ h)
 
 free_on : (cs : List Corner) (p q : Point) → IsUnblocked p q (map edge_after cs) cs → All (IsFreeOn p q) cs

@@ -87,7 +87,7 @@ positive_apart z h e = absurd (omega (arith, ints))
 negative_apart : (z : ℤ) → z <ℤ pos 0 → z ≡ pos 0 → ⊥
 negative_apart z h e = absurd (omega (arith, ints))
 
-not_both : (t : Bool) → t ≡ true → t ≡ false → ⊥
+pub not_both : (t : Bool) → t ≡ true → t ≡ false → ⊥
 not_both t h k = absurd (let e : true ≡ false = sym h ∙ k in cc)
 
 -- ---- the line leads into the obstacle at a wall
