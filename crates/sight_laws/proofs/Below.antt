@@ -56,7 +56,7 @@ ends_differ points w s i =
     (λ e h. rw (equal_turned e.b.x e.a.x, equal_turned e.b.y e.a.y) h) w i
 
 -- no point is right of a wall
-level : (points : List Point) → is_convex (walls_round true points) ≡ true → (w : Segment) (x : Point) → IsIn (walls_round true points) w → IsIn points x → pos 0 ≤ℤ height w x
+pub level : (points : List Point) → is_convex (walls_round true points) ≡ true → (w : Segment) (x : Point) → IsIn (walls_round true points) w → IsIn points x → pos 0 ≤ℤ height w x
 level points convex w x i k =
     let walls = walls_round true points in
     let b = (walls_of_points points).reached x k in

@@ -74,11 +74,11 @@ edge_ends [] x i = absurd i
 edge_ends (p ∷ points) x (inl e) = ends p p points x (inr e)
 edge_ends (p ∷ points) x (inr i) = ends p p points x (inl i)
 
-edge_begin_in : (points : List Point) (e : Segment) → IsIn (edges_of points) e → IsIn points e.a
+pub edge_begin_in : (points : List Point) (e : Segment) → IsIn (edges_of points) e → IsIn points e.a
 edge_begin_in [] e i = absurd i
 edge_begin_in (p ∷ points) e i = begin_in p (p ∷ points) e i
 
-edge_end_in : (points : List Point) (e : Segment) → IsIn (edges_of points) e → IsIn points e.b
+pub edge_end_in : (points : List Point) (e : Segment) → IsIn (edges_of points) e → IsIn points e.b
 edge_end_in [] e i = absurd i
 edge_end_in (p ∷ points) e i = once (end_in p (p ∷ points) e i)
   where

@@ -259,7 +259,7 @@ inside_where_left_of_all (start ∷ points) x simple convex inside =
 -- ---- open points of a plan
 
 -- an open point isn't strictly inside a convex obstacle of a sound plan
-not_inside_where_open : (plan : Plan) (o : Obstacle) (p : Point) → is_sound plan ≡ true → Contains plan.obstacles o → is_convex (walls_round true o.points) ≡ true → is_open plan p ≡ true
+pub not_inside_where_open : (plan : Plan) (o : Obstacle) (p : Point) → is_sound plan ≡ true → Contains plan.obstacles o → is_convex (walls_round true o.points) ≡ true → is_open plan p ≡ true
     → is_strictly_inside (walls_round true o.points) p ≡ false
 unfolding is_open
 not_inside_where_open plan o p sound there convex is_free =

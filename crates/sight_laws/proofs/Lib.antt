@@ -19,6 +19,8 @@ mod BelowExamples
 mod PlansTurned
 pub mod PlansOuter
 pub mod PlansLaw
+pub mod PlansWithin
+pub mod PlansOpen
 mod PlansExamples
 mod InsideLists
 mod InsideNumbers

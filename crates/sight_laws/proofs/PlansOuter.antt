@@ -38,6 +38,7 @@ not_left a b x h k =
 
 -- ---- walls
 
+-- of two numbers with opposite signs one is positive
 one_is_positive : (s t : ℤ) → s ≤ℤ pos 0 → t ≤ℤ pos 0 → are_opposite s t ≡ true → ⊥
 one_is_positive s t h k apart = absurd (grind (arith, ints))
 
@@ -62,6 +63,7 @@ not_entered p q w h k entered =
 
 -- ---- corners
 
+-- what is in a cone is left of at least one of the corner's walls
 one_at_least : (turn x y : Bool) → cond turn (x && y) (x || y) ≡ true → (x || y) ≡ true
 one_at_least true true y h = refl
 one_at_least true false y h = cc
@@ -117,7 +119,7 @@ outer_unblocked points p q hp hq =
           (beside walls q (wall_before c) hq stands.before) (beside walls q (wall_after c) hq stands.after));
     }
 
-pub unblocked_by : (p q : Point) (walls : List Segment) (corners : List Corner) → IsUnblocked p q walls corners
+unblocked_by : (p q : Point) (walls : List Segment) (corners : List Corner) → IsUnblocked p q walls corners
     → is_blocked (record { walls = walls; screens = []; corners = corners }) p q ≡ false
 unfolding is_blocked
 unblocked_by p q walls corners free = rw (append-nil walls, free.uncrossed, free.unentered, free.unstopped) refl

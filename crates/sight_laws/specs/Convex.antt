@@ -25,7 +25,7 @@ is_convex walls = list_all (λ w. list_all (λ v. int_le (pos 0) (orient_of w.a 
 abbrev pub is_strictly_inside : List Segment → Point → Bool
 is_strictly_inside walls x = list_all (λ w. lies_left w.a w.b x) walls
 
--- on or left of all walls: of a convex polygon that goes round counterclockwise, on or inside it
+-- on or left of all walls, as is all that lies on a convex polygon or inside it
 abbrev pub is_on_or_inside : List Segment → Point → Bool
 is_on_or_inside walls x = list_all (λ w. int_le (pos 0) (orient_of w.a w.b x)) walls
 
@@ -50,6 +50,10 @@ PassesThrough walls p q = (a n : ℕ) × (0 < a) × (a < n) × IsTrue (is_strict
 -- the obstacle's polygon is simple and convex
 abbrev pub is_convex_obstacle : Obstacle → Bool
 is_convex_obstacle o = is_simple o.points && is_convex (walls_of_obstacle o)
+
+-- the outer polygon and all obstacles are convex
+abbrev pub has_convex_polygons : Plan → Bool
+has_convex_polygons plan = is_convex (walls_round true plan.outer) && list_all (λ o. is_convex (walls_of_obstacle o)) plan.obstacles
 
 -- both points are strictly inside the obstacle
 abbrev pub has_both_inside : Point → Point → Obstacle → Bool

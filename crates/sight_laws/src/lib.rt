@@ -12,6 +12,7 @@
 //! | [`no_sight_between_open_points_through_a_convex_obstacle`] | open points don't see each other through the inside of a convex obstacle of a sound plan |
 //! | [`a_convex_outer_polygon_blocks_nothing`] | between points on or inside it, a convex outer polygon is never in the way |
 //! | [`sight_among_convex_polygons`] | in a plan of convex polygons, two points see each other exactly where they differ, no screen is crossed and no obstacle passed through |
+//! | [`what_is_seen_among_convex_polygons`] | the same of open points of a sound plan |
 #![tactic(auto)]
 
 mod inside;
@@ -24,6 +25,9 @@ pub use inside::{
     no_sight_between_open_points_through_a_convex_obstacle, strictly_inside_is_inside,
 };
 pub use outside::inside_is_strictly_inside;
-pub use plans::{a_convex_outer_polygon_blocks_nothing, sight_among_convex_polygons};
+pub use plans::{
+    a_convex_outer_polygon_blocks_nothing, sight_among_convex_polygons,
+    what_is_seen_among_convex_polygons,
+};
 pub use through::no_sight_through_a_convex_obstacle;
 pub use unblocked::a_convex_obstacle_blocks_no_more;
