@@ -1,0 +1,7 @@
+mod Held
+mod Parts
+mod Touching
+mod Crossing
+mod Blocking
+mod Kept
+pub mod Sight

@@ -1,0 +1,26 @@
+//! Laws of edits: what an edit may change in a plan lies in the boxes before and after it, and nothing else changes.
+//!
+//! A law is a function without parameters and with an empty body, whose contract states it.
+//!
+//! | law | what it says |
+//! |---|---|
+//! | [`a_pair_that_is_not_dirty_keeps_its_sight`] | two points see each other after an edit exactly where they did before, if the segment between them meets neither box |
+#![tactic(auto)]
+
+ghost use Rattle.std.specs.Prelude.{◌≡◌, false};
+ghost use Rattle.plane_spec.specs.declared.Point.{Point};
+ghost use Rattle.plan_spec.specs.declared.changes.Edit.{Edit};
+ghost use Rattle.plan_spec.specs.Dirty.{is_dirty_pair};
+ghost use Rattle.plan_spec.specs.Edits.{changed_boxes, edited};
+ghost use Rattle.plan_spec.specs.Plan.{Plan};
+ghost use Rattle.plan_spec.specs.Scene.{scene_of};
+ghost use Rattle.plan_spec.specs.Sight.{are_in_sight};
+
+/// Two points whose segment meets neither the box of the obstacle or screen before an edit nor the one after it see each
+/// other after the edit exactly where they did before.
+///
+/// The plan may be any: it need not be sound, several of its obstacles may have the name that the edit names, and nothing
+/// is asked of the edit. Coordinates are any whole numbers.
+pub fn a_pair_that_is_not_dirty_keeps_its_sight()
+    ensures { (plan : Plan) (edit : Edit) (p q : Point) → is_dirty_pair (changed_boxes plan edit) p q ≡ false → are_in_sight (scene_of (edited plan edit)) p q ≡ are_in_sight (scene_of plan) p q }
+{}
