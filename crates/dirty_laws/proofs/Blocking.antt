@@ -43,7 +43,8 @@ second_end p q = rw (product_swapped (q.x -ℤ p.x) (q.y -ℤ p.y), nothing ((q.
 pub first_meets : (p q : Point) (area : PlanBox) → IsIn area p → does_meet_box p q area ≡ true
 first_meets p q area i = touching_meets p q p area i (first_end p q)
 
-second_meets : (p q : Point) (area : PlanBox) → IsIn area q → does_meet_box p q area ≡ true
+-- and so does one that ends there
+pub second_meets : (p q : Point) (area : PlanBox) → IsIn area q → does_meet_box p q area ≡ true
 second_meets p q area i = touching_meets p q q area i (second_end p q)
 
 between_held : (m a b low high : ℤ) → is_between m a b ≡ true → low ≤ℤ a → low ≤ℤ b → a ≤ℤ high → b ≤ℤ high → (low ≤ℤ m) × (m ≤ℤ high)

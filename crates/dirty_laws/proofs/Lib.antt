@@ -5,3 +5,5 @@ mod Crossing
 mod Blocking
 mod Kept
 pub mod Sight
+mod Within
+pub mod Openness

@@ -51,7 +51,7 @@ edges_to_held P first (p ∷ q ∷ points) f all =
     All-cons (OfEnds P) (record { a = p; b = q }) (edges_to first (q ∷ points)) (record { a = All-head P p (q ∷ points) all; b = All-head P q points later })
     (edges_to_held P first (q ∷ points) f later)
 
-edges_held : (P : Point → Type 0) (points : List Point) → All P points → All (OfEnds P) (edges_of points)
+pub edges_held : (P : Point → Type 0) (points : List Point) → All P points → All (OfEnds P) (edges_of points)
 edges_held P [] all = All-nil (OfEnds P)
 edges_held P (p ∷ points) all = edges_to_held P p (p ∷ points) (All-head P p points all) all
 
