@@ -1,4 +1,5 @@
-//! Laws of edits: what an edit may change lies in two boxes, those of the obstacle or screen before it and after it.
+//! Laws of edits: two points stay as they were, seen and open, where the segment between them meets neither the box of
+//! the obstacle or screen before an edit nor the one after it.
 //!
 //! A law is a function without parameters and with an empty body, whose contract states it.
 //!
@@ -26,8 +27,8 @@ pub fn a_pair_that_is_not_dirty_keeps_its_sight()
     ensures { (plan : Plan) (edit : Edit) (p q : Point) → is_dirty_pair (changed_boxes plan edit) p q ≡ false → are_in_sight (scene_of (edited plan edit)) p q ≡ are_in_sight (scene_of plan) p q }
 {}
 
-/// Each of two points whose segment meets neither box is open after an edit exactly where it was before. With the same
-/// point twice, this says it of every point that is in neither box.
+/// Each of two points whose segment meets neither box is open after an edit exactly where it was before. With one point
+/// taken twice, it says so of each point that is in neither box.
 ///
 /// The plan and the edit may be any, as for sight.
 pub fn a_point_of_a_pair_that_is_not_dirty_keeps_its_openness()
