@@ -5,6 +5,7 @@ use Rattle.std.proofs.lemmas.List.Elements.{All-nil, All-cons, All-head, All-tai
 use Rattle.plane_spec.specs.declared.Point.{Point}
 use Rattle.plane_spec.specs.declared.Segment.{Segment}
 use Rattle.plane_spec.specs.declared.Corner.{Corner}
+use Rattle.plane_spec.specs.declared.Orientation.{Orientation}
 use Rattle.plane_spec.specs.Polygons.{edges_to, edges_of}
 use Rattle.plane_spec.specs.Cones.{corner}
 use Rattle.plan_spec.specs.Scene.{turned_edge, goes_round, walls_round, corners_after, last_edge, corners_along, turned_corner, corners_round}
@@ -60,9 +61,9 @@ turned_held P edges all =
     All-map (OfEnds P) turned_edge edges (All-weaker (OfEnds P) (λ e. OfEnds P (turned_edge e)) (λ e h. record { a = h.b; b = h.a }) edges all)
 
 -- what holds of all points holds of the ends of all walls round them
-pub walls_held : (P : Point → Type 0) (counterclockwise : Bool) (points : List Point) → All P points → All (OfEnds P) (walls_round counterclockwise points)
+pub walls_held : (P : Point → Type 0) (way : Orientation) (points : List Point) → All P points → All (OfEnds P) (walls_round way points)
 unfolding walls_round
-walls_held P counterclockwise points all = by_way (goes_round counterclockwise points)
+walls_held P way points all = by_way (goes_round way points)
   where
     by_way : (t : Bool) → All (OfEnds P) (cond t (edges_of points) (map turned_edge (edges_of points)))
     by_way true = edges_held P points all
@@ -84,9 +85,9 @@ corners_along_held P [] all = All-nil (OfCorner P)
 corners_along_held P (e ∷ edges) all = corners_after_held P (last_edge e edges) (e ∷ edges) all
 
 -- what holds of all points holds of all corners at them
-pub corners_held : (P : Point → Type 0) (counterclockwise : Bool) (points : List Point) → All P points → All (OfCorner P) (corners_round counterclockwise points)
+pub corners_held : (P : Point → Type 0) (way : Orientation) (points : List Point) → All P points → All (OfCorner P) (corners_round way points)
 unfolding corners_round
-corners_held P counterclockwise points all = by_way (goes_round counterclockwise points)
+corners_held P way points all = by_way (goes_round way points)
   where
     held : All (OfCorner P) (corners_along (edges_of points))
     held = corners_along_held P (edges_of points) (edges_held P points all)

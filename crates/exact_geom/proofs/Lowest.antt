@@ -9,7 +9,7 @@ use Rattle.std.proofs.Math.Nat.{mod-lt, div-mul_cancel, zero-mul, pos_of_ne-zero
 use lib.IntN.{negsuc}
 use Rattle.int_laws.proofs.Divisors.{coprime_quotients, positive_divisor}
 use Rattle.plane_spec.specs.Vectors.{IsWithin}
-use Rattle.plane_spec.specs.Fractions.{Fraction, divisor_within, common_divisor, divided, reduced, IsReduced, fraction}
+use Rattle.plane_spec.specs.Fractions.{Fraction, whole, divisor_within, common_divisor, divided, reduced, IsReduced, fraction}
 use Rattle.exact_geom.specs.Parts.{HasPartsWithin}
 use Rattle.exact_geom.proofs.Bounds.{size_within, within_size}
 
@@ -132,3 +132,10 @@ positive_by false num den some h = opposite_is_positive den some h
 pub fraction_is_positive : (num den : ℤ) → den ≢ pos 0 → pos 1 ≤ℤ (fraction num den).den
 unfolding over_by
 fraction_is_positive num den some = positive_by (int_lt (pos 0) den) num den some refl
+
+-- a whole number is in lowest terms
+pub whole_is_reduced : (z : ℤ) → IsReduced (whole z)
+whole_is_reduced z = record {
+  lowest = IsGcd-from_mod (unsigned_abs z) 1 1 (IsGcd-from_zero 1 (unsigned_abs z % 1) (omega arith));
+  positive = omega (arith, ints);
+}

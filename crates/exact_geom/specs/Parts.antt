@@ -3,6 +3,7 @@ use Rattle.std.specs.Prelude.{ℤ, Bool}
 use Rattle.std.specs.Ordering.{int_eq, eq_of_both, on}
 use Rattle.plane_spec.specs.Vectors.{IsWithin}
 use Rattle.plane_spec.specs.Fractions.{Fraction, Place}
+use Rattle.exact_geom.specs.declared.limits.TheConstants.{MAX_STOP_PART, MAX_COORDINATE_PART}
 
 -- numerator and denominator are from -most to most
 pub record HasPartsWithin (most : ℤ) (f : Fraction) : Type 0 where
@@ -17,3 +18,15 @@ pub record HasCoordinatesWithin (most : ℤ) (p : Place) : Type 0 where
 -- one numerator and one denominator
 abbrev pub same_parts : Fraction → Fraction → Bool
 same_parts = eq_of_both (on (λ f. f.num) int_eq) (on (λ f. f.den) int_eq)
+
+-- parts as small as those of a t at which a ray is stopped
+abbrev pub HasStopParts : Fraction → Type 0
+HasStopParts f = HasPartsWithin MAX_STOP_PART f
+
+-- parts as small as those of a coordinate of p + t d for such a t, which can be compared
+abbrev pub HasCoordinateParts : Fraction → Type 0
+HasCoordinateParts f = HasPartsWithin MAX_COORDINATE_PART f
+
+-- a point with such coordinates
+abbrev pub HasPlaceParts : Place → Type 0
+HasPlaceParts p = HasCoordinatesWithin MAX_COORDINATE_PART p

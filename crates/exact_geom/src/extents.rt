@@ -1,55 +1,46 @@
 //! Parts of lines between points with fractions, and the boxes that they meet.
 
-ghost use Rattle.std.specs.Prelude.{◌≡◌, ◌≢◌, ◌^◌, pos, ◌*ℤ◌, int_le};
+ghost use Rattle.std.specs.Prelude.{◌≡◌, ◌≢◌, pos};
 ghost use Rattle.plane_spec.specs.Vectors.{InRange, IsWithin};
 ghost use Rattle.plane_spec.specs.Fractions.{is_at_least, is_at_most};
-ghost use Rattle.plane_spec.specs.Boxes.{fractions_overlap, does_extent_meet_box};
-ghost use Rattle.exact_geom.specs.Parts.{HasPartsWithin, HasCoordinatesWithin};
+ghost use Rattle.plane_spec.specs.Boxes as boxes;
+ghost use Rattle.plane_spec.specs.Boxes.{fractions_overlap, does_extent_meet_box, is_on_extent};
+ghost use Rattle.plane_spec.specs.declared.TheConstants.{MAX_COORDINATE};
+ghost use Rattle.exact_geom.specs.Parts.{HasCoordinateParts, HasPlaceParts};
+ghost use Rattle.exact_geom.specs.declared.limits.TheConstants.{MAX_STOP_PART};
 
+use crate::arithmetic::wide_product;
 use crate::boxes::line_reaches_box;
+use crate::compare::{is_at_most, is_zero};
 use crate::fractions::Frac;
 use crate::places::RPoint;
+use crate::products::orient;
 use plane_spec::{PlanBox, Point};
-
-/// A coordinate times a denominator.
-fn product(z: i64, den: i128) -> i128
-    requires z_in { IsWithin (pos 100000) z }
-    requires den_in { IsWithin (pos (10 ^ 18)) den }
-    ensures { result ≡ z *ℤ den }
-{
-    i128::from(z) * den
-}
-
-fn at_most(a: i128, b: i128) -> bool
-    ensures { result ≡ int_le a b }
-{
-    a <= b
-}
 
 /// Whether the whole number is at most the fraction.
 fn begins_by(f: &Frac, z: i64) -> bool
-    requires f_in { HasPartsWithin (pos (10 ^ 18)) f.now }
-    requires z_in { IsWithin (pos 100000) z }
+    requires f_in { HasCoordinateParts f.now }
+    requires z_in { IsWithin MAX_COORDINATE z }
     ensures { result ≡ is_at_least f.now z }
 {
-    at_most(product(z, f.den()), f.num())
+    is_at_most(wide_product(i128::from(z), f.den()), f.num())
 }
 
 /// Whether the fraction is at most the whole number.
 fn ends_by(f: &Frac, z: i64) -> bool
-    requires f_in { HasPartsWithin (pos (10 ^ 18)) f.now }
-    requires z_in { IsWithin (pos 100000) z }
+    requires f_in { HasCoordinateParts f.now }
+    requires z_in { IsWithin MAX_COORDINATE z }
     ensures { result ≡ is_at_most f.now z }
 {
-    at_most(f.num(), product(z, f.den()))
+    is_at_most(f.num(), wide_product(i128::from(z), f.den()))
 }
 
 /// Whether the stretch between `m` and `n` shares a number with the one from `low` to `high`.
 fn overlap(m: &Frac, n: &Frac, low: i64, high: i64) -> bool
-    requires m_in { HasPartsWithin (pos (10 ^ 18)) m.now }
-    requires n_in { HasPartsWithin (pos (10 ^ 18)) n.now }
-    requires low_in { IsWithin (pos 100000) low }
-    requires high_in { IsWithin (pos 100000) high }
+    requires m_in { HasCoordinateParts m.now }
+    requires n_in { HasCoordinateParts n.now }
+    requires low_in { IsWithin MAX_COORDINATE low }
+    requires high_in { IsWithin MAX_COORDINATE high }
     ensures { result ≡ fractions_overlap m.now n.now low high }
 {
     (begins_by(m, low) || begins_by(n, low)) && (ends_by(m, high) || ends_by(n, high))
@@ -62,8 +53,8 @@ fn overlap(m: &Frac, n: &Frac, low: i64, high: i64) -> bool
 pub fn extent_meets_box(a: Point, b: Point, from: &RPoint, to: &RPoint, area: PlanBox) -> bool
     requires a_in { InRange a }
     requires b_in { InRange b }
-    requires from_in { HasCoordinatesWithin (pos (10 ^ 18)) from.now }
-    requires to_in { HasCoordinatesWithin (pos (10 ^ 18)) to.now }
+    requires from_in { HasPlaceParts from.now }
+    requires to_in { HasPlaceParts to.now }
     requires low_in { InRange area.low }
     requires high_in { InRange area.high }
     ensures { result ≡ does_extent_meet_box a b from.now to.now area }
@@ -73,16 +64,42 @@ pub fn extent_meets_box(a: Point, b: Point, from: &RPoint, to: &RPoint, area: Pl
         && line_reaches_box(a, b, area)
 }
 
+/// Whether the whole number is from the smaller of the fractions to the greater.
+fn lies_between(z: i64, f: &Frac, g: &Frac) -> bool
+    requires z_in { IsWithin MAX_COORDINATE z }
+    requires f_in { HasCoordinateParts f.now }
+    requires g_in { HasCoordinateParts g.now }
+    ensures { result ≡ boxes.lies_between z f.now g.now }
+{
+    (ends_by(f, z) && begins_by(g, z)) || (ends_by(g, z) && begins_by(f, z))
+}
+
+/// Whether `x` lies on the part of the line through `a` and `b` that lies between `from` and `to`, ends counted.
+///
+/// Cost: one orientation, and at most eight products where `x` is on the line.
+pub fn on_extent(x: Point, a: Point, b: Point, from: &RPoint, to: &RPoint) -> bool
+    requires x_in { InRange x }
+    requires a_in { InRange a }
+    requires b_in { InRange b }
+    requires from_in { HasPlaceParts from.now }
+    requires to_in { HasPlaceParts to.now }
+    ensures { result ≡ is_on_extent x a b from.now to.now }
+{
+    is_zero(orient(a, b, x))
+        && lies_between(x.x, &from.x, &to.x)
+        && lies_between(x.y, &from.y, &to.y)
+}
+
 #[cfg(test)]
 mod tests {
     use super::*;
 
     /// The place after `num / den` steps from (1,0) by (3,1).
     fn place(num: i128, den: i128) -> RPoint
-        requires num_in { IsWithin (pos (10 ^ 12)) num }
-        requires den_in { IsWithin (pos (10 ^ 12)) den }
+        requires num_in { IsWithin MAX_STOP_PART num }
+        requires den_in { IsWithin MAX_STOP_PART den }
         requires some { den ≢ pos 0 }
-        ensures { HasCoordinatesWithin (pos (10 ^ 18)) result }
+        ensures { HasPlaceParts result }
     {
         RPoint::along(
             Point { x: 1, y: 0 },
@@ -93,8 +110,8 @@ mod tests {
 
     /// Whether the stretch from `from` to `to` meets the box from (2,0) to (4,2) moved by `shift` to the right.
     fn meets(from: &RPoint, to: &RPoint, shift: i64) -> bool
-        requires from_in { HasCoordinatesWithin (pos (10 ^ 18)) from.now }
-        requires to_in { HasCoordinatesWithin (pos (10 ^ 18)) to.now }
+        requires from_in { HasPlaceParts from.now }
+        requires to_in { HasPlaceParts to.now }
         requires shift_in { IsWithin (pos 100) shift }
     {
         let area = PlanBox {

@@ -1,15 +1,18 @@
 //! Fractions in lowest terms.
 
-ghost use Rattle.std.specs.Prelude.{◌≡◌, ◌≢◌, ◌<◌, ◌≤◌, ◌^◌, pos, unsigned_abs, ◌≤ℤ◌, ◌*◌, ◌↔◌, ℕ, true, ℤ, neg_ℤ, ◌*ℤ◌, ◌&&◌};
-ghost use Rattle.std.specs.Ordering.{int_cmp, int_eq};
+ghost use Rattle.std.specs.Prelude.{◌≡◌, ◌≢◌, ◌<◌, ◌≤◌, pos, unsigned_abs, ◌≤ℤ◌, ◌*◌, ◌↔◌, ℕ, true, ℤ, neg_ℤ, ◌&&◌};
+ghost use Rattle.std.specs.Ordering.{int_eq};
 ghost use Rattle.std.specs.Cmp.Rules.{comparing};
 ghost use Rattle.std.proofs.Common.{rules};
 ghost use Prim.Native.Nat.{◌∣◌};
 ghost use Rattle.std.specs.Int.{IsGcd, int_div_euclid};
 ghost use Rattle.plane_spec.specs.Vectors.{IsWithin};
 ghost use Rattle.plane_spec.specs.Fractions as fractions;
-ghost use Rattle.exact_geom.specs.Parts.{HasPartsWithin, same_parts};
+ghost use Rattle.exact_geom.specs.Parts.{HasCoordinateParts, HasPartsWithin, same_parts};
+ghost use Rattle.exact_geom.specs.declared.limits.TheConstants.{MAX_COORDINATE_PART, MAX_FRACTION_PART};
 
+use crate::arithmetic::wide_product;
+use crate::compare::{is_equal, order};
 use std::cmp::Ordering;
 use std::marker::Model;
 
@@ -44,12 +47,6 @@ impl PartialEq for Frac {
     {
         are_same(self.num, self.den, other.num, other.den)
     }
-}
-
-fn is_equal(a: i128, b: i128) -> bool
-    ensures { result ≡ int_eq a b }
-{
-    a == b
 }
 
 fn are_same(a: i128, b: i128, c: i128, d: i128) -> bool
@@ -87,7 +84,7 @@ fn divisor_of(num: i128, den: i128) -> u128
 
 /// `z` divided by a divisor of its size.
 fn divided(z: i128, divisor: u128) -> i128
-    requires small { IsWithin (pos (10 ^ 36)) z }
+    requires small { IsWithin MAX_FRACTION_PART z }
     requires some { 0 < divisor }
     ensures { result ≡ fractions.divided z divisor }
 {
@@ -97,8 +94,8 @@ fn divided(z: i128, divisor: u128) -> i128
 
 /// `num / den` in lowest terms, for a denominator of at least 1.
 pub(crate) fn lowest(num: i128, den: i128) -> Frac
-    requires num_in { IsWithin (pos (10 ^ 36)) num }
-    requires den_in { IsWithin (pos (10 ^ 36)) den }
+    requires num_in { IsWithin MAX_FRACTION_PART num }
+    requires den_in { IsWithin MAX_FRACTION_PART den }
     requires positive { pos 1 ≤ℤ den }
     ensures { result ≡ fractions.reduced (record { num = num; den = den }) }
 {
@@ -121,27 +118,23 @@ fn ceiling(num: i128, den: i128) -> i128
     }
 }
 
-fn product(a: i128, b: i128) -> i128
-    requires a_in { IsWithin (pos (10 ^ 18)) a }
-    requires b_in { IsWithin (pos (10 ^ 18)) b }
-    ensures { result ≡ a *ℤ b }
-{
-    a * b
-}
-
-fn order(a: i128, b: i128) -> Ordering
-    ensures { result ≡ int_cmp a b }
-{
-    a.cmp(&b)
-}
-
 impl Frac {
+    /// The whole number `z`.
+    pub fn whole(z: i64) -> Frac
+        ensures { result ≡ fractions.whole z }
+    {
+        Frac {
+            num: i128::from(z),
+            den: 1,
+        }
+    }
+
     /// `num / den` in lowest terms.
     ///
     /// Cost: one division for each step of Euclid's algorithm, at most about five for each decimal digit.
     pub fn new(num: i128, den: i128) -> Frac
-        requires num_in { IsWithin (pos (10 ^ 36)) num }
-        requires den_in { IsWithin (pos (10 ^ 36)) den }
+        requires num_in { IsWithin MAX_FRACTION_PART num }
+        requires den_in { IsWithin MAX_FRACTION_PART den }
         requires some { den ≢ pos 0 }
         ensures value { result ≡ fractions.reduced (fractions.fraction num den) }
         ensures no_larger { (most : ℕ) → IsWithin (pos most) num → IsWithin (pos most) den → HasPartsWithin (pos most) result }
@@ -189,11 +182,14 @@ impl Frac {
 
     /// Which of two values is less, by products across; both fit since all four parts are at most 10^18 in size.
     pub fn compare(&self, other: &Frac) -> Ordering
-        requires self_in { HasPartsWithin (pos (10 ^ 18)) self.now }
-        requires other_in { HasPartsWithin (pos (10 ^ 18)) other.now }
+        requires self_in { HasCoordinateParts self.now }
+        requires other_in { HasCoordinateParts other.now }
         ensures { result ≡ fractions.value_order_of self.now other.now }
     {
-        order(product(self.num, other.den), product(other.num, self.den))
+        order(
+            wide_product(self.num, other.den),
+            wide_product(other.num, self.den),
+        )
     }
 }
 
@@ -217,8 +213,8 @@ mod tests {
 
     /// Whether `num / den` has these parts in lowest terms, this floor and this ceiling.
     fn is(num: i128, den: i128, parts: (i128, i128), floor: i128, ceil: i128) -> bool
-        requires num_in { IsWithin (pos (10 ^ 36)) num }
-        requires den_in { IsWithin (pos (10 ^ 36)) den }
+        requires num_in { IsWithin MAX_FRACTION_PART num }
+        requires den_in { IsWithin MAX_FRACTION_PART den }
         requires some { den ≢ pos 0 }
     {
         let f = Frac::new(num, den);
@@ -226,11 +222,11 @@ mod tests {
     }
 
     fn ordered(a: i128, b: i128, c: i128, d: i128) -> Ordering
-        requires a_in { IsWithin (pos (10 ^ 18)) a }
-        requires b_in { IsWithin (pos (10 ^ 18)) b }
+        requires a_in { IsWithin MAX_COORDINATE_PART a }
+        requires b_in { IsWithin MAX_COORDINATE_PART b }
         requires b_some { b ≢ pos 0 }
-        requires c_in { IsWithin (pos (10 ^ 18)) c }
-        requires d_in { IsWithin (pos (10 ^ 18)) d }
+        requires c_in { IsWithin MAX_COORDINATE_PART c }
+        requires d_in { IsWithin MAX_COORDINATE_PART d }
         requires d_some { d ≢ pos 0 }
     {
         Frac::new(a, b).compare(&Frac::new(c, d))

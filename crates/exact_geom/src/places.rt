@@ -1,18 +1,25 @@
 //! Points whose coordinates are fractions.
 
-ghost use Rattle.std.specs.Prelude.{◌≡◌, ◌^◌, ◌*◌, pos, ◌*ℤ◌, ◌+ℤ◌, ◌&&◌};
-ghost use Rattle.std.specs.Ordering.{eq_of_both, on};
+ghost use Rattle.std.specs.Prelude.{◌≡◌, ◌↔◌, ◌*ℤ◌, ◌+ℤ◌, ◌≤ℤ◌, ◌&&◌, pos, true};
+ghost use Rattle.std.specs.Ordering.{eq_of_both, on, ordering_reverse};
+ghost use Rattle.std.specs.declared.cmp.Ordering.TheVariants.{Less, Equal};
 ghost use Rattle.std.specs.Cmp.{partial_equiv_from_equiv};
 ghost use Rattle.std.specs.Cmp.Rules.{comparing};
 ghost use Rattle.std.proofs.Common.{rules};
 ghost use Rattle.plane_spec.specs.Vectors.{InRange, IsDirection, IsWithin};
 ghost use Rattle.plane_spec.specs.declared.Point.{Point};
+ghost use Rattle.plane_spec.specs.declared.TheConstants.{MAX_COMPONENT, MAX_COORDINATE};
 ghost use Rattle.plane_spec.specs.Fractions as fractions;
-ghost use Rattle.plane_spec.specs.Fractions.{Fraction};
-ghost use Rattle.exact_geom.specs.Parts.{HasPartsWithin, HasCoordinatesWithin, same_parts};
+ghost use Rattle.plane_spec.specs.Fractions.{Fraction, Place};
+ghost use Rattle.exact_geom.specs.Parts.{HasCoordinateParts, HasPlaceParts, HasStopParts, same_parts};
+ghost use Rattle.exact_geom.specs.Places as places;
+ghost use Rattle.exact_geom.specs.Places.{IsOverPositive};
+ghost use Rattle.exact_geom.specs.declared.limits.TheConstants.{MAX_COORDINATE_PART, MAX_STOP_PART};
 
+use crate::arithmetic::{scaled, sum};
 use crate::fractions::{Frac, lowest};
 use plane_spec::Point;
+use std::cmp::Ordering;
 use std::marker::Model;
 
 /// A point whose coordinates are fractions.
@@ -23,8 +30,6 @@ pub struct RPoint {
 }
 
 impl Model for RPoint {
-    ghost use Rattle.plane_spec.specs.Fractions.{Place};
-
     ghost Value = { Place };
 
     ghost view = { λ a. record { x = a.x; y = a.y } };
@@ -50,68 +55,94 @@ impl Eq for RPoint {
     ghost laws = { Prim.search (comparing, rules) };
 }
 
-/// A coordinate or a component of a direction, times a part of a fraction.
-fn product(a: i64, b: i128) -> i128
-    requires a_in { IsWithin (pos 400000) a }
-    requires b_in { IsWithin (pos (10 ^ 12)) b }
-    ensures value { result ≡ a *ℤ b }
-    ensures within { IsWithin (pos (400000 * 10 ^ 12)) result }
-{
-    i128::from(a) * b
-}
-
-fn sum(a: i128, b: i128) -> i128
-    requires a_in { IsWithin (pos (400000 * 10 ^ 12)) a }
-    requires b_in { IsWithin (pos (400000 * 10 ^ 12)) b }
-    ensures value { result ≡ a +ℤ b }
-    ensures within { IsWithin (pos (10 ^ 18)) result }
-{
-    a + b
-}
-
 /// The numerator of `z + (num / den) d`, over `den`.
 fn moved(z: i64, d: i64, num: i128, den: i128) -> i128
-    requires z_in { IsWithin (pos 100000) z }
-    requires d_in { IsWithin (pos 400000) d }
-    requires num_in { IsWithin (pos (10 ^ 12)) num }
-    requires den_in { IsWithin (pos (10 ^ 12)) den }
+    requires z_in { IsWithin MAX_COORDINATE z }
+    requires d_in { IsWithin MAX_COMPONENT d }
+    requires num_in { IsWithin MAX_STOP_PART num }
+    requires den_in { IsWithin MAX_STOP_PART den }
     ensures value { result ≡ z *ℤ den +ℤ num *ℤ d }
-    ensures within { IsWithin (pos (10 ^ 18)) result }
+    ensures within { IsWithin MAX_COORDINATE_PART result }
 {
-    sum(product(z, den), product(d, num))
+    sum(scaled(z, den), scaled(d, num))
 }
 
 /// The coordinate `z + t d`.
 fn shifted(z: i64, d: i64, t: &Frac) -> Frac
-    requires z_in { IsWithin (pos 100000) z }
-    requires d_in { IsWithin (pos 400000) d }
-    requires t_in { HasPartsWithin (pos (10 ^ 12)) t.now }
+    requires z_in { IsWithin MAX_COORDINATE z }
+    requires d_in { IsWithin MAX_COMPONENT d }
+    requires t_in { HasStopParts t.now }
     ensures value { result ≡ fractions.shifted z d t.now }
-    ensures within { HasPartsWithin (pos (10 ^ 18)) result }
+    ensures within { HasCoordinateParts result }
 {
     let den = t.den();
     lowest(moved(z, d, t.num(), den), den)
 }
 
 impl RPoint {
+    /// The whole point `p`.
+    pub fn at(p: Point) -> RPoint
+        requires { InRange p }
+        ensures value { result ≡ fractions.at_point p }
+        ensures within { HasPlaceParts result }
+    {
+        RPoint {
+            x: Frac::whole(p.x),
+            y: Frac::whole(p.y),
+        }
+    }
+
     /// The point `p + t d`. Its parts are small enough to be compared.
     ///
     /// Cost: two greatest common divisors.
     pub fn along(p: Point, d: Point, t: &Frac) -> RPoint
         requires p_in { InRange p }
         requires d_in { IsDirection d }
-        requires t_in { HasPartsWithin (pos (10 ^ 12)) t.now }
+        requires t_in { HasStopParts t.now }
         ensures value { result ≡ fractions.along p d t.now }
-        ensures within { HasCoordinatesWithin (pos (10 ^ 18)) result }
+        ensures within { HasPlaceParts result }
     {
         RPoint {
             x: shifted(p.x, d.x, t),
             y: shifted(p.y, d.y, t),
         }
     }
+
+    /// The order of two points: by the first coordinate, and by the second where the first ones have one value. It is an
+    /// order of points, as [`place_order_laws`] says.
+    ///
+    /// Cost: two or four products.
+    pub fn compare(&self, other: &RPoint) -> Ordering
+        requires self_in { HasPlaceParts self.now }
+        requires other_in { HasPlaceParts other.now }
+        ensures { result ≡ places.place_order_of self.now other.now }
+    {
+        match self.x.compare(&other.x) {
+            Ordering::Less => Ordering::Less,
+            Ordering::Equal => self.y.compare(&other.y),
+            Ordering::Greater => Ordering::Greater,
+        }
+    }
 }
 
 /// The parts of `p + t d` are at most 10^18 in size, for callers that hold such a point by its definition alone.
 pub fn places_are_small()
-    ensures { (p d : Point) (t : Fraction) → InRange p → IsDirection d → HasPartsWithin (pos (10 ^ 12)) t → HasCoordinatesWithin (pos (10 ^ 18)) (fractions.along p d t) }
+    ensures { (p d : Point) (t : Fraction) → InRange p → IsDirection d → HasStopParts t → HasPlaceParts (fractions.along p d t) }
+{}
+
+/// `p + t d` depends on the value of `t` alone, so `t` may be reduced before.
+pub fn along_is_by_value()
+    ensures same { (p d : Point) (s t : Fraction) → pos 1 ≤ℤ s.den → pos 1 ≤ℤ t.den → fractions.same_value s t ≡ true → fractions.along p d s ≡ fractions.along p d t }
+    ensures of_reduced { (p d : Point) (t : Fraction) → pos 1 ≤ℤ t.den → fractions.along p d (fractions.reduced t) ≡ fractions.along p d t }
+{}
+
+/// The order of points whose coordinates stand over denominators of at least 1, of any size: it is a strict weak order, and
+/// equal are exactly the points that are one.
+///
+/// Proofs cite these laws from `proofs/PlaceOrder.antt`.
+pub fn place_order_laws()
+    ensures reversed { (p q : Place) → places.place_order_of q p ≡ ordering_reverse (places.place_order_of p q) }
+    ensures transitive { (p q r : Place) → IsOverPositive p → IsOverPositive q → IsOverPositive r → places.place_order_of p q ≡ Less → places.place_order_of q r ≡ Less → places.place_order_of p r ≡ Less }
+    ensures equal_compare_alike { (p q r : Place) → IsOverPositive p → IsOverPositive q → IsOverPositive r → places.place_order_of p q ≡ Equal → places.place_order_of p r ≡ places.place_order_of q r }
+    ensures equal_are_one { (p q : Place) → (places.place_order_of p q ≡ Equal) ↔ (fractions.same_place p q ≡ true) }
 {}

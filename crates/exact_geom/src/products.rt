@@ -2,57 +2,12 @@
 //!
 //! Bounds prove that each step fits in 64 bits, so only the result is widened.
 
-ghost use Rattle.std.specs.Prelude.{◌≡◌, ◌↔◌, IsTrue, neg_ℤ, pos, ◌+ℤ◌, ◌-ℤ◌, ◌*ℤ◌};
-ghost use Rattle.plane_spec.specs.Vectors.{InRange, IsDirection, IsWithin, cross_of, dot_of, is_in_range, orient_of};
+ghost use Rattle.std.specs.Prelude.{◌≡◌, neg_ℤ};
+ghost use Rattle.plane_spec.specs.Vectors.{InRange, IsDirection, IsWithin, cross_of, dot_of, orient_of};
+ghost use Rattle.exact_geom.specs.declared.limits.TheConstants.{MAX_CROSS, MAX_ORIENTATION};
 
-use crate::vectors::difference;
+use crate::arithmetic::{difference, minus, plus, product};
 use plane_spec::Point;
-
-/// Whether both coordinates are from -100000 to 100000. `p` may have any.
-pub fn in_range(p: Point) -> bool
-    ensures value { result ≡ is_in_range p }
-    ensures meaning { IsTrue result ↔ InRange p }
-{
-    is_coordinate(p.x) && is_coordinate(p.y)
-}
-
-/// Whether `z` is from -100000 to 100000.
-fn is_coordinate(z: i64) -> bool
-    ensures value { result ≡ Rattle.plane_spec.specs.Vectors.is_coordinate z }
-    ensures meaning { IsTrue result ↔ IsWithin (pos 100000) z }
-{
-    -100_000 <= z && z <= 100_000
-}
-
-/// The product of two components of directions.
-fn product(a: i64, b: i64) -> i64
-    requires a_in { IsWithin (pos 400000) a }
-    requires b_in { IsWithin (pos 400000) b }
-    ensures value { result ≡ a *ℤ b }
-    ensures within { IsWithin (pos 160000000000) result }
-{
-    a * b
-}
-
-/// `a - b`, of two products.
-fn minus(a: i64, b: i64) -> i64
-    requires a_in { IsWithin (pos 160000000000) a }
-    requires b_in { IsWithin (pos 160000000000) b }
-    ensures value { result ≡ a -ℤ b }
-    ensures within { IsWithin (pos 320000000000) result }
-{
-    a - b
-}
-
-/// `a + b`, of two products.
-fn plus(a: i64, b: i64) -> i64
-    requires a_in { IsWithin (pos 160000000000) a }
-    requires b_in { IsWithin (pos 160000000000) b }
-    ensures value { result ≡ a +ℤ b }
-    ensures within { IsWithin (pos 320000000000) result }
-{
-    a + b
-}
 
 /// Twice the area of the triangle from `a` over `b` to `c`: positive where `c` lies left of the line from `a` to `b`,
 /// negative where it lies right of it, and 0 where it lies on it.
@@ -63,7 +18,7 @@ pub fn orient(a: Point, b: Point, c: Point) -> i128
     requires b_in { InRange b }
     requires c_in { InRange c }
     ensures value { result ≡ orient_of a b c }
-    ensures within { IsWithin (pos 80000000000) result }
+    ensures within { IsWithin MAX_ORIENTATION result }
 {
     let (bx, by) = (difference(a.x, b.x), difference(a.y, b.y));
     let (cx, cy) = (difference(a.x, c.x), difference(a.y, c.y));
@@ -78,7 +33,7 @@ pub fn cross(d: Point, e: Point) -> i128
     requires d_in { IsDirection d }
     requires e_in { IsDirection e }
     ensures value { result ≡ cross_of d e }
-    ensures within { IsWithin (pos 320000000000) result }
+    ensures within { IsWithin MAX_CROSS result }
 {
     i128::from(minus(product(d.x, e.y), product(d.y, e.x)))
 }
@@ -91,7 +46,7 @@ pub fn dot(d: Point, e: Point) -> i128
     requires d_in { IsDirection d }
     requires e_in { IsDirection e }
     ensures value { result ≡ dot_of d e }
-    ensures within { IsWithin (pos 320000000000) result }
+    ensures within { IsWithin MAX_CROSS result }
 {
     i128::from(plus(product(d.x, e.x), product(d.y, e.y)))
 }

@@ -4,8 +4,8 @@ ghost use Rattle.std.specs.Prelude.{◌≡◌};
 ghost use Rattle.plane_spec.specs.Vectors.{InRange};
 ghost use Rattle.plane_spec.specs.Segments.{cross_properly, do_touch, is_between, is_on_segment};
 
+use crate::compare::{are_opposite, is_zero};
 use crate::products::orient;
-use crate::signs::{are_opposite, is_zero};
 use plane_spec::Point;
 
 /// Whether `m` is from the smaller of `a` and `b` to the greater.

@@ -1,12 +1,31 @@
-//! Directions between points, and what lies left of them.
+//! Points in range, the directions between them, and what lies left of them.
 
-ghost use Rattle.std.specs.Prelude.{◌≡◌, pos, ◌-ℤ◌};
+ghost use Rattle.std.specs.Prelude.{◌≡◌, ◌↔◌, IsTrue};
 ghost use Rattle.plane_spec.specs.Vectors as vectors;
 ghost use Rattle.plane_spec.specs.Vectors.{InRange, IsDirection, IsWithin};
+ghost use Rattle.plane_spec.specs.declared.TheConstants as plane;
+ghost use Rattle.exact_geom.specs.declared.limits.TheConstants.{MAX_DIFFERENCE};
 
+use crate::arithmetic::difference;
+use crate::compare::is_positive;
 use crate::products::{cross, orient};
-use crate::signs::is_positive;
-use plane_spec::Point;
+use plane_spec::{MAX_COORDINATE, Point};
+
+/// Whether `z` is a coordinate: from -100000 to 100000.
+pub fn is_coordinate(z: i64) -> bool
+    ensures value { result ≡ vectors.is_coordinate z }
+    ensures meaning { IsTrue result ↔ IsWithin plane.MAX_COORDINATE z }
+{
+    -MAX_COORDINATE <= z && z <= MAX_COORDINATE
+}
+
+/// Whether both coordinates are in range. `p` may have any.
+pub fn in_range(p: Point) -> bool
+    ensures value { result ≡ vectors.is_in_range p }
+    ensures meaning { IsTrue result ↔ InRange p }
+{
+    is_coordinate(p.x) && is_coordinate(p.y)
+}
 
 /// Whether two points are one. They may have any coordinates.
 pub fn same_point(p: Point, q: Point) -> bool
@@ -15,23 +34,13 @@ pub fn same_point(p: Point, q: Point) -> bool
     p == q
 }
 
-/// `b - a`, of two coordinates.
-pub(crate) fn difference(a: i64, b: i64) -> i64
-    requires a_in { IsWithin (pos 100000) a }
-    requires b_in { IsWithin (pos 100000) b }
-    ensures value { result ≡ b -ℤ a }
-    ensures within { IsWithin (pos 200000) result }
-{
-    b - a
-}
-
 /// The direction from `a` to `b`.
 pub fn vector(a: Point, b: Point) -> Point
     requires a_in { InRange a }
     requires b_in { InRange b }
     ensures value { result ≡ vectors.vector a b }
-    ensures x_within { IsWithin (pos 200000) result.x }
-    ensures y_within { IsWithin (pos 200000) result.y }
+    ensures x_within { IsWithin MAX_DIFFERENCE result.x }
+    ensures y_within { IsWithin MAX_DIFFERENCE result.y }
     ensures direction { IsDirection result }
 {
     Point {

@@ -27,11 +27,14 @@ unfoldable pub line_hit : Point → Point → Segment → Option Fraction
 line_hit p d w = if is_across p d w && int_lt (pos 0) (meeting p d w).num then Some (meeting p d w) else None
 
 -- the corner stands at p + t d for a t of at least 0, and has d in its cone
+abbrev pub runs_into : Point → Point → Corner → Bool
+runs_into p d c =
+    int_eq (cross_of d (vector p c.here)) (pos 0) && (int_le (pos 0) (dot_of d (vector p c.here)) && is_in_cone c d)
+
+-- the t at which the ray runs into the corner
 unfoldable pub corner_hit : Point → Point → Corner → Option Fraction
 corner_hit p d c =
-    if int_eq (cross_of d (vector p c.here)) (pos 0) && (int_le (pos 0) (dot_of d (vector p c.here)) && is_in_cone c d)
-    then Some (record { num = dot_of d (vector p c.here); den = dot_of d d })
-    else None
+    if runs_into p d c then Some (record { num = dot_of d (vector p c.here); den = dot_of d d }) else None
 
 -- p lies on the wall, not at its ends, and d leads to its left: t is 0
 unfoldable pub start_hit : Point → Point → Segment → Option Fraction

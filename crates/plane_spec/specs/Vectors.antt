@@ -4,6 +4,7 @@ use Rattle.std.specs.Ordering.{int_eq}
 use Rattle.std.specs.declared.cmp.Ordering.{Ordering}
 use Rattle.std.specs.declared.cmp.Ordering.TheVariants.{Less, Equal, Greater}
 use Rattle.plane_spec.specs.declared.Point.{Point}
+use Rattle.plane_spec.specs.declared.TheConstants.{MAX_COORDINATE, MAX_COMPONENT}
 
 -- ---- products
 
@@ -44,22 +45,23 @@ pub record IsWithin (most z : ℤ) : Type 0 where
   pub low : neg_ℤ most ≤ℤ z
   pub high : z ≤ℤ most
 
--- a point whose coordinates are from -100000 to 100000
+-- a point whose coordinates are at most 100000 in size
 pub record InRange (p : Point) : Type 0 where
-  pub x : IsWithin (pos 100000) p.x
-  pub y : IsWithin (pos 100000) p.y
+  pub x : IsWithin MAX_COORDINATE p.x
+  pub y : IsWithin MAX_COORDINATE p.y
 
+-- a coordinate is at most 100000 in size
 abbrev pub is_coordinate : ℤ → Bool
-is_coordinate z = int_le (neg_ℤ (pos 100000)) z && int_le z (pos 100000)
+is_coordinate z = int_le (neg_ℤ MAX_COORDINATE) z && int_le z MAX_COORDINATE
 
--- the coordinates are from -100000 to 100000
+-- both coordinates are at most 100000 in size
 abbrev pub is_in_range : Point → Bool
 is_in_range p = is_coordinate p.x && is_coordinate p.y
 
--- a direction whose components are from -400000 to 400000, as a sum of two vectors between points in range
+-- a direction whose components are at most 400000 in size, as a sum of two vectors between points in range is
 pub record IsDirection (d : Point) : Type 0 where
-  pub x : IsWithin (pos 400000) d.x
-  pub y : IsWithin (pos 400000) d.y
+  pub x : IsWithin MAX_COMPONENT d.x
+  pub y : IsWithin MAX_COMPONENT d.y
 
 -- a direction leads somewhere: it isn't (0,0)
 pub record IsDirected (d : Point) : Type 0 where

@@ -7,12 +7,20 @@
 //! | [`Segment`] | a directed segment: an edge of a polygon, a wall or a screen |
 //! | [`Corner`] | a corner between the points before and after it |
 //! | [`PlanBox`] | a box with sides along the axes |
+//! | [`Orientation`] | which way a polygon goes round |
+//! | [`MAX_COORDINATE`], [`MAX_COMPONENT`] | how large coordinates and the components of directions are |
 //!
 //! The definitions stand in `specs/`: `Lists` (pairs, firsts, the least), `Vectors` (cross, dot, orientation, ranges, the
 //! order of directions), `Segments` (on a segment, proper crossing, touching), `Polygons` (edges, inside, simple),
 //! `Cones` (the directions into what is blocked), `Fractions` (order, lowest terms, points with fractions) and `Boxes`
 //! (which segments meet one).
 #![tactic(auto)]
+
+/// The greatest size of a coordinate, in the plan's own unit.
+pub const MAX_COORDINATE: i64 = 100_000;
+
+/// The greatest size of a component of a direction: that of the sum of two vectors between points in range.
+pub const MAX_COMPONENT: i64 = 400_000;
 
 /// A point of the plane in the plan's own unit, or a direction.
 #[derive(Clone, Copy, Debug, PartialEq, Eq)]
@@ -41,4 +49,11 @@ pub struct Corner {
 pub struct PlanBox {
     pub low: Point,
     pub high: Point,
+}
+
+/// Which way a polygon goes round: what it bounds lies left of edges that go round it counterclockwise.
+#[derive(Clone, Copy, Debug, PartialEq, Eq)]
+pub enum Orientation {
+    Counterclockwise,
+    Clockwise,
 }

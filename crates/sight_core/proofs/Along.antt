@@ -6,11 +6,12 @@ use Rattle.std.proofs.lemmas.List.{append-nil, drop_all}
 use Rattle.plane_spec.specs.declared.Point.{Point}
 use Rattle.plane_spec.specs.declared.Segment.{Segment}
 use Rattle.plane_spec.specs.declared.Corner.{Corner}
+use Rattle.plane_spec.specs.declared.Orientation.{Orientation}
 use Rattle.plane_spec.specs.Vectors.{cross_of}
 use Rattle.plane_spec.specs.Polygons.{edges_of, doubled_area, is_counterclockwise}
 use Rattle.exact_geom.proofs.Edges.{edges_of-end, length-edges_of}
 use Rattle.plan_spec.specs.Scene.{goes_round, walls_round, corners_after, last_edge, corners_along, corners_round}
-use Rattle.sight_core.specs.Rounds.{directed_edges, directed_corners}
+use Rattle.sight_core.specs.Turned.{directed_edges, directed_corners}
 
 -- past the last edge the sum so far is the whole
 pub area_all : (area : ℤ) (points : List Point) (k : ℕ) → length points ≤ k
@@ -37,7 +38,7 @@ no_corners true = refl
 no_corners false = refl
 
 -- past the last edge all walls are there
-pub walls_all : (way keep : Bool) (points : List Point) (k : ℕ) (old walls : List Segment) → keep ≡ goes_round way points → length points ≤ k
+pub walls_all : (way : Orientation) (keep : Bool) (points : List Point) (k : ℕ) (old walls : List Segment) → keep ≡ goes_round way points → length points ≤ k
     → walls ++ directed_edges keep (drop k (edges_of points)) ≡ old ++ directed_edges keep (edges_of points) → walls ≡ old ++ walls_round way points
 unfolding walls_round
 walls_all way keep points k old walls way_is h e =
@@ -45,7 +46,7 @@ walls_all way keep points k old walls way_is h e =
     sym none ∙ e ∙ ap (λ t. old ++ directed_edges t (edges_of points)) way_is
 
 -- past the last edge all corners are there
-pub corners_all : (way keep : Bool) (points : List Point) (k : ℕ) (before : Segment) (old corners : List Corner) → keep ≡ goes_round way points → length points ≤ k
+pub corners_all : (way : Orientation) (keep : Bool) (points : List Point) (k : ℕ) (before : Segment) (old corners : List Corner) → keep ≡ goes_round way points → length points ≤ k
     → corners ++ directed_corners keep (corners_after before (drop k (edges_of points))) ≡ old ++ directed_corners keep (corners_along (edges_of points))
     → corners ≡ old ++ corners_round way points
 unfolding corners_round
@@ -54,7 +55,7 @@ corners_all way keep points k before old corners way_is h e =
     sym none ∙ e ∙ ap (λ t. old ++ directed_corners t (corners_along (edges_of points))) way_is
 
 -- a polygon without points has no corners
-pub no_points : (way : Bool) (points : List Point) (old : List Corner) → length points ≡ 0 → old ≡ old ++ corners_round way points
+pub no_points : (way : Orientation) (points : List Point) (old : List Corner) → length points ≡ 0 → old ≡ old ++ corners_round way points
 unfolding corners_round
 no_points way [] old h = elim (goes_round way []) as (λ b. old ≡ old ++ directed_corners b []) [ true ↦ sym (append-nil old) | false ↦ sym (append-nil old) ]
 no_points way (p ∷ points) old h = absurd (omega arith)

@@ -6,6 +6,8 @@ use Rattle.std.proofs.lemmas.List.{length-map, length-append}
 use Rattle.std.proofs.lemmas.List.Sums.{sum_by-cons}
 use Rattle.plane_spec.specs.declared.Point.{Point}
 use Rattle.plane_spec.specs.declared.Segment.{Segment}
+use Rattle.plane_spec.specs.declared.Orientation.{Orientation}
+use Rattle.plane_spec.specs.declared.Orientation.TheVariants.{Counterclockwise, Clockwise}
 use Rattle.plane_spec.specs.Polygons.{edges_of}
 use Rattle.exact_geom.proofs.Edges.{length-edges_of}
 use Rattle.plan_spec.specs.declared.kinds.Screen.{Screen}
@@ -17,7 +19,7 @@ use Rattle.sight_core.specs.Scenes.{IsOfSoundPlan}
 
 -- ---- one polygon: as many walls and corners as points
 
-length-walls_round : (way : Bool) (points : List Point) → length (walls_round way points) ≡ length points
+length-walls_round : (way : Orientation) (points : List Point) → length (walls_round way points) ≡ length points
 unfolding walls_round
 length-walls_round way points =
     elim (goes_round way points) as (λ keep. length (if keep then edges_of points else map turned_edge (edges_of points)) ≡ length points) [
@@ -33,7 +35,7 @@ length-corners_along : (edges : List Segment) → length (corners_along edges) �
 length-corners_along [] = refl
 length-corners_along (e ∷ edges) = length-corners_after (last_edge e edges) (e ∷ edges)
 
-length-corners_round : (way : Bool) (points : List Point) → length (corners_round way points) ≡ length points
+length-corners_round : (way : Orientation) (points : List Point) → length (corners_round way points) ≡ length points
 unfolding corners_round
 length-corners_round way points =
     let all = length-corners_along (edges_of points) ∙ length-edges_of points in
@@ -62,18 +64,18 @@ length-ends (s ∷ screens) = let rest = length-ends screens in omega (arith, re
 -- the walls and the ends of the screens are as many as the corners that are counted
 walls_counted : (plan : Plan) → length (walls_of plan) + 2 * length plan.screens ≡ corner_count plan
 walls_counted plan =
-    let parts = length-append (walls_round false plan.outer) (flat_map walls_of_obstacle plan.obstacles) in
-    let outer = length-walls_round false plan.outer in
-    let obstacles = length-of_each walls_of_obstacle corners_of_obstacle_count (λ o. length-walls_round true o.points) plan.obstacles in
+    let parts = length-append (walls_round Clockwise plan.outer) (flat_map walls_of_obstacle plan.obstacles) in
+    let outer = length-walls_round Clockwise plan.outer in
+    let obstacles = length-of_each walls_of_obstacle corners_of_obstacle_count (λ o. length-walls_round Counterclockwise o.points) plan.obstacles in
     omega (arith, parts, outer, obstacles)
 
 -- so are the corners
 corners_counted : (plan : Plan) → length (corners_of plan) ≡ corner_count plan
 corners_counted plan =
-    let parts = length-append (corners_round false plan.outer) (flat_map corners_of_obstacle plan.obstacles ++ flat_map ends_of_screen plan.screens) in
+    let parts = length-append (corners_round Clockwise plan.outer) (flat_map corners_of_obstacle plan.obstacles ++ flat_map ends_of_screen plan.screens) in
     let more = length-append (flat_map corners_of_obstacle plan.obstacles) (flat_map ends_of_screen plan.screens) in
-    let outer = length-corners_round false plan.outer in
-    let obstacles = length-of_each corners_of_obstacle corners_of_obstacle_count (λ o. length-corners_round true o.points) plan.obstacles in
+    let outer = length-corners_round Clockwise plan.outer in
+    let obstacles = length-of_each corners_of_obstacle corners_of_obstacle_count (λ o. length-corners_round Counterclockwise o.points) plan.obstacles in
     let ends = length-ends plan.screens in
     omega (arith, parts, more, outer, obstacles, ends)
 

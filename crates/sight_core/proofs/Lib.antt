@@ -6,4 +6,6 @@ pub mod Nearest
 pub mod Sound
 pub mod Seen
 pub mod Counts
-pub mod Stops
+pub mod StopBounds
+pub mod Widths
+pub mod NearWall

@@ -8,9 +8,9 @@ use Rattle.std.proofs.lemmas.List.Elements.{filter_map-append}
 use Rattle.plane_spec.specs.declared.Point.{Point}
 use Rattle.plane_spec.specs.Lists.{least}
 use Rattle.plane_spec.specs.Fractions.{Fraction, is_before}
-use Rattle.plan_spec.specs.Scene.{Scene}
+use Rattle.plan_spec.specs.Scene.{Scene, lines_of_scene}
 use Rattle.plan_spec.specs.Stops.{line_hit, corner_hit, start_hit, hits_of}
-use Rattle.sight_core.specs.Hits.{nearer, least_from, nearest_of}
+use Rattle.sight_core.specs.Hits.{nearer, least_from, nearest_line_of, nearest_of}
 
 -- with none before
 from_none : (hits : List Fraction) → least_from None hits ≡ least is_before hits
@@ -57,6 +57,14 @@ pub least_from-append : (best : Option Fraction) (xs ys : List Fraction) → lea
 least_from-append best [] ys = ap (λ t. least_from t ys) (sym (least_from-nil best))
 least_from-append best (x ∷ xs) ys =
     least_from-cons best x (xs ++ ys) ∙ least_from-append (nearer best (Some x)) xs ys ∙ ap (λ t. least_from t ys) (sym (least_from-cons best x xs))
+
+-- the walls and then the screens
+pub nearest_line_of_parts : (scene : Scene) (p d : Point) → nearest_line_of scene p d
+    ≡ least_from (least_from None (filter_map (line_hit p d) scene.walls)) (filter_map (line_hit p d) scene.screens)
+nearest_line_of_parts scene p d =
+    sym (from_none (filter_map (line_hit p d) (lines_of_scene scene)))
+    ∙ ap (λ t. least_from None t) (filter_map-append (line_hit p d) scene.walls scene.screens)
+    ∙ least_from-append None (filter_map (line_hit p d) scene.walls) (filter_map (line_hit p d) scene.screens)
 
 -- the walls, the screens, the corners, and the walls again
 pub nearest_of_parts : (scene : Scene) (p d : Point) → nearest_of scene p d

@@ -7,6 +7,8 @@ use Rattle.std.proofs.lemmas.List.Elements.{All-nil, All-cons, All-head, All-tai
 use Rattle.plane_spec.specs.declared.Point.{Point}
 use Rattle.plane_spec.specs.declared.Segment.{Segment}
 use Rattle.plane_spec.specs.declared.Corner.{Corner}
+use Rattle.plane_spec.specs.declared.Orientation.{Orientation}
+use Rattle.plane_spec.specs.declared.Orientation.TheVariants.{Counterclockwise, Clockwise}
 use Rattle.plane_spec.specs.Vectors.{InRange}
 use Rattle.plane_spec.specs.Polygons.{edges_of}
 use Rattle.plane_spec.specs.Segments.{IsSegmentInRange}
@@ -29,7 +31,7 @@ All-flat_map Q P f gives (x ∷ xs) h =
 turned-in_range : (w : Segment) → IsSegmentInRange w → IsSegmentInRange (turned_edge w)
 turned-in_range w h = record { a = h.b; b = h.a }
 
-walls_round-in_range : (way : Bool) (points : List Point) → All InRange points → All IsSegmentInRange (walls_round way points)
+walls_round-in_range : (way : Orientation) (points : List Point) → All InRange points → All IsSegmentInRange (walls_round way points)
 unfolding walls_round
 walls_round-in_range way points h =
     let edges = edges_of-in_range points h in
@@ -39,9 +41,9 @@ walls_round-in_range way points h =
 
 walls_of-in_range : (plan : Plan) → IsTrue (is_sound plan) → All IsSegmentInRange (walls_of plan)
 walls_of-in_range plan sound =
-    All-append IsSegmentInRange (walls_round false plan.outer) (flat_map walls_of_obstacle plan.obstacles)
-    (walls_round-in_range false plan.outer (outer_in_range plan sound))
-    (All-flat_map IsObstacleInRange IsSegmentInRange walls_of_obstacle (λ o h. walls_round-in_range true o.points h.points) plan.obstacles (obstacles_in_range plan sound))
+    All-append IsSegmentInRange (walls_round Clockwise plan.outer) (flat_map walls_of_obstacle plan.obstacles)
+    (walls_round-in_range Clockwise plan.outer (outer_in_range plan sound))
+    (All-flat_map IsObstacleInRange IsSegmentInRange walls_of_obstacle (λ o h. walls_round-in_range Counterclockwise o.points h.points) plan.obstacles (obstacles_in_range plan sound))
 
 screens_of-in_range : (plan : Plan) → IsTrue (is_sound plan) → All IsSegmentInRange (screens_of plan)
 screens_of-in_range plan sound =
@@ -71,7 +73,7 @@ corners_along-in_range (e ∷ edges) h =
 turned_corner-in_range : (c : Corner) → IsCornerInRange c → IsCornerInRange (turned_corner c)
 turned_corner-in_range c h = record { prev = h.next; here = h.here; next = h.prev }
 
-corners_round-in_range : (way : Bool) (points : List Point) → All InRange points → All IsCornerInRange (corners_round way points)
+corners_round-in_range : (way : Orientation) (points : List Point) → All InRange points → All IsCornerInRange (corners_round way points)
 unfolding corners_round
 corners_round-in_range way points h =
     let corners = corners_along-in_range (edges_of points) (edges_of-in_range points h) in
@@ -86,10 +88,10 @@ ends-in_range s h =
 
 corners_of-in_range : (plan : Plan) → IsTrue (is_sound plan) → All IsCornerInRange (corners_of plan)
 corners_of-in_range plan sound =
-    let obstacles = All-flat_map IsObstacleInRange IsCornerInRange corners_of_obstacle (λ o h. corners_round-in_range true o.points h.points) plan.obstacles (obstacles_in_range plan sound) in
+    let obstacles = All-flat_map IsObstacleInRange IsCornerInRange corners_of_obstacle (λ o h. corners_round-in_range Counterclockwise o.points h.points) plan.obstacles (obstacles_in_range plan sound) in
     let ends = All-flat_map IsScreenInRange IsCornerInRange ends_of_screen ends-in_range plan.screens (screens_in_range plan sound) in
-    All-append IsCornerInRange (corners_round false plan.outer) (flat_map corners_of_obstacle plan.obstacles ++ flat_map ends_of_screen plan.screens)
-    (corners_round-in_range false plan.outer (outer_in_range plan sound))
+    All-append IsCornerInRange (corners_round Clockwise plan.outer) (flat_map corners_of_obstacle plan.obstacles ++ flat_map ends_of_screen plan.screens)
+    (corners_round-in_range Clockwise plan.outer (outer_in_range plan sound))
     (All-append IsCornerInRange (flat_map corners_of_obstacle plan.obstacles) (flat_map ends_of_screen plan.screens) obstacles ends)
 
 -- ---- the scene

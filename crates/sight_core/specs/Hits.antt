@@ -1,26 +1,20 @@
 -- The first of the least fractions, sought one after another.
-use Rattle.std.specs.Prelude.{pos, ◌≤ℤ◌, ◌^◌, Bool, ◌&&◌, int_le, List, Option, Some, None, if◌then◌else◌}
-use Rattle.std.specs.Ordering.{int_eq}
-use Rattle.std.specs.List.{best_of}
+use Rattle.std.specs.Prelude.{pos, ◌≤ℤ◌, Bool, false, not, List, Option, Some, None, if◌then◌else◌}
+use Rattle.std.specs.List.{best_of, filter_map}
 use Rattle.plane_spec.specs.declared.Point.{Point}
-use Rattle.plane_spec.specs.declared.Corner.{Corner}
+use Rattle.plane_spec.specs.declared.Segment.{Segment}
 use Rattle.plane_spec.specs.Lists.{least}
-use Rattle.plane_spec.specs.Vectors.{IsWithin, vector, cross_of, dot_of}
-use Rattle.plane_spec.specs.Cones.{is_in_cone}
-use Rattle.plan_spec.specs.Scene.{Scene}
-use Rattle.plan_spec.specs.Stops.{hits_of}
+use Rattle.plane_spec.specs.Vectors.{IsWithin}
 use Rattle.plane_spec.specs.Fractions.{Fraction, is_before}
+use Rattle.exact_geom.specs.declared.limits.TheConstants.{MAX_STOP_PART}
+use Rattle.plan_spec.specs.Scene.{Scene, lines_of_scene}
+use Rattle.plan_spec.specs.Stops.{line_hit, hits_of}
 
--- a fraction over a denominator of at least 1 whose parts are at most 10^12 in size
+-- a fraction over a denominator of at least 1 whose parts are as small as a stop's
 pub record IsHit (f : Fraction) : Type 0 where
-  pub num : IsWithin (pos (10 ^ 12)) f.num
-  pub den : IsWithin (pos (10 ^ 12)) f.den
+  pub num : IsWithin MAX_STOP_PART f.num
+  pub den : IsWithin MAX_STOP_PART f.den
   pub positive : pos 1 ≤ℤ f.den
-
--- the ray from p in direction d passes through the corner, from its beginning on, and has it in its cone
-unfoldable pub runs_into : Point → Point → Corner → Bool
-runs_into p d c =
-    int_eq (cross_of d (vector p c.here)) (pos 0) && (int_le (pos 0) (dot_of d (vector p c.here)) && is_in_cone c d)
 
 -- the hit that comes before the best so far, or the best so far
 abbrev pub nearer : Option Fraction → Option Fraction → Option Fraction
@@ -33,6 +27,19 @@ unfoldable pub least_from : Option Fraction → List Fraction → Option Fractio
 least_from None hits = least is_before hits
 least_from (Some best) hits = Some (best_of is_before best hits)
 
+-- the first of the least t at which the ray meets a wall or a screen, not reduced
+abbrev pub nearest_line_of : Scene → Point → Point → Option Fraction
+nearest_line_of scene p d = least is_before (filter_map (line_hit p d) (lines_of_scene scene))
+
 -- the first of the least t at which the ray is stopped, not reduced
 abbrev pub nearest_of : Scene → Point → Point → Option Fraction
 nearest_of scene p d = least is_before (hits_of scene p d)
+
+-- there is a hit, and it doesn't come after the other
+abbrev pub is_no_later : Option Fraction → Fraction → Bool
+is_no_later None other = false
+is_no_later (Some hit) other = not (is_before other hit)
+
+-- the wall or screen is hit, and not after the other hit
+abbrev pub is_hit_by : Point → Point → Fraction → Segment → Bool
+is_hit_by p d other w = is_no_later (line_hit p d w) other

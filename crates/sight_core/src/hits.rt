@@ -1,7 +1,8 @@
 //! Where a ray is stopped: by a wall or a screen, by a corner, or where it begins.
 
-ghost use Rattle.std.specs.Prelude.{◌≡◌, ◌≢◌, ◌^◌, ◌*ℤ◌, ◌-ℤ◌, int_lt, pos, true};
-ghost use Rattle.exact_geom.specs.Parts.{HasPartsWithin};
+ghost use Rattle.std.specs.Prelude.{◌≡◌, ◌≢◌, ◌-ℤ◌, ◌≤ℤ◌, int_lt, pos};
+ghost use Rattle.exact_geom.specs.Parts.{HasStopParts};
+ghost use Rattle.exact_geom.specs.declared.limits.TheConstants.{MAX_CROSS, MAX_STOP_PART};
 ghost use Rattle.plane_spec.specs.Fractions as fractions;
 ghost use Rattle.plane_spec.specs.Vectors as vectors;
 ghost use Rattle.plane_spec.specs.Vectors.{cross_of, dot_of, InRange, IsDirected, IsDirection, IsWithin};
@@ -12,14 +13,17 @@ ghost use Rattle.plane_spec.specs.Cones.{IsCornerInRange};
 
 use crate::cone::in_cone;
 use crate::sight::is_on_middle;
-use crate::signs::is_less;
-use exact_geom::{Frac, are_opposite, cross, dot, is_at_least_zero, is_left, is_zero, vector};
+use exact_geom::{
+    Frac, are_opposite, cross, dot, is_at_least_zero, is_left, is_less, is_zero, vector,
+    wide_product,
+};
 use plane_spec::{Corner, Point, Segment as Wall};
 use std::marker::Model;
 
-/// A `t` at which a ray is stopped: a fraction that isn't reduced, over a denominator of at least 1.
-#[derive(Clone, Copy)]
-pub(crate) struct Hit {
+/// A `t` at which a ray is stopped, or at which its line meets a wall's: a fraction that isn't reduced, over a denominator of
+/// at least 1. Contracts see the fraction.
+#[derive(Clone, Copy, Debug)]
+pub struct Hit {
     num: i128,
     den: i128,
 }
@@ -37,25 +41,18 @@ impl Model for Hit {
     ghost inverse = { λ f. record { num = f.num; den = f.den } };
 }
 
-fn product(a: i128, b: i128) -> i128
-    requires a_in { IsWithin (pos (10 ^ 12)) a }
-    requires b_in { IsWithin (pos (10 ^ 12)) b }
-    ensures { result ≡ a *ℤ b }
-{
-    a * b
-}
-
+/// Whether `f` comes before `g` on a ray.
 fn is_before(f: &Hit, g: &Hit) -> bool
     ensures { result ≡ fractions.is_before f.now g.now }
 {
-    is_less(product(f.num, g.den), product(g.num, f.den))
+    is_less(wide_product(f.num, g.den), wide_product(g.num, f.den))
 }
 
 impl Hit {
-    /// `num / den`, for any denominator but 0.
+    /// `num / den`, for any denominator but 0: the sign goes to the numerator.
     fn new(num: i128, den: i128) -> Hit
-        requires num_in { IsWithin (pos (10 ^ 12)) num }
-        requires den_in { IsWithin (pos (10 ^ 12)) den }
+        requires num_in { IsWithin MAX_STOP_PART num }
+        requires den_in { IsWithin MAX_STOP_PART den }
         requires some { den ≢ pos 0 }
         ensures { result ≡ fractions.fraction num den }
     {
@@ -76,17 +73,37 @@ impl Hit {
         0 < self.num
     }
 
+    /// The numerator, which has the sign of the value.
+    pub fn num(&self) -> i128
+        ensures value { result ≡ self.now.num }
+        ensures parts { HasStopParts self.now }
+    {
+        self.num
+    }
+
+    /// The denominator, at least 1.
+    pub fn den(&self) -> i128
+        ensures value { result ≡ self.now.den }
+        ensures positive { pos 1 ≤ℤ result }
+    {
+        self.den
+    }
+
     /// The same value in lowest terms.
-    pub(crate) fn reduced(&self) -> Frac
+    ///
+    /// Cost: one greatest common divisor.
+    pub fn reduced(&self) -> Frac
         ensures value { result ≡ fractions.reduced self.now }
-        ensures small { HasPartsWithin (pos (10 ^ 12)) result }
+        ensures small { HasStopParts result }
     {
         Frac::new(self.num, self.den)
     }
 }
 
-/// The hit that comes before the best so far, or the best so far.
-pub(crate) fn nearer(best: Option<Hit>, hit: Option<Hit>) -> Option<Hit>
+/// The hit where it comes before the best so far, and otherwise the best so far.
+///
+/// Cost: two products.
+pub fn nearer(best: Option<Hit>, hit: Option<Hit>) -> Option<Hit>
     ensures { result ≡ hits.nearer best hit }
 {
     match (best, hit) {
@@ -96,23 +113,33 @@ pub(crate) fn nearer(best: Option<Hit>, hit: Option<Hit>) -> Option<Hit>
     }
 }
 
+/// Whether there is a hit that doesn't come after `other`.
+pub(crate) fn is_no_later(hit: Option<Hit>, other: &Hit) -> bool
+    ensures { result ≡ hits.is_no_later hit other.now }
+{
+    match hit {
+        None => false,
+        Some(hit) => !is_before(other, &hit),
+    }
+}
+
 /// How far `x` lies to the left of the ray, and to its right where it is negative.
 fn turn_to(p: Point, d: Point, x: Point) -> i128
     requires p_in { InRange p }
     requires d_in { IsDirection d }
     requires x_in { InRange x }
     ensures value { result ≡ cross_of d (vectors.vector p x) }
-    ensures within { IsWithin (pos 320000000000) result }
+    ensures within { IsWithin MAX_CROSS result }
 {
     cross(d, vector(p, x))
 }
 
-/// Twice the area of the triangle from `p` to the wall or screen.
+/// Twice the area of the triangle from `p` to the wall or screen, positive where it runs counterclockwise as seen from `p`.
 fn spread(p: Point, wall: &Wall) -> i128
     requires p_in { InRange p }
     requires wall_in { IsSegmentInRange wall.now }
     ensures value { result ≡ cross_of (vectors.vector p wall.now.a) (vectors.vector p wall.now.b) }
-    ensures within { IsWithin (pos (10 ^ 12)) result }
+    ensures within { IsWithin MAX_STOP_PART result }
 {
     cross(vector(p, wall.a), vector(p, wall.b))
 }
@@ -127,33 +154,38 @@ fn is_across(p: Point, d: Point, wall: &Wall) -> bool
     are_opposite(turn_to(p, d, wall.a), turn_to(p, d, wall.b))
 }
 
-/// How far the wall or screen that is across the ray reaches from its right to its left.
+/// How far the wall or screen, which isn't in line with the ray, reaches to the ray's left.
 fn width(p: Point, d: Point, wall: &Wall) -> i128
     requires p_in { InRange p }
     requires d_in { IsDirection d }
     requires wall_in { IsSegmentInRange wall.now }
-    requires across { stops.is_across p d wall.now ≡ true }
+    requires turned { cross_of d (vectors.vector wall.now.a wall.now.b) ≢ pos 0 }
     ensures value { result ≡ cross_of d (vectors.vector p wall.now.b) -ℤ cross_of d (vectors.vector p wall.now.a) }
-    ensures within { IsWithin (pos (10 ^ 12)) result }
+    ensures within { IsWithin MAX_STOP_PART result }
     ensures some { result ≢ pos 0 }
 {
     turn_to(p, d, wall.b) - turn_to(p, d, wall.a)
 }
 
-/// Where the ray's line meets the wall or screen, which is across it.
-fn meeting(p: Point, d: Point, wall: &Wall) -> Hit
+/// Where the line through `p` in direction `d` meets the line of the wall or screen: the `t` of `p + t d`, which may be
+/// beyond the wall's ends or behind `p`. The two lines must not be in one direction.
+///
+/// Cost: three cross products.
+pub fn meeting(p: Point, d: Point, wall: &Wall) -> Hit
     requires p_in { InRange p }
     requires d_in { IsDirection d }
     requires wall_in { IsSegmentInRange wall.now }
-    requires across { stops.is_across p d wall.now ≡ true }
+    requires turned { cross_of d (vectors.vector wall.now.a wall.now.b) ≢ pos 0 }
     ensures { result ≡ stops.meeting p d wall.now }
 {
     Hit::new(spread(p, wall), width(p, d, wall))
 }
 
 /// Where the ray meets the wall or screen between its ends, if it does so after its beginning.
+///
+/// Cost: two cross products, and three more where the wall is across the ray's line.
 #[tactic(auto, unfolding(plan_spec::specs::Stops::line_hit))]
-pub(crate) fn line_hit(p: Point, d: Point, wall: &Wall) -> Option<Hit>
+pub fn line_hit(p: Point, d: Point, wall: &Wall) -> Option<Hit>
     requires p_in { InRange p }
     requires d_in { IsDirection d }
     requires wall_in { IsSegmentInRange wall.now }
@@ -167,12 +199,11 @@ pub(crate) fn line_hit(p: Point, d: Point, wall: &Wall) -> Option<Hit>
 }
 
 /// Whether the ray passes through the corner into what is blocked.
-#[tactic(auto, unfolding(crate::specs::Hits::runs_into))]
 fn runs_into(p: Point, d: Point, corner: &Corner) -> bool
     requires p_in { InRange p }
     requires d_in { IsDirection d }
     requires corner_in { IsCornerInRange corner.now }
-    ensures { result ≡ hits.runs_into p d corner.now }
+    ensures { result ≡ stops.runs_into p d corner.now }
 {
     let v = vector(p, corner.here);
     is_zero(cross(d, v)) && (is_at_least_zero(dot(d, v)) && in_cone(*corner, d))
@@ -192,8 +223,10 @@ fn time_to(d: Point, v: Point) -> Hit
 }
 
 /// Where the ray passes through the corner into what is blocked, if it does.
-#[tactic(auto, unfolding(plan_spec::specs::Stops::corner_hit, crate::specs::Hits::runs_into))]
-pub(crate) fn corner_hit(p: Point, d: Point, corner: &Corner) -> Option<Hit>
+///
+/// Cost: one cross product, and at most six more products where the corner is on the ray's line.
+#[tactic(auto, unfolding(plan_spec::specs::Stops::corner_hit))]
+pub fn corner_hit(p: Point, d: Point, corner: &Corner) -> Option<Hit>
     requires p_in { InRange p }
     requires d_in { IsDirection d }
     requires directed { IsDirected d }
@@ -208,8 +241,10 @@ pub(crate) fn corner_hit(p: Point, d: Point, corner: &Corner) -> Option<Hit>
 }
 
 /// Where the ray begins, if it begins on the wall, not at its ends, and leads to its left.
+///
+/// Cost: one orientation, and a cross product where it begins there.
 #[tactic(auto, unfolding(plan_spec::specs::Stops::start_hit))]
-pub(crate) fn start_hit(p: Point, d: Point, wall: &Wall) -> Option<Hit>
+pub fn start_hit(p: Point, d: Point, wall: &Wall) -> Option<Hit>
     requires p_in { InRange p }
     requires d_in { IsDirection d }
     requires wall_in { IsSegmentInRange wall.now }

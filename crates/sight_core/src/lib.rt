@@ -8,14 +8,19 @@
 //! | [`in_cone`] | whether a direction leads from a corner into what is blocked |
 //! | [`free`] | whether two points see each other |
 //! | [`sight_is_mutual`] | sight goes both ways |
-//! | [`stop`] | how far a ray reaches |
+//! | [`Hit`] | a `t` at which a ray is stopped, not reduced |
+//! | [`line_hit`], [`corner_hit`], [`start_hit`] | where a ray meets a wall or screen, runs into a corner, or begins in a wall |
+//! | [`meeting`] | where a line meets the line of a wall or screen |
+//! | [`nearer`] | the hit that comes first |
+//! | [`stop`], [`near_wall`] | how far a ray reaches, and which wall or screen it meets first |
 //! | [`stops_are_small`] | a stop has small parts and is never behind |
+//! | [`near_walls_are_numbered`] | the number of a nearest wall is below that of walls and screens |
 //! | [`is_open`] | whether a point is open: in the outer polygon, and inside no obstacle |
 //! | [`types_are_shared`] | a scene may be moved to a thread and shared between threads |
 //!
 //! What is blocked lies left of each wall: the outer polygon's walls go round clockwise, those of obstacles
 //! counterclockwise, whichever way their points were given. A segment between two points is free where it crosses no wall
-//! and no screen, leaves no wall to its left, and passes through no corner into what is blocked:
+//! and no screen properly, has no wall on whose left it begins or ends, and passes through no corner into what is blocked:
 //!
 //! ```text
 //!   p-----+---q    grazes a corner: free        p ----+====+---- q    passes through two corners: blocked
@@ -25,22 +30,19 @@
 #![tactic(auto)]
 
 mod cone;
-#[cfg(test)]
-mod figures;
 mod hits;
 mod openness;
-mod parts;
-mod reach;
-mod rounds;
+mod orientation;
 mod scene;
-mod sharing;
 mod sight;
-mod signs;
+mod stops;
+#[cfg(test)]
+mod tests;
 
 pub use cone::in_cone;
+pub use hits::{Hit, corner_hit, line_hit, meeting, nearer, start_hit};
 pub use openness::is_open;
 pub use plane_spec::{Corner, Segment as Wall};
-pub use reach::{stop, stops_are_small};
-pub use scene::{Scene, scene_of};
-pub use sharing::types_are_shared;
+pub use scene::{Scene, scene_of, types_are_shared};
 pub use sight::{free, sight_is_mutual};
+pub use stops::{near_wall, near_walls_are_numbered, stop, stops_are_small};

@@ -13,7 +13,6 @@ ghost use Rattle.plane_spec.specs.Cones.{IsCornerInRange};
 
 use crate::cone::in_cone;
 use crate::scene::Scene;
-use crate::signs::are_alike;
 use exact_geom::{crosses, lies_left, on_segment, orient, same_point, vector};
 use plane_spec::{Corner, Point, Segment as Wall};
 
@@ -45,6 +44,13 @@ fn enters_wall(p: Point, q: Point, wall: &Wall) -> bool
     ensures { result ≡ sight.enters_wall p q wall.now }
 {
     leaves_wall(p, q, wall) || leaves_wall(q, p, wall)
+}
+
+/// Whether both are positive, or both are negative.
+fn are_alike(s: i128, t: i128) -> bool
+    ensures { result ≡ blocks.are_alike s t }
+{
+    (0 < s && 0 < t) || (s < 0 && t < 0)
 }
 
 /// Whether the wall's ends lie strictly on one side of the line through `p` and `q`.
@@ -89,6 +95,7 @@ fn corner_blocks(p: Point, q: Point, corner: &Corner) -> bool
     on_segment(corner.here, p, q) && (turns_from(q, corner) || turns_from(p, corner))
 }
 
+/// Whether one of the walls is in the way.
 fn any_wall_blocks(walls: &[Wall], p: Point, q: Point) -> bool
     requires walls_in { All IsSegmentInRange walls.now }
     requires p_in { InRange p }
@@ -98,6 +105,7 @@ fn any_wall_blocks(walls: &[Wall], p: Point, q: Point) -> bool
     walls.iter().any(|wall| wall_blocks(p, q, wall))
 }
 
+/// Whether one of the screens is crossed properly.
 fn any_screen_blocks(screens: &[Wall], p: Point, q: Point) -> bool
     requires screens_in { All IsSegmentInRange screens.now }
     requires p_in { InRange p }
@@ -109,6 +117,7 @@ fn any_screen_blocks(screens: &[Wall], p: Point, q: Point) -> bool
         .any(|screen| crosses(screen.a, screen.b, p, q))
 }
 
+/// Whether one of the corners is in the way.
 fn any_corner_blocks(corners: &[Corner], p: Point, q: Point) -> bool
     requires corners_in { All IsCornerInRange corners.now }
     requires p_in { InRange p }
@@ -132,8 +141,9 @@ fn is_blocked(walls: &[Wall], screens: &[Wall], corners: &[Corner], p: Point, q:
         || any_corner_blocks(corners, p, q)
 }
 
-/// Whether `p` and `q` see each other: they differ, the segment between them crosses no wall and no screen, it leaves no
-/// wall to its left and passes through no corner into what is blocked. Grazing a wall, a screen or a corner is free.
+/// Whether `p` and `q` see each other: they differ, the segment between them crosses no wall and no screen properly,
+/// neither begins nor ends on a wall with the rest to its left, and passes through no corner into what is blocked. Grazing
+/// a wall, a screen or a corner is free.
 ///
 /// Cost: one pass over the walls, screens and corners, up to the first that is in the way, and mostly two orientations a
 /// wall.

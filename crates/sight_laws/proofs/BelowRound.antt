@@ -3,6 +3,7 @@ use Rattle.std.proofs.Common.{◌≡◌, ◌⊎◌, inl, inr, Bool, true, false,
 use Rattle.plane_spec.specs.declared.Point.{Point}
 use Rattle.plane_spec.specs.declared.Segment.{Segment}
 use Rattle.plane_spec.specs.declared.Corner.{Corner}
+use Rattle.plane_spec.specs.declared.Orientation.TheVariants.{Counterclockwise}
 use Rattle.plane_spec.specs.Polygons.{edges_to, edges_of}
 use Rattle.plan_spec.specs.Scene.{turned_edge, goes_round, walls_round, corners_after, corners_along, corners_round, last_edge, turned_corner}
 use Rattle.sight_laws.proofs.BelowLists.{IsIn, mapped, source}
@@ -93,9 +94,9 @@ by_way true edges = edges
 by_way false edges = map turned_edge edges
 
 -- the walls are the edges, or the turned edges
-walls_by : (points : List Point) → walls_round true points ≡ by_way (goes_round true points) (edges_of points)
+walls_by : (points : List Point) → walls_round Counterclockwise points ≡ by_way (goes_round Counterclockwise points) (edges_of points)
 unfolding walls_round by_way
-walls_by points = by_test (goes_round true points)
+walls_by points = by_test (goes_round Counterclockwise points)
   where
     by_test : (way : Bool) → cond way (edges_of points) (map turned_edge (edges_of points)) ≡ by_way way (edges_of points)
     by_test true = refl
@@ -120,8 +121,8 @@ walls_of_way points false = record {
 }
 
 -- so do those round a polygon
-pub walls_of_points : (points : List Point) → WallsOf (walls_round true points) points
-walls_of_points points = subst (λ t. WallsOf t points) (sym (walls_by points)) (walls_of_way points (goes_round true points))
+pub walls_of_points : (points : List Point) → WallsOf (walls_round Counterclockwise points) points
+walls_of_points points = subst (λ t. WallsOf t points) (sym (walls_by points)) (walls_of_way points (goes_round Counterclockwise points))
 
 -- ---- corners
 
@@ -175,9 +176,9 @@ corners_by_way : Bool → List Corner → List Corner
 corners_by_way true corners = corners
 corners_by_way false corners = map turned_corner corners
 
-corners_by : (points : List Point) → corners_round true points ≡ corners_by_way (goes_round true points) (corners_along (edges_of points))
+corners_by : (points : List Point) → corners_round Counterclockwise points ≡ corners_by_way (goes_round Counterclockwise points) (corners_along (edges_of points))
 unfolding corners_round corners_by_way
-corners_by points = by_test (goes_round true points)
+corners_by points = by_test (goes_round Counterclockwise points)
   where
     by_test : (way : Bool) → cond way (corners_along (edges_of points)) (map turned_corner (corners_along (edges_of points))) ≡ corners_by_way way (corners_along (edges_of points))
     by_test true = refl
@@ -194,18 +195,18 @@ corners_of_way points false c i =
     subst (λ t. StandsIn (map turned_edge (edges_of points)) t) s.is (turned_stands (edges_of points) s.it (edge_corners points s.it s.is_in))
 
 -- each corner's walls are among the walls
-pub corners_of_points : (points : List Point) (c : Corner) → IsIn (corners_round true points) c → StandsIn (walls_round true points) c
+pub corners_of_points : (points : List Point) (c : Corner) → IsIn (corners_round Counterclockwise points) c → StandsIn (walls_round Counterclockwise points) c
 corners_of_points points c i =
     subst (λ t. StandsIn t c) (sym (walls_by points))
-    (corners_of_way points (goes_round true points) c (subst (λ t. IsIn t c) (corners_by points) i))
+    (corners_of_way points (goes_round Counterclockwise points) c (subst (λ t. IsIn t c) (corners_by points) i))
 
 -- ---- the ends of walls differ
 
 -- a wall is an edge or a turned edge
 pub wall_is_edge : (points : List Point) (test : Segment → Type 0) → ((e : Segment) → IsIn (edges_of points) e → test e) → ((e : Segment) → test e → test (turned_edge e))
-    → (w : Segment) → IsIn (walls_round true points) w → test w
+    → (w : Segment) → IsIn (walls_round Counterclockwise points) w → test w
 unfolding by_way
-wall_is_edge points test h turn w i = by_test (goes_round true points) w (subst (λ t. IsIn t w) (walls_by points) i)
+wall_is_edge points test h turn w i = by_test (goes_round Counterclockwise points) w (subst (λ t. IsIn t w) (walls_by points) i)
   where
     by_test : (way : Bool) (w : Segment) → IsIn (by_way way (edges_of points)) w → test w
     by_test true w i = h w i

@@ -2,6 +2,7 @@
 use Rattle.std.specs.Prelude.{◌≡◌, refl, List, ◌++◌, true, false}
 use Rattle.std.proofs.Common.{arith}
 use Rattle.plane_spec.specs.declared.Point.{Point}
+use Rattle.plane_spec.specs.declared.Orientation.TheVariants.{Counterclockwise}
 use Rattle.plane_spec.specs.Segments.{is_on_segment, cross_properly, do_touch}
 use Rattle.plane_spec.specs.Polygons.{edges_to, is_counterclockwise, passes_right, is_inside, may_stand, crosses_nowhere, is_simple}
 use Rattle.plan_spec.specs.Accepted.{lies_within, do_obstacles_stand, do_screens_stand, do_routes_stand, is_within_limits, is_sound}
@@ -21,11 +22,11 @@ strictly_inside_a_box_is_inside = refl
 abbrev box_twice : List Point
 box_twice = box 4 4 6 6 ++ box 4 4 6 6
 
-a_box_gone_round_twice_is_convex : is_convex (walls_round true box_twice) ≡ true
+a_box_gone_round_twice_is_convex : is_convex (walls_round Counterclockwise box_twice) ≡ true
 unfolding walls_round is_counterclockwise edges_to
 a_box_gone_round_twice_is_convex = refl
 
-its_middle_is_strictly_inside : is_strictly_inside (walls_round true box_twice) (at 5 5) ≡ true
+its_middle_is_strictly_inside : is_strictly_inside (walls_round Counterclockwise box_twice) (at 5 5) ≡ true
 unfolding walls_round is_counterclockwise edges_to
 its_middle_is_strictly_inside = refl
 
@@ -47,6 +48,6 @@ its_left_wall_is_open : is_open (room_with middle) (at 0 5) ≡ true
 unfolding is_open is_inside passes_right edges_to is_on_segment
 its_left_wall_is_open = refl
 
-the_way_across_it_passes_through_the_box : PassesThrough (walls_round true middle.points) (at 0 5) (at 10 5)
+the_way_across_it_passes_through_the_box : PassesThrough (walls_round Counterclockwise middle.points) (at 0 5) (at 10 5)
 unfolding walls_round is_counterclockwise edges_to
 the_way_across_it_passes_through_the_box = (1, 2, omega arith, omega arith, refl)

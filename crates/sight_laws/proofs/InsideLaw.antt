@@ -12,6 +12,7 @@ use Rattle.int_laws.proofs.Signs.{tested_positive}
 use Rattle.plane_spec.specs.declared.Point.{Point}
 use Rattle.plane_spec.specs.declared.Segment.{Segment}
 use Rattle.plane_spec.specs.declared.Corner.{Corner}
+use Rattle.plane_spec.specs.declared.Orientation.TheVariants.{Counterclockwise}
 use Rattle.plane_spec.specs.Vectors.{orient_of, lies_left, is_in_range}
 use Rattle.plane_spec.specs.Lists.{pairs}
 use Rattle.plane_spec.specs.Polygons.{edges_of, edges_touch, folds_back, is_on_edge, is_on_border, passes_right, is_inside, may_stand, crosses_nowhere, has_repeat, is_simple, is_counterclockwise}
@@ -247,20 +248,20 @@ simple_crosses_nowhere : (points : List Point) → is_simple points ≡ true →
 simple_crosses_nowhere points h =
     (and_parts (not (has_repeat points)) (crosses_nowhere points) (and_parts (nat_le 3 (length points)) (not (has_repeat points) && crosses_nowhere points) h).1).1
 
-pub inside_where_left_of_all : (points : List Point) (x : Point) → is_simple points ≡ true → is_convex (walls_round true points) ≡ true → is_strictly_inside (walls_round true points) x ≡ true → is_inside x points ≡ true
+pub inside_where_left_of_all : (points : List Point) (x : Point) → is_simple points ≡ true → is_convex (walls_round Counterclockwise points) ≡ true → is_strictly_inside (walls_round Counterclockwise points) x ≡ true → is_inside x points ≡ true
 inside_where_left_of_all [] x simple convex inside = absurd (let absurdity : true ≡ false = sym simple in cc)
 inside_where_left_of_all (start ∷ points) x simple convex inside =
     inside_by x start points (simple_crosses_nowhere (start ∷ points) simple)
     (elim (cases_Bool (is_counterclockwise (start ∷ points))) [
-      | inl h ↦ around_on x start points (walls_round true (start ∷ points)) (walls_on start points h) convex inside
-      | inr h ↦ around_back x start points (walls_round true (start ∷ points)) (walls_back start points h) convex inside
+      | inl h ↦ around_on x start points (walls_round Counterclockwise (start ∷ points)) (walls_on start points h) convex inside
+      | inr h ↦ around_back x start points (walls_round Counterclockwise (start ∷ points)) (walls_back start points h) convex inside
     ])
 
 -- ---- open points of a plan
 
 -- an open point isn't strictly inside a convex obstacle of a sound plan
-pub not_inside_where_open : (plan : Plan) (o : Obstacle) (p : Point) → is_sound plan ≡ true → Contains plan.obstacles o → is_convex (walls_round true o.points) ≡ true → is_open plan p ≡ true
-    → is_strictly_inside (walls_round true o.points) p ≡ false
+pub not_inside_where_open : (plan : Plan) (o : Obstacle) (p : Point) → is_sound plan ≡ true → Contains plan.obstacles o → is_convex (walls_round Counterclockwise o.points) ≡ true → is_open plan p ≡ true
+    → is_strictly_inside (walls_round Counterclockwise o.points) p ≡ false
 unfolding is_open
 not_inside_where_open plan o p sound there convex is_free =
     let polygons = each_is (λ w. is_polygon w.points && lies_within plan.outer w.points) (λ w. is_polygon w.points ≡ true)
@@ -269,7 +270,7 @@ not_inside_where_open plan o p sound there convex is_free =
     let simple = second_of_both (list_all is_in_range o.points) (is_simple o.points) (sym (a_polygon_is_simple o.points) ∙ polygon) in
     let none = not-true (list_any (has_inside p) plan.obstacles) (second_of_both (is_on_border p plan.outer || is_inside p plan.outer) (not (list_any (has_inside p) plan.obstacles)) is_free) in
     let outside = of_member (λ w. has_inside p w ≡ false) plan.obstacles o (none_passes (has_inside p) plan.obstacles none) there in
-    false_from_ne_true (is_strictly_inside (walls_round true o.points) p)
+    false_from_ne_true (is_strictly_inside (walls_round Counterclockwise o.points) p)
     (λ inside. let e = inside_where_left_of_all o.points p simple convex inside in let absurdity : true ≡ false = sym e ∙ outside in cc)
 
 one_is_not : (free free_too inside inside_too : Bool) → (free || free_too) ≡ true → (free ≡ true → inside ≡ false) → (free_too ≡ true → inside_too ≡ false) → (inside && inside_too) ≡ false
@@ -277,9 +278,9 @@ one_is_not free free_too false inside_too h first second = refl
 one_is_not true free_too true inside_too h first second = absurd (let absurdity : true ≡ false = first refl in cc)
 one_is_not false free_too true inside_too h first second = second h
 
-pub unseen_between_open : (plan : Plan) (o : Obstacle) (p q : Point) → is_sound plan ≡ true → Contains plan.obstacles o → is_convex (walls_round true o.points) ≡ true
-    → (is_open plan p || is_open plan q) ≡ true → PassesThrough (walls_round true o.points) p q → are_in_sight (scene_of plan) p q ≡ false
+pub unseen_between_open : (plan : Plan) (o : Obstacle) (p q : Point) → is_sound plan ≡ true → Contains plan.obstacles o → is_convex (walls_round Counterclockwise o.points) ≡ true
+    → (is_open plan p || is_open plan q) ≡ true → PassesThrough (walls_round Counterclockwise o.points) p q → are_in_sight (scene_of plan) p q ≡ false
 unseen_between_open plan o p q sound there convex is_free way =
     unseen_in_plan plan o p q there convex
-    (one_is_not (is_open plan p) (is_open plan q) (is_strictly_inside (walls_round true o.points) p) (is_strictly_inside (walls_round true o.points) q) is_free
+    (one_is_not (is_open plan p) (is_open plan q) (is_strictly_inside (walls_round Counterclockwise o.points) p) (is_strictly_inside (walls_round Counterclockwise o.points) q) is_free
     (not_inside_where_open plan o p sound there convex) (not_inside_where_open plan o q sound there convex)) way

@@ -1,6 +1,7 @@
 -- Inside and strictly inside, on small figures: a repeated point is a wall that nothing is left of, and a notch shows that the obstacle must be convex.
 use Rattle.std.specs.Prelude.{◌≡◌, refl, List, [], ◌∷◌, ℤ, pos, true, false}
 use Rattle.plane_spec.specs.declared.Point.{Point}
+use Rattle.plane_spec.specs.declared.Orientation.TheVariants.{Counterclockwise}
 use Rattle.plane_spec.specs.Vectors.{point}
 use Rattle.plane_spec.specs.Segments.{is_on_segment}
 use Rattle.plane_spec.specs.Polygons.{edges_to, is_counterclockwise, is_inside, passes_right}
@@ -19,7 +20,7 @@ abbrev notched_box : List Point
 notched_box = at (pos 0) (pos 0) ∷ at (pos 3) (pos 0) ∷ at (pos 3) (pos 3) ∷ at (pos 1) (pos 2) ∷ at (pos 0) (pos 3) ∷ []
 
 -- a repeated point leaves the box convex, and what is inside it isn't left of the wall between the two
-a_repeat_is_convex : is_convex (walls_round true box_with_a_repeat) ≡ true
+a_repeat_is_convex : is_convex (walls_round Counterclockwise box_with_a_repeat) ≡ true
 unfolding walls_round is_counterclockwise edges_to
 a_repeat_is_convex = refl
 
@@ -27,7 +28,7 @@ inside_past_a_repeat : is_inside (at (pos 1) (pos 1)) box_with_a_repeat ≡ true
 unfolding is_inside edges_to is_on_segment passes_right
 inside_past_a_repeat = refl
 
-nothing_is_left_of_a_repeat : is_strictly_inside (walls_round true box_with_a_repeat) (at (pos 1) (pos 1)) ≡ false
+nothing_is_left_of_a_repeat : is_strictly_inside (walls_round Counterclockwise box_with_a_repeat) (at (pos 1) (pos 1)) ≡ false
 unfolding walls_round is_counterclockwise edges_to
 nothing_is_left_of_a_repeat = refl
 
@@ -36,6 +37,6 @@ inside_a_notched_box : is_inside (at (pos 2) (pos 2)) notched_box ≡ true
 unfolding is_inside edges_to is_on_segment passes_right
 inside_a_notched_box = refl
 
-right_of_the_notch : is_strictly_inside (walls_round true notched_box) (at (pos 2) (pos 2)) ≡ false
+right_of_the_notch : is_strictly_inside (walls_round Counterclockwise notched_box) (at (pos 2) (pos 2)) ≡ false
 unfolding walls_round is_counterclockwise edges_to
 right_of_the_notch = refl

@@ -10,6 +10,7 @@ use Rattle.plan_laws.proofs.Lists.{list_any_map}
 use Rattle.plane_spec.specs.declared.Point.{Point}
 use Rattle.plane_spec.specs.declared.Segment.{Segment}
 use Rattle.plane_spec.specs.declared.Corner.{Corner}
+use Rattle.plane_spec.specs.declared.Orientation.TheVariants.{Counterclockwise}
 use Rattle.plane_spec.specs.Vectors.{orient_of, lies_left, same_point}
 use Rattle.plane_spec.specs.Segments.{is_on_segment}
 use Rattle.plane_spec.specs.Polygons.{edges_of, is_on_edge, is_on_border, passes_right, is_inside, is_nothing, has_repeat, is_counterclockwise}
@@ -187,14 +188,14 @@ left_back x start points within apart convex =
 all_left : (wall : Corner → Segment) (cs : List Corner) (x : Point) → All (λ j. lies_left (wall j).a (wall j).b x ≡ true) cs → is_strictly_inside (map wall cs) x ≡ true
 all_left wall cs x all = list_all-map (λ w. lies_left w.a w.b x) wall cs ∙ list_all-from_AllPass (λ j. lies_left (wall j).a (wall j).b x) cs all
 
-pub strictly_inside : (points : List Point) (x : Point) → has_repeat points ≡ false → is_convex (walls_round true points) ≡ true → is_inside x points ≡ true
-    → is_strictly_inside (walls_round true points) x ≡ true
+pub strictly_inside : (points : List Point) (x : Point) → has_repeat points ≡ false → is_convex (walls_round Counterclockwise points) ≡ true → is_inside x points ≡ true
+    → is_strictly_inside (walls_round Counterclockwise points) x ≡ true
 unfolding walls_round is_counterclockwise
 strictly_inside [] x apart convex inside = refl
 strictly_inside (start ∷ points) x apart convex inside =
     elim (cases_Bool (is_counterclockwise (start ∷ points))) [
-      | inl h ↦ by_walls_on (walls_round true (start ∷ points)) (walls_on start points h) convex
-      | inr h ↦ by_walls_back (walls_round true (start ∷ points)) (walls_back start points h) convex
+      | inl h ↦ by_walls_on (walls_round Counterclockwise (start ∷ points)) (walls_on start points h) convex
+      | inr h ↦ by_walls_back (walls_round Counterclockwise (start ∷ points)) (walls_back start points h) convex
     ]
   where
     by_walls_on : (walls : List Segment) → walls ≡ map edge_after (ring start points) → is_convex walls ≡ true → is_strictly_inside walls x ≡ true

@@ -2,6 +2,7 @@
 use Rattle.std.specs.Prelude.{◌≡◌, refl, List, [], ◌∷◌, true, false, ◌&&◌}
 use Rattle.std.specs.List.{list_all}
 use Rattle.plane_spec.specs.declared.Point.{Point}
+use Rattle.plane_spec.specs.declared.Orientation.TheVariants.{Counterclockwise}
 use Rattle.plane_spec.specs.Segments.{is_on_segment, cross_properly, do_touch}
 use Rattle.plane_spec.specs.Polygons.{edges_to, is_counterclockwise, may_stand, crosses_nowhere}
 use Rattle.plane_spec.specs.Cones.{is_in_cone}
@@ -13,11 +14,11 @@ use Rattle.sight_laws.proofs.PlansLaw.{seen_among_convex_polygons}
 
 -- ---- the outer polygon
 
-the_border_is_on_or_inside : (is_on_or_inside (walls_round true (box 0 0 10 10)) (at 0 5) && is_on_or_inside (walls_round true (box 0 0 10 10)) (at 10 10)) ≡ true
+the_border_is_on_or_inside : (is_on_or_inside (walls_round Counterclockwise (box 0 0 10 10)) (at 0 5) && is_on_or_inside (walls_round Counterclockwise (box 0 0 10 10)) (at 10 10)) ≡ true
 unfolding walls_round is_counterclockwise edges_to
 the_border_is_on_or_inside = refl
 
-what_is_right_of_a_wall_is_not : is_on_or_inside (walls_round true (box 0 0 10 10)) (at 11 5) ≡ false
+what_is_right_of_a_wall_is_not : is_on_or_inside (walls_round Counterclockwise (box 0 0 10 10)) (at 11 5) ≡ false
 unfolding walls_round is_counterclockwise edges_to
 what_is_right_of_a_wall_is_not = refl
 
@@ -34,7 +35,7 @@ unfolding is_blocked leaves_wall corner_stops is_in_cone walls_round corners_rou
 its_notch_blocks = refl
 
 -- so one of the two isn't on or left of all walls
-its_ends_are_not_left_of_all_walls : (is_on_or_inside (walls_round true notched) (at 0 10) && is_on_or_inside (walls_round true notched) (at 10 10)) ≡ false
+its_ends_are_not_left_of_all_walls : (is_on_or_inside (walls_round Counterclockwise notched) (at 0 10) && is_on_or_inside (walls_round Counterclockwise notched) (at 10 10)) ≡ false
 unfolding walls_round is_counterclockwise edges_to
 its_ends_are_not_left_of_all_walls = refl
 

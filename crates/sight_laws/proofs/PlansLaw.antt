@@ -7,6 +7,7 @@ use Rattle.std.proofs.lemmas.List.Elements.{All-head, All-tail, All-contains_its
 use Rattle.std.proofs.lemmas.List.Folds.{list_any-append}
 use Rattle.std.proofs.lemmas.List.Sums.{AllPass-from_list_all}
 use Rattle.plane_spec.specs.declared.Point.{Point}
+use Rattle.plane_spec.specs.declared.Orientation.TheVariants.{Counterclockwise, Clockwise}
 use Rattle.plane_spec.specs.Vectors.{vector, same_point}
 use Rattle.plane_spec.specs.Segments.{is_on_segment}
 use Rattle.plane_spec.specs.Polygons.{is_simple}
@@ -69,7 +70,7 @@ past_all plan p q convex clear =
     (AllPass-from_list_all is_convex_obstacle plan.obstacles convex) (All-contains_itself plan.obstacles))
 
 -- nothing is in the way where no screen is crossed, and neither the outer polygon nor an obstacle is
-unblocked_from : (plan : Plan) (p q : Point) → IsUnblocked p q (walls_round false plan.outer) (corners_round false plan.outer) → All (IsPast p q) plan.obstacles
+unblocked_from : (plan : Plan) (p q : Point) → IsUnblocked p q (walls_round Clockwise plan.outer) (corners_round Clockwise plan.outer) → All (IsPast p q) plan.obstacles
     → list_any (crosses p q) (screens_of plan) ≡ false → is_blocked (scene_of plan) p q ≡ false
 unfolding is_blocked IsPast
 unblocked_from plan p q outer past screens =
@@ -81,18 +82,18 @@ unblocked_from plan p q outer past screens =
     let stopped = none_in_any (corner_blocks p q) corners_of_obstacle obstacles
     (weaker (IsPast p q) (λ o. list_any (corner_blocks p q) (corners_of_obstacle o) ≡ false) (λ o h. h.unstopped) obstacles past) in
     let ends = no_end_blocks p q plan.screens in
-    let walls = none_either (crosses p q) (walls_round false plan.outer) (flat_map walls_of_obstacle obstacles) outer.uncrossed crossed in
+    let walls = none_either (crosses p q) (walls_round Clockwise plan.outer) (flat_map walls_of_obstacle obstacles) outer.uncrossed crossed in
     rw (
-      none_either (crosses p q) (walls_round false plan.outer ++ flat_map walls_of_obstacle obstacles) (screens_of plan) walls screens,
-      none_either (enters_wall p q) (walls_round false plan.outer) (flat_map walls_of_obstacle obstacles) outer.unentered entered,
-      none_either (corner_blocks p q) (corners_round false plan.outer) (flat_map corners_of_obstacle obstacles ++ flat_map ends_of_screen plan.screens) outer.unstopped
+      none_either (crosses p q) (walls_round Clockwise plan.outer ++ flat_map walls_of_obstacle obstacles) (screens_of plan) walls screens,
+      none_either (enters_wall p q) (walls_round Clockwise plan.outer) (flat_map walls_of_obstacle obstacles) outer.unentered entered,
+      none_either (corner_blocks p q) (corners_round Clockwise plan.outer) (flat_map corners_of_obstacle obstacles ++ flat_map ends_of_screen plan.screens) outer.unstopped
           (none_either (corner_blocks p q) (flat_map corners_of_obstacle obstacles) (flat_map ends_of_screen plan.screens) stopped ends),
     ) refl
 
 -- ---- the law
 
-seen_past : (plan : Plan) (p q : Point) → list_all is_convex_obstacle plan.obstacles ≡ true → is_on_or_inside (walls_round true plan.outer) p ≡ true
-    → is_on_or_inside (walls_round true plan.outer) q ≡ true → SeesPast plan p q → are_in_sight (scene_of plan) p q ≡ true
+seen_past : (plan : Plan) (p q : Point) → list_all is_convex_obstacle plan.obstacles ≡ true → is_on_or_inside (walls_round Counterclockwise plan.outer) p ≡ true
+    → is_on_or_inside (walls_round Counterclockwise plan.outer) q ≡ true → SeesPast plan p q → are_in_sight (scene_of plan) p q ≡ true
 unfolding are_in_sight
 seen_past plan p q convex hp hq s =
     let free = unblocked_from plan p q (outer_unblocked plan.outer p q hp hq) (past_all plan p q convex s.no_obstacle) s.no_screen in
@@ -121,6 +122,6 @@ sees_past plan p q convex outside seen =
     }
 
 pub seen_among_convex_polygons : (plan : Plan) (p q : Point) → list_all is_convex_obstacle plan.obstacles ≡ true
-    → is_on_or_inside (walls_round true plan.outer) p ≡ true → is_on_or_inside (walls_round true plan.outer) q ≡ true
+    → is_on_or_inside (walls_round Counterclockwise plan.outer) p ≡ true → is_on_or_inside (walls_round Counterclockwise plan.outer) q ≡ true
     → list_any (has_both_inside p q) plan.obstacles ≡ false → (are_in_sight (scene_of plan) p q ≡ true) ↔ SeesPast plan p q
 seen_among_convex_polygons plan p q convex hp hq outside = (sees_past plan p q convex outside, seen_past plan p q convex hp hq)

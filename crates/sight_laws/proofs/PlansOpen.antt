@@ -9,6 +9,7 @@ use Rattle.std.proofs.lemmas.List.Sums.{AllPass-from_list_all}
 use Rattle.plan_laws.proofs.Lists.{list_all_weaker, list_all_and}
 use Rattle.plan_laws.proofs.Parts.{parts_of_sound, parts_of_obstacles}
 use Rattle.plane_spec.specs.declared.Point.{Point}
+use Rattle.plane_spec.specs.declared.Orientation.TheVariants.{Counterclockwise}
 use Rattle.plane_spec.specs.Vectors.{is_in_range}
 use Rattle.plane_spec.specs.Polygons.{has_repeat, crosses_nowhere, is_simple, is_on_border, is_inside}
 use Rattle.plan_spec.specs.Accepted.{is_polygon, lies_within, is_sound}
@@ -35,8 +36,8 @@ has_no_repeat points h =
 -- ---- the plan
 
 -- an open point is on or left of all walls of a convex outer polygon
-open_is_left_of_all : (plan : Plan) (p : Point) → is_sound plan ≡ true → is_convex (walls_round true plan.outer) ≡ true → is_open plan p ≡ true
-    → is_on_or_inside (walls_round true plan.outer) p ≡ true
+open_is_left_of_all : (plan : Plan) (p : Point) → is_sound plan ≡ true → is_convex (walls_round Counterclockwise plan.outer) ≡ true → is_open plan p ≡ true
+    → is_on_or_inside (walls_round Counterclockwise plan.outer) p ≡ true
 unfolding is_open
 open_is_left_of_all plan p sound convex h =
     within_is_left_of_all plan.outer p (has_no_repeat plan.outer (simple_polygon plan.outer (parts_of_sound plan sound).outer)) convex
@@ -66,6 +67,6 @@ none_has_both plan p q sound convex is_free =
 pub seen_between_open : (plan : Plan) (p q : Point) → is_sound plan ≡ true → has_convex_polygons plan ≡ true → is_open plan p ≡ true → is_open plan q ≡ true
     → (are_in_sight (scene_of plan) p q ≡ true) ↔ SeesPast plan p q
 seen_between_open plan p q sound convex p_open q_open =
-    let parts = and_parts (is_convex (walls_round true plan.outer)) (list_all (λ o. is_convex (walls_of_obstacle o)) plan.obstacles) convex in
+    let parts = and_parts (is_convex (walls_round Counterclockwise plan.outer)) (list_all (λ o. is_convex (walls_of_obstacle o)) plan.obstacles) convex in
     seen_among_convex_polygons plan p q (convex_obstacles plan sound parts.1)
     (open_is_left_of_all plan p sound parts.0 p_open) (open_is_left_of_all plan q sound parts.0 q_open) (none_has_both plan p q sound parts.1 p_open)

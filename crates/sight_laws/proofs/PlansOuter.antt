@@ -10,6 +10,7 @@ use Rattle.int_laws.proofs.Tests.{tested_at_most}
 use Rattle.plane_spec.specs.declared.Point.{Point}
 use Rattle.plane_spec.specs.declared.Segment.{Segment}
 use Rattle.plane_spec.specs.declared.Corner.{Corner}
+use Rattle.plane_spec.specs.declared.Orientation.TheVariants.{Counterclockwise, Clockwise}
 use Rattle.plane_spec.specs.Vectors.{vector, orient_of, same_point, is_left, lies_left}
 use Rattle.plane_spec.specs.Segments.{are_opposite, cross_properly, is_on_segment}
 use Rattle.plane_spec.specs.Cones.{is_in_cone}
@@ -103,17 +104,17 @@ none_turned test turn xs ys same none =
     none s.it s.is_in (subst (λ t. test t ≡ true) (sym s.is) f.passes))
 
 -- no wall and no corner is in the way
-pub outer_unblocked : (points : List Point) (p q : Point) → is_on_or_inside (walls_round true points) p ≡ true → is_on_or_inside (walls_round true points) q ≡ true
-    → IsUnblocked p q (walls_round false points) (corners_round false points)
+pub outer_unblocked : (points : List Point) (p q : Point) → is_on_or_inside (walls_round Counterclockwise points) p ≡ true → is_on_or_inside (walls_round Counterclockwise points) q ≡ true
+    → IsUnblocked p q (walls_round Clockwise points) (corners_round Clockwise points)
 outer_unblocked points p q hp hq =
-    let walls = walls_round true points in
-    let corners = corners_round true points in
+    let walls = walls_round Counterclockwise points in
+    let corners = corners_round Counterclockwise points in
     record {
-      uncrossed = none_turned (crosses p q) turned_edge walls (walls_round false points) (outer_walls_turned points)
+      uncrossed = none_turned (crosses p q) turned_edge walls (walls_round Clockwise points) (outer_walls_turned points)
           (λ w i. not_crossed p q w (beside walls p w hp i) (beside walls q w hq i));
-      unentered = none_turned (enters_wall p q) turned_edge walls (walls_round false points) (outer_walls_turned points)
+      unentered = none_turned (enters_wall p q) turned_edge walls (walls_round Clockwise points) (outer_walls_turned points)
           (λ w i. not_entered p q w (beside walls p w hp i) (beside walls q w hq i));
-      unstopped = none_turned (corner_blocks p q) turned_corner corners (corners_round false points) (outer_corners_turned points)
+      unstopped = none_turned (corner_blocks p q) turned_corner corners (corners_round Clockwise points) (outer_corners_turned points)
           (λ c i. let stands = corners_of_points points c i in
           not_blocked p q c (beside walls p (wall_before c) hp stands.before) (beside walls p (wall_after c) hp stands.after)
           (beside walls q (wall_before c) hq stands.before) (beside walls q (wall_after c) hq stands.after));
@@ -124,6 +125,6 @@ unblocked_by : (p q : Point) (walls : List Segment) (corners : List Corner) → 
 unfolding is_blocked
 unblocked_by p q walls corners free = rw (append-nil walls, free.uncrossed, free.unentered, free.unstopped) refl
 
-pub outer_blocks_nothing : (points : List Point) (p q : Point) → is_on_or_inside (walls_round true points) p ≡ true → is_on_or_inside (walls_round true points) q ≡ true
+pub outer_blocks_nothing : (points : List Point) (p q : Point) → is_on_or_inside (walls_round Counterclockwise points) p ≡ true → is_on_or_inside (walls_round Counterclockwise points) q ≡ true
     → is_blocked (outer_alone points) p q ≡ false
-outer_blocks_nothing points p q hp hq = unblocked_by p q (walls_round false points) (corners_round false points) (outer_unblocked points p q hp hq)
+outer_blocks_nothing points p q hp hq = unblocked_by p q (walls_round Clockwise points) (corners_round Clockwise points) (outer_unblocked points p q hp hq)

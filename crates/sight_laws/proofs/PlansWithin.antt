@@ -10,6 +10,7 @@ use Rattle.int_laws.proofs.Tests.{tested_equal, at_most_tested}
 use Rattle.plan_laws.proofs.Lists.{list_all_weaker}
 use Rattle.plane_spec.specs.declared.Point.{Point}
 use Rattle.plane_spec.specs.declared.Segment.{Segment}
+use Rattle.plane_spec.specs.declared.Orientation.TheVariants.{Counterclockwise}
 use Rattle.plane_spec.specs.Vectors.{vector, dot_of, orient_of, same_point, lies_left}
 use Rattle.plane_spec.specs.Polygons.{edges_of, is_on_edge, is_on_border, is_inside, has_repeat}
 use Rattle.plan_spec.specs.Scene.{walls_round}
@@ -58,12 +59,12 @@ height_between x a b j there at_a at_b =
         let second = not_negative_product (dot_of d (vector a x)) (height j b) (omega (arith, ints, before)) at_b in
         not_negative_factor (dot_of d d) (height j x) (omega (arith, ints, mean, first, second)) (omega (arith, ints, whole, before, after))
 
-border_is_left_of_all : (points : List Point) (x : Point) → is_convex (walls_round true points) ≡ true → is_on_border x points ≡ true
-    → is_on_or_inside (walls_round true points) x ≡ true
+border_is_left_of_all : (points : List Point) (x : Point) → is_convex (walls_round Counterclockwise points) ≡ true → is_on_border x points ≡ true
+    → is_on_or_inside (walls_round Counterclockwise points) x ≡ true
 border_is_left_of_all points x convex h =
     let edge = found (is_on_edge x) (edges_of points) h in
     let e = edge.it in
-    all_pass (λ w. int_le (pos 0) (orient_of w.a w.b x)) (walls_round true points)
+    all_pass (λ w. int_le (pos 0) (orient_of w.a w.b x)) (walls_round Counterclockwise points)
     (λ w i. at_most_tested (pos 0) (height w x)
     (height_between x e.a e.b w (between x e.a e.b edge.passes)
     (level points convex w e.a i (edge_begin_in points e edge.is_in)) (level points convex w e.b i (edge_end_in points e edge.is_in))))
@@ -74,17 +75,17 @@ left_is_not_right : (w : Segment) (x : Point) → lies_left w.a w.b x ≡ true �
 left_is_not_right w x h = at_most_tested (pos 0) (orient_of w.a w.b x) (let side = tested_positive (orient_of w.a w.b x) h in omega (arith, ints, side))
 
 -- what is on the border of a convex polygon or inside it is on or left of all its walls
-pub within_is_left_of_all : (points : List Point) (x : Point) → has_repeat points ≡ false → is_convex (walls_round true points) ≡ true
-    → (is_on_border x points || is_inside x points) ≡ true → is_on_or_inside (walls_round true points) x ≡ true
+pub within_is_left_of_all : (points : List Point) (x : Point) → has_repeat points ≡ false → is_convex (walls_round Counterclockwise points) ≡ true
+    → (is_on_border x points || is_inside x points) ≡ true → is_on_or_inside (walls_round Counterclockwise points) x ≡ true
 within_is_left_of_all points x apart convex h =
     elim (or_cases (is_on_border x points) (is_inside x points) h) [
       | inl border ↦ border_is_left_of_all points x convex border
-      | inr inside ↦ list_all_weaker (λ w. lies_left w.a w.b x) (λ w. int_le (pos 0) (orient_of w.a w.b x)) (λ w. left_is_not_right w x) (walls_round true points)
+      | inr inside ↦ list_all_weaker (λ w. lies_left w.a w.b x) (λ w. int_le (pos 0) (orient_of w.a w.b x)) (λ w. left_is_not_right w x) (walls_round Counterclockwise points)
           (strictly_inside points x apart convex inside)
     ]
 
 -- so a convex outer polygon isn't in the way between two such points
-pub blocks_nothing_within : (points : List Point) (p q : Point) → has_repeat points ≡ false → is_convex (walls_round true points) ≡ true
+pub blocks_nothing_within : (points : List Point) (p q : Point) → has_repeat points ≡ false → is_convex (walls_round Counterclockwise points) ≡ true
     → (is_on_border p points || is_inside p points) ≡ true → (is_on_border q points || is_inside q points) ≡ true → is_blocked (outer_alone points) p q ≡ false
 blocks_nothing_within points p q apart convex hp hq =
     outer_blocks_nothing points p q (within_is_left_of_all points p apart convex hp) (within_is_left_of_all points q apart convex hq)

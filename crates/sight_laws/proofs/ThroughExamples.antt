@@ -2,6 +2,7 @@
 use Rattle.std.specs.Prelude.{◌≡◌, refl, List, [], ◌∷◌, ℤ, pos, true, false}
 use Rattle.std.proofs.Common.{arith}
 use Rattle.plane_spec.specs.declared.Point.{Point}
+use Rattle.plane_spec.specs.declared.Orientation.TheVariants.{Counterclockwise}
 use Rattle.plane_spec.specs.Vectors.{point}
 use Rattle.plane_spec.specs.Polygons.{edges_to, is_counterclockwise}
 use Rattle.plan_spec.specs.Scene.{walls_round}
@@ -28,38 +29,38 @@ notched_box = at (pos 0) (pos 0) ∷ at (pos 3) (pos 0) ∷ at (pos 3) (pos 3) �
 
 -- ---- convex
 
-a_box_is_convex : is_convex (walls_round true box) ≡ true
+a_box_is_convex : is_convex (walls_round Counterclockwise box) ≡ true
 unfolding walls_round is_counterclockwise edges_to
 a_box_is_convex = refl
 
-a_box_is_convex_either_way_round : is_convex (walls_round true clockwise_box) ≡ true
+a_box_is_convex_either_way_round : is_convex (walls_round Counterclockwise clockwise_box) ≡ true
 unfolding walls_round is_counterclockwise edges_to
 a_box_is_convex_either_way_round = refl
 
-straight_corners_are_convex : is_convex (walls_round true box_with_a_straight_corner) ≡ true
+straight_corners_are_convex : is_convex (walls_round Counterclockwise box_with_a_straight_corner) ≡ true
 unfolding walls_round is_counterclockwise edges_to
 straight_corners_are_convex = refl
 
-a_notched_box_is_not_convex : is_convex (walls_round true notched_box) ≡ false
+a_notched_box_is_not_convex : is_convex (walls_round Counterclockwise notched_box) ≡ false
 unfolding walls_round is_counterclockwise edges_to
 a_notched_box_is_not_convex = refl
 
 -- ---- inside
 
-off_the_border_is_inside : is_strictly_inside (walls_round true clockwise_box) (at (pos 1) (pos 2)) ≡ true
+off_the_border_is_inside : is_strictly_inside (walls_round Counterclockwise clockwise_box) (at (pos 1) (pos 2)) ≡ true
 unfolding walls_round is_counterclockwise edges_to
 off_the_border_is_inside = refl
 
-the_border_is_not_inside : is_strictly_inside (walls_round true box) (at (pos 3) (pos 2)) ≡ false
+the_border_is_not_inside : is_strictly_inside (walls_round Counterclockwise box) (at (pos 3) (pos 2)) ≡ false
 unfolding walls_round is_counterclockwise edges_to
 the_border_is_not_inside = refl
 
 -- ---- passing through
 
-a_diagonal_passes_through : PassesThrough (walls_round true box) (at (pos 0) (pos 0)) (at (pos 3) (pos 3))
+a_diagonal_passes_through : PassesThrough (walls_round Counterclockwise box) (at (pos 0) (pos 0)) (at (pos 3) (pos 3))
 unfolding walls_round is_counterclockwise edges_to
 a_diagonal_passes_through = (1, 2, omega arith, omega arith, refl)
 
-past_a_cut_corner_without_a_whole_point_inside : PassesThrough (walls_round true box) (at (pos 2) (pos 0)) (at (pos 3) (pos 1))
+past_a_cut_corner_without_a_whole_point_inside : PassesThrough (walls_round Counterclockwise box) (at (pos 2) (pos 0)) (at (pos 3) (pos 1))
 unfolding walls_round is_counterclockwise edges_to
 past_a_cut_corner_without_a_whole_point_inside = (1, 2, omega arith, omega arith, refl)

@@ -14,6 +14,7 @@ use Rattle.plan_laws.proofs.Lists.{list_any_map}
 use Rattle.plane_spec.specs.declared.Point.{Point}
 use Rattle.plane_spec.specs.declared.Segment.{Segment}
 use Rattle.plane_spec.specs.declared.Corner.{Corner}
+use Rattle.plane_spec.specs.declared.Orientation.TheVariants.{Counterclockwise, Clockwise}
 use Rattle.plane_spec.specs.Vectors.{orient_of, lies_left, same_point}
 use Rattle.plane_spec.specs.Polygons.{is_counterclockwise}
 use Rattle.plan_spec.specs.Plan.{Obstacle, Plan}
@@ -27,19 +28,19 @@ use Rattle.sight_laws.proofs.ThroughFacts.{IsPassed, IsFreeOn, IsFreeBack, wall_
 
 -- ---- the walls and corners of an obstacle, whichever way its points go round
 
-pub walls_on : (start : Point) (points : List Point) → is_counterclockwise (start ∷ points) ≡ true → walls_round true (start ∷ points) ≡ map edge_after (ring start points)
+pub walls_on : (start : Point) (points : List Point) → is_counterclockwise (start ∷ points) ≡ true → walls_round Counterclockwise (start ∷ points) ≡ map edge_after (ring start points)
 unfolding walls_round
 walls_on start points h = rw h (edges_of_is start points)
 
-corners_on : (start : Point) (points : List Point) → is_counterclockwise (start ∷ points) ≡ true → corners_round true (start ∷ points) ≡ ring start points
+corners_on : (start : Point) (points : List Point) → is_counterclockwise (start ∷ points) ≡ true → corners_round Counterclockwise (start ∷ points) ≡ ring start points
 unfolding corners_round
 corners_on start points h = rw h (corners_along_is start points)
 
-pub walls_back : (start : Point) (points : List Point) → is_counterclockwise (start ∷ points) ≡ false → walls_round true (start ∷ points) ≡ map wall_back (ring start points)
+pub walls_back : (start : Point) (points : List Point) → is_counterclockwise (start ∷ points) ≡ false → walls_round Counterclockwise (start ∷ points) ≡ map wall_back (ring start points)
 unfolding walls_round
 walls_back start points h = rw h (ap (map turned_edge) (edges_of_is start points) ∙ map-map turned_edge edge_after (ring start points))
 
-corners_back : (start : Point) (points : List Point) → is_counterclockwise (start ∷ points) ≡ false → corners_round true (start ∷ points) ≡ map turned_corner (ring start points)
+corners_back : (start : Point) (points : List Point) → is_counterclockwise (start ∷ points) ≡ false → corners_round Counterclockwise (start ∷ points) ≡ map turned_corner (ring start points)
 unfolding corners_round
 corners_back start points h = rw h (ap (map turned_corner) (corners_along_is start points))
 
@@ -135,32 +136,32 @@ not_free_back start points p q walls corners walls_are corners_are convex outsid
     (convex_pairs wall_back cs (subst (λ t. is_convex t ≡ true) walls_are convex))
     (free_back cs p q (subst (λ t. IsUnblocked p q (map wall_back cs) t) corners_are (subst (λ t. IsUnblocked p q t corners) walls_are free)))
 
-not_free_from : (points : List Point) (p q : Point) → is_convex (walls_round true points) ≡ true → is_strictly_inside (walls_round true points) p ≡ false
-    → PassesThrough (walls_round true points) p q → IsUnblocked p q (walls_round true points) (corners_round true points) → ⊥
+not_free_from : (points : List Point) (p q : Point) → is_convex (walls_round Counterclockwise points) ≡ true → is_strictly_inside (walls_round Counterclockwise points) p ≡ false
+    → PassesThrough (walls_round Counterclockwise points) p q → IsUnblocked p q (walls_round Counterclockwise points) (corners_round Counterclockwise points) → ⊥
 unfolding walls_round is_counterclockwise
 not_free_from [] p q convex outside way free = let absurdity : true ≡ false = outside in cc
 not_free_from (start ∷ points) p q convex outside way free =
     elim (cases_Bool (is_counterclockwise (start ∷ points))) [
-      | inl h ↦ not_free_on start points p q (walls_round true (start ∷ points)) (corners_round true (start ∷ points)) (walls_on start points h) (corners_on start points h) convex outside way free
-      | inr h ↦ not_free_back start points p q (walls_round true (start ∷ points)) (corners_round true (start ∷ points)) (walls_back start points h) (corners_back start points h) convex outside way free
+      | inl h ↦ not_free_on start points p q (walls_round Counterclockwise (start ∷ points)) (corners_round Counterclockwise (start ∷ points)) (walls_on start points h) (corners_on start points h) convex outside way free
+      | inr h ↦ not_free_back start points p q (walls_round Counterclockwise (start ∷ points)) (corners_round Counterclockwise (start ∷ points)) (walls_back start points h) (corners_back start points h) convex outside way free
     ]
 
 -- the same from the end that is outside
-not_free_by : (t : Bool) (points : List Point) (p q : Point) → is_strictly_inside (walls_round true points) p ≡ t → is_convex (walls_round true points) ≡ true
-    → (t && is_strictly_inside (walls_round true points) q) ≡ false
-    → PassesThrough (walls_round true points) p q → IsUnblocked p q (walls_round true points) (corners_round true points) → ⊥
+not_free_by : (t : Bool) (points : List Point) (p q : Point) → is_strictly_inside (walls_round Counterclockwise points) p ≡ t → is_convex (walls_round Counterclockwise points) ≡ true
+    → (t && is_strictly_inside (walls_round Counterclockwise points) q) ≡ false
+    → PassesThrough (walls_round Counterclockwise points) p q → IsUnblocked p q (walls_round Counterclockwise points) (corners_round Counterclockwise points) → ⊥
 not_free_by false points p q h convex outside way free = not_free_from points p q convex h way free
 not_free_by true points p q h convex outside way free =
-    not_free_from points q p convex outside (passes_turned (walls_round true points) p q way) (unblocked_turned p q (walls_round true points) (corners_round true points) free)
+    not_free_from points q p convex outside (passes_turned (walls_round Counterclockwise points) p q way) (unblocked_turned p q (walls_round Counterclockwise points) (corners_round Counterclockwise points) free)
 
-not_free : (points : List Point) (p q : Point) → is_convex (walls_round true points) ≡ true
-    → (is_strictly_inside (walls_round true points) p && is_strictly_inside (walls_round true points) q) ≡ false
-    → PassesThrough (walls_round true points) p q → IsUnblocked p q (walls_round true points) (corners_round true points) → ⊥
-not_free points p q = not_free_by (is_strictly_inside (walls_round true points) p) points p q refl
+not_free : (points : List Point) (p q : Point) → is_convex (walls_round Counterclockwise points) ≡ true
+    → (is_strictly_inside (walls_round Counterclockwise points) p && is_strictly_inside (walls_round Counterclockwise points) q) ≡ false
+    → PassesThrough (walls_round Counterclockwise points) p q → IsUnblocked p q (walls_round Counterclockwise points) (corners_round Counterclockwise points) → ⊥
+not_free points p q = not_free_by (is_strictly_inside (walls_round Counterclockwise points) p) points p q refl
 
-pub blocked_alone : (points : List Point) (p q : Point) → is_convex (walls_round true points) ≡ true
-    → (is_strictly_inside (walls_round true points) p && is_strictly_inside (walls_round true points) q) ≡ false
-    → PassesThrough (walls_round true points) p q → is_blocked (obstacle_alone points) p q ≡ true
+pub blocked_alone : (points : List Point) (p q : Point) → is_convex (walls_round Counterclockwise points) ≡ true
+    → (is_strictly_inside (walls_round Counterclockwise points) p && is_strictly_inside (walls_round Counterclockwise points) q) ≡ false
+    → PassesThrough (walls_round Counterclockwise points) p q → is_blocked (obstacle_alone points) p q ≡ true
 blocked_alone points p q convex outside way =
     true_from_ne_false (is_blocked (obstacle_alone points) p q)
     (λ free. not_free points p q convex outside way (unblocked_parts (obstacle_alone points) p q free))
@@ -190,17 +191,17 @@ none_of_last test f before xs x there h =
 
 -- what isn't in the way in a plan isn't in the way in one of its obstacles
 unblocked_member : (plan : Plan) (o : Obstacle) (p q : Point) → Contains plan.obstacles o → is_blocked (scene_of plan) p q ≡ false
-    → IsUnblocked p q (walls_round true o.points) (corners_round true o.points)
+    → IsUnblocked p q (walls_round Counterclockwise o.points) (corners_round Counterclockwise o.points)
 unblocked_member plan o p q there h =
     let all = unblocked_parts (scene_of plan) p q h in
     record {
-      uncrossed = none_of_last (crosses p q) walls_of_obstacle (walls_round false plan.outer) plan.obstacles o there all.uncrossed;
-      unentered = none_of_last (enters_wall p q) walls_of_obstacle (walls_round false plan.outer) plan.obstacles o there all.unentered;
-      unstopped = none_of_member (corner_blocks p q) corners_of_obstacle (corners_round false plan.outer) (flat_map ends_of_screen plan.screens) plan.obstacles o there all.unstopped;
+      uncrossed = none_of_last (crosses p q) walls_of_obstacle (walls_round Clockwise plan.outer) plan.obstacles o there all.uncrossed;
+      unentered = none_of_last (enters_wall p q) walls_of_obstacle (walls_round Clockwise plan.outer) plan.obstacles o there all.unentered;
+      unstopped = none_of_member (corner_blocks p q) corners_of_obstacle (corners_round Clockwise plan.outer) (flat_map ends_of_screen plan.screens) plan.obstacles o there all.unstopped;
     }
 
-pub unseen_in_plan : (plan : Plan) (o : Obstacle) (p q : Point) → Contains plan.obstacles o → is_convex (walls_round true o.points) ≡ true
-    → (is_strictly_inside (walls_round true o.points) p && is_strictly_inside (walls_round true o.points) q) ≡ false → PassesThrough (walls_round true o.points) p q → are_in_sight (scene_of plan) p q ≡ false
+pub unseen_in_plan : (plan : Plan) (o : Obstacle) (p q : Point) → Contains plan.obstacles o → is_convex (walls_round Counterclockwise o.points) ≡ true
+    → (is_strictly_inside (walls_round Counterclockwise o.points) p && is_strictly_inside (walls_round Counterclockwise o.points) q) ≡ false → PassesThrough (walls_round Counterclockwise o.points) p q → are_in_sight (scene_of plan) p q ≡ false
 unfolding are_in_sight
 unseen_in_plan plan o p q there convex outside way =
     let blocked = true_from_ne_false (is_blocked (scene_of plan) p q) (λ free. not_free o.points p q convex outside way (unblocked_member plan o p q there free)) in

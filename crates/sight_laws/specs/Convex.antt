@@ -3,6 +3,7 @@ use Rattle.std.specs.Prelude.{ℕ, pos, ◌<◌, ◌+ℤ◌, ◌-ℤ◌, ◌*ℤ
 use Rattle.std.specs.List.{list_any, list_all}
 use Rattle.plane_spec.specs.declared.Point.{Point}
 use Rattle.plane_spec.specs.declared.Segment.{Segment}
+use Rattle.plane_spec.specs.declared.Orientation.TheVariants.{Counterclockwise, Clockwise}
 use Rattle.plane_spec.specs.Vectors.{point, orient_of, same_point, lies_left}
 use Rattle.plane_spec.specs.Polygons.{is_simple}
 use Rattle.plan_spec.specs.Plan.{Obstacle, Plan}
@@ -11,11 +12,11 @@ use Rattle.plan_spec.specs.Sight.{crosses}
 
 -- the walls and corners of one obstacle, and nothing else
 abbrev pub obstacle_alone : List Point → Scene
-obstacle_alone points = record { walls = walls_round true points; screens = []; corners = corners_round true points }
+obstacle_alone points = record { walls = walls_round Counterclockwise points; screens = []; corners = corners_round Counterclockwise points }
 
 -- the walls and corners of an outer polygon, and nothing else
 abbrev pub outer_alone : List Point → Scene
-outer_alone points = record { walls = walls_round false points; screens = []; corners = corners_round false points }
+outer_alone points = record { walls = walls_round Clockwise points; screens = []; corners = corners_round Clockwise points }
 
 -- each corner is on or left of each wall
 abbrev pub is_convex : List Segment → Bool
@@ -53,7 +54,7 @@ is_convex_obstacle o = is_simple o.points && is_convex (walls_of_obstacle o)
 
 -- the outer polygon and all obstacles are convex
 abbrev pub has_convex_polygons : Plan → Bool
-has_convex_polygons plan = is_convex (walls_round true plan.outer) && list_all (λ o. is_convex (walls_of_obstacle o)) plan.obstacles
+has_convex_polygons plan = is_convex (walls_round Counterclockwise plan.outer) && list_all (λ o. is_convex (walls_of_obstacle o)) plan.obstacles
 
 -- both points are strictly inside the obstacle
 abbrev pub has_both_inside : Point → Point → Obstacle → Bool

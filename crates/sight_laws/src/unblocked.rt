@@ -2,6 +2,7 @@
 
 ghost use Rattle.std.specs.Prelude.{◌≡◌, List, true};
 ghost use Rattle.plane_spec.specs.declared.Point.{Point};
+ghost use Rattle.plane_spec.specs.declared.Orientation.TheVariants.{Counterclockwise};
 ghost use Rattle.plane_spec.specs.Polygons.{is_simple};
 ghost use Rattle.plan_spec.specs.Scene.{walls_round};
 ghost use Rattle.plan_spec.specs.Sight.{is_blocked};
@@ -13,5 +14,5 @@ ghost use Rattle.sight_laws.specs.Convex.{PassesThrough, is_convex, obstacle_alo
 ///
 /// Coordinates are any whole numbers, the obstacle's points go round either way, and corners may be straight.
 pub fn a_convex_obstacle_blocks_no_more()
-    ensures { (points : List Point) (p q : Point) → is_simple points ≡ true → is_convex (walls_round true points) ≡ true → is_blocked (obstacle_alone points) p q ≡ true → PassesThrough (walls_round true points) p q }
+    ensures { (points : List Point) (p q : Point) → is_simple points ≡ true → is_convex (walls_round Counterclockwise points) ≡ true → is_blocked (obstacle_alone points) p q ≡ true → PassesThrough (walls_round Counterclockwise points) p q }
 {}

@@ -1,11 +1,7 @@
-use Rattle.std.proofs.Common.{◌≡◌, ◌≢◌, true, ℤ, pos, ◌-ℤ◌, arith}
+use Rattle.std.proofs.Common.{◌∙◌, sym, arith}
 use Rattle.std.proofs.lemmas.Int.{ints, to_z-of_z}
-use Rattle.plane_spec.specs.Segments.{are_opposite}
-use Rattle.plane_spec.specs.Vectors.{cross_of, vector}
+use Rattle.sight_core.proofs.Widths.{width_is}
 use Rattle.sight_core.proofs.hits.width.Goals as goal
-
-apart : (s t : ℤ) → are_opposite s t ≡ true → t -ℤ s ≢ pos 0
-apart s t h = grind (arith, ints)
 
 pub returns-clause-value : goal.returns-clause-value
 returns-clause-value c = grind (arith, to_z-of_z)
@@ -14,9 +10,7 @@ pub returns-clause-within : goal.returns-clause-within
 returns-clause-within c = record { low = omega (arith, ints); high = omega (arith, ints) }
 
 pub returns-clause-some : goal.returns-clause-some
-returns-clause-some c =
-    rw (returns-clause-value c)
-    (apart (cross_of c.args.d (vector c.args.p c.args.wall.now.a)) (cross_of c.args.d (vector c.args.p c.args.wall.now.b)) c.requires.across)
+returns-clause-some c = λ none. c.requires.turned (sym (width_is c.args.p c.args.d c.args.wall.now) ∙ sym (returns-clause-value c) ∙ none)
 
 pub overflow_sub-result : goal.overflow_sub-result
 overflow_sub-result c = omega (arith, ints)

@@ -1,8 +1,0 @@
-use Rattle.sight_core.proofs.Stops.{stop_is_ahead, stop_is_small}
-use Rattle.sight_core.proofs.reach.stops_are_small.Goals as goal
-
-pub returns-clause-small : goal.returns-clause-small
-returns-clause-small c = stop_is_small
-
-pub returns-clause-ahead : goal.returns-clause-ahead
-returns-clause-ahead c = stop_is_ahead
