@@ -4,6 +4,7 @@
 //! |---|---|
 //! | [`read_plan`] | the items of a plan's text with the numbers of their lines, or the first line outside the grammar |
 //! | [`read_line`] | the edit or the question of a line of a script, or why it is outside the grammar |
+//! | [`shown_lines_are_read`] | the law that a line without its carriage return is read as it stands in the script |
 //! | [`print_plan`] | the text of items |
 //! | [`prints_and_reads`] | the law that what is printed is read again |
 //! | [`accepted_plans_are_printable`] | the law that the items of a sound plan keep the limits of printing |
@@ -17,6 +18,7 @@
 //! cut into lines and words in place: only the points of polygons, items and the printed text take memory.
 #![tactic(auto)]
 
+mod arguments;
 mod faults;
 mod fields;
 mod numbers;
@@ -25,7 +27,6 @@ mod plans;
 mod polygons;
 mod printing;
 mod script_lines;
-mod shapes;
 mod words;
 
 pub use faults::{ReadLineFault, ReadPlanFault};
@@ -34,7 +35,7 @@ pub use plane_spec::Point;
 pub use plans::{PlanText, read_plan};
 pub use printing::{accepted_plans_are_printable, print_plan, prints_and_reads};
 pub use report_spec::{Line, LineNumbers, Query, TextWhy};
-pub use script_lines::read_line;
+pub use script_lines::{read_line, shown_lines_are_read};
 pub use text_spec::{Name, NoMemory};
 
 #[cfg(test)]

@@ -5,8 +5,8 @@ use Rattle.plan_spec.specs.declared.refusals.Why.{Why}
 use Rattle.plan_spec.specs.Plan.{Plan}
 use Rattle.plan_spec.specs.Edits.{why_not_edit}
 use Rattle.report_spec.specs.declared.readings.TextWhy.{TextWhy}
-use Rattle.report_spec.specs.declared.readings.Line.{Line}
-use Rattle.report_spec.specs.declared.readings.Line.TheVariants.{Blank, Edit as OfEdit, Query as OfQuery}
+use Rattle.report_spec.specs.declared.script_line.Line.{Line}
+use Rattle.report_spec.specs.declared.script_line.Line.TheVariants.{Blank, Edit as OfEdit, Query as OfQuery}
 use Rattle.report_spec.specs.declared.replies.Form.{Form}
 use Rattle.report_spec.specs.ScriptText.{read_line_of_script}
 use Rattle.report_spec.specs.Records.{records_bytes}

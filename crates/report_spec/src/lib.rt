@@ -3,7 +3,9 @@
 //!
 //! | item | what it is |
 //! |---|---|
-//! | [`Line`], [`Query`] | a line of a script: blank, an edit or a question |
+//! | [`PlanLine`], [`Version`], [`PlanWord`] | a line of a plan: blank, a header or an item |
+//! | [`Line`], [`Query`], [`ScriptWord`] | a line of a script: blank, an edit or a question |
+//! | [`Count`] | how many numbers a line has |
 //! | [`TextWhy`] | why a line is outside the grammar |
 //! | [`LineNumbers`] | the numbers of the lines on which items stand |
 //! | [`Form`] | how records are printed: as text or as csv |
@@ -13,8 +15,14 @@
 //! `Tables`, `Replies`, `Trial`, `Output`, `PlanFile`, `Messages`.
 #![tactic(auto)]
 
+mod arguments;
+mod plan_line;
 mod readings;
 mod replies;
+mod script_line;
 
-pub use readings::{Line, LineNumbers, Query, TextWhy};
+pub use arguments::Count;
+pub use plan_line::{PlanLine, PlanWord, Version};
+pub use readings::{LineNumbers, TextWhy};
 pub use replies::{Form, Reason};
+pub use script_line::{Line, Query, ScriptWord};

@@ -1,20 +1,19 @@
-//! What is read from a line.
+//! Why a line isn't read, and on which lines items stand.
 
 ghost use Rattle.std.specs.Prelude.{◌≡◌, ◌∷◌, ◌++◌, [], OnOk, OnErr};
 
-use plan_spec::Edit;
-use plane_spec::Point;
 use std::alloc::Global;
 use std::marker::Model;
-use text_spec::{Name, NoMemory};
+use text_spec::NoMemory;
 
-/// Why a line is outside the grammar: the first that holds, in this order, where a wrong name or number is told by the
-/// leftmost wrong word.
+/// Why a line is outside the grammar. Where several hold, it is told first that the line is too long, then that its first
+/// word is none of the grammar's, then a wrong number of words, then the word after `show`, and last a wrong name or number.
+/// So `show foo bar` has a wrong number of words, and `show foo` is of no kind.
 #[derive(Clone, Copy, Debug, PartialEq, Eq)]
 pub enum TextWhy {
     /// More than 20000 bytes stand before the newline.
     Long,
-    /// The first word, or the word after `show`, is none of the grammar's.
+    /// The first word, or the word after `show`, is none of the grammar's, or a header was due and this is none.
     Kind,
     /// The number of words is wrong.
     Words,
@@ -22,28 +21,6 @@ pub enum TextWhy {
     Name,
     /// A word in a number's place is no number.
     Number,
-}
-
-/// A question of a script. Points may be out of range.
-#[derive(Drop)]
-pub enum Query {
-    Edges,
-    Points,
-    Axial,
-    Lines,
-    Segments,
-    Plan,
-    Depth(Point),
-    Isovist(Point),
-    Turns(Name),
-}
-
-/// A line of a script.
-#[derive(Drop)]
-pub enum Line {
-    Blank,
-    Edit(Edit),
-    Query(Query),
 }
 
 /// The numbers of lines, counted from 1. Contracts see a list of numbers.
