@@ -1,20 +1,10 @@
 -- A line of a script, read without its carriage return.
-use Rattle.std.proofs.Common.{◌≡◌, ℕ, ◌≤◌, Bool, true, false, List, [], ◌∷◌, length, cond, eqb, nat_lt, Err, refl, ap, arith}
-use Rattle.text_spec.specs.Lines.{is_long, without_return}
+use Rattle.std.proofs.Common.{◌≡◌, ℕ, ◌≤◌, true, false, List, length, nat_lt, Err, refl, ap, arith}
+use Rattle.text_spec.specs.Lines.{is_long}
+use Rattle.text_spec.proofs.Returns.{shown_within}
 use Rattle.report_spec.specs.declared.readings.TextWhy.TheVariants.{Long}
 use Rattle.report_spec.specs.ScriptText.{read_line_of_script}
 use Rattle.plan_text.specs.Readings.{IsShown, reading_of_shown}
-
-one_within : (t : Bool) (b : ℕ) → length (cond t [] (b ∷ [])) ≤ 1
-one_within true b = omega arith
-one_within false b = omega arith
-
--- without its return a line has no more bytes
-shown_within : (line : List ℕ) → length (without_return line) ≤ length line
-unfolding without_return
-shown_within [] = omega arith
-shown_within (b ∷ []) = one_within (eqb b 13) b
-shown_within (b ∷ c ∷ bytes) = omega (arith, shown_within (c ∷ bytes))
 
 not_long : (shown line : ℕ) → shown ≤ line → nat_lt 20000 line ≡ false → nat_lt 20000 shown ≡ false
 not_long shown line h e = grind arith

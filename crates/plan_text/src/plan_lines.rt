@@ -9,10 +9,11 @@ ghost use Rattle.plan_text.specs.Answers.{Answers};
 use crate::arguments::{corners, grid, named_corners, named_polygon, polygon};
 use crate::faults::ReadLineFault;
 use crate::polygons::box_points;
-use crate::words::{begins_comment, is_long, is_word, next_word, without_return};
+use crate::words::{begins_comment, is_long, is_word, next_word};
 use plan_spec::Item;
 use report_spec::{PlanLine, PlanWord, TextWhy, Version};
 use std::alloc::Global;
+use text_spec::without_return;
 
 /// Whether screens may stand in a plan of this version.
 fn has_screens(version: Version) -> bool

@@ -3,6 +3,7 @@
 ghost use Rattle.std.specs.Prelude.{◌≡◌, ◌≤◌, OnOk, length};
 ghost use Rattle.plan_text.specs.PartialPlans.{with_line};
 ghost use Rattle.plan_text.specs.Answers.{fault_at};
+ghost use Rattle.report_spec.specs.declared.limits.TheConstants.{LONGEST_PLAN};
 ghost use Rattle.plan_text.specs.Readings.{ReadsPlan};
 
 use crate::faults::{ReadLineFault, ReadPlanFault};
@@ -53,13 +54,13 @@ fn fault_at(line: u32, fault: ReadLineFault) -> ReadPlanFault
     }
 }
 
-/// Reads the text of a plan of at most 1,048,576 bytes: its items, each with the number of its line. `Bad` names the first
+/// Reads the text of a plan of at most [`LONGEST_PLAN`] bytes: its items, each with the number of its line. `Bad` names the first
 /// line that is outside the grammar, and the first cause that holds there; where no line is a header, the line after the
 /// last.
 ///
 /// Cost: one pass over the bytes, each looked at a constant number of times; memory for the items and their points alone.
 pub fn read_plan(alloc: Global, bytes: &[u8]) -> Result<PlanText, ReadPlanFault>
-    requires { length bytes.now ≤ 1048576 }
+    requires { length bytes.now ≤ LONGEST_PLAN }
     ensures { ReadsPlan bytes.now result }
 {
     let mut draft = PartialPlan {

@@ -1,7 +1,10 @@
 -- The text of a plan, read and printed.
-use Rattle.std.specs.Prelude.{IsTrue, ℕ, ◌+◌, ◌≤◌, List, [], ◌∷◌, ◌++◌, Bool, true, false, ◌&&◌, ◌==◌, length, map, flat_map, drop, get_or, Option, Some, None, Result, Ok, Err, ℤ, nat_le, nat_abs, if◌then◌else◌, codes, bytes_eq}
+use Rattle.std.specs.Prelude.{IsTrue, ℕ, ◌+◌, ◌≤◌, List, [], ◌∷◌, ◌++◌, Bool, true, false, ◌&&◌, ◌==◌, length, map}
+use Rattle.std.specs.Prelude.{flat_map, drop, get_or, Option, Some, None, Result, Ok, Err, ℤ, nat_le, nat_abs}
+use Rattle.std.specs.Prelude.{if◌then◌else◌, codes, bytes_eq}
 use Rattle.std.specs.List.{list_any, list_all, join_with_byte, sum_by}
 use Rattle.plane_spec.specs.declared.Point.{Point}
+use Rattle.text_spec.specs.declared.numbers.TheConstants.{LARGEST_NUMBER}
 use Rattle.text_spec.specs.Lines.{lines_of, without_return, is_long}
 use Rattle.text_spec.specs.Words.{words_of, are_blank}
 use Rattle.plan_spec.specs.declared.kinds.GridSpec.{GridSpec}
@@ -11,12 +14,21 @@ use Rattle.report_spec.specs.declared.arguments.Count.TheVariants.{Exactly, InPa
 use Rattle.report_spec.specs.declared.plan_line.Version.{Version}
 use Rattle.report_spec.specs.declared.plan_line.Version.TheVariants.{One, Two}
 use Rattle.report_spec.specs.declared.plan_line.PlanWord.{PlanWord}
-use Rattle.report_spec.specs.declared.plan_line.PlanWord.TheVariants.{Grid as GridWord, Outer as OuterWord, Outerbox as OuterboxWord, Obstacle as ObstacleWord, Box as BoxWord, Screen as ScreenWord, Route as RouteWord}
+use Rattle.report_spec.specs.declared.plan_line.PlanWord.TheVariants.{
+  Grid as GridWord,
+  Outer as OuterWord,
+  Outerbox as OuterboxWord,
+  Obstacle as ObstacleWord,
+  Box as BoxWord,
+  Screen as ScreenWord,
+  Route as RouteWord,
+}
 use Rattle.report_spec.specs.declared.plan_line.PlanLine.{PlanLine}
 use Rattle.report_spec.specs.declared.plan_line.PlanLine.TheVariants.{Blank, Header, Item as OfItem}
 use Rattle.report_spec.specs.declared.readings.TextWhy.{TextWhy}
 use Rattle.report_spec.specs.declared.readings.TextWhy.TheVariants.{Long, Kind}
-use Rattle.report_spec.specs.Shapes.{Shape, shape, Fields, read_fields, field_words, at, point_from, points_of, box_points, numbers_of_points}
+use Rattle.report_spec.specs.Shapes.{Shape, shape, Fields, read_fields, field_words, at, point_from, points_of}
+use Rattle.report_spec.specs.Shapes.{box_points, numbers_of_points}
 
 -- ---- the kinds of lines
 
@@ -78,11 +90,17 @@ abbrev pub ok_map : {A B : Type 0} → (A → B) → Result A TextWhy → Result
 ok_map f (Ok x) = Ok (f x)
 ok_map f (Err why) = Err why
 
+-- the version that a word names
+abbrev pub version_of_word : List ℕ → Option Version
+version_of_word word =
+    if bytes_eq word (codes "1") then Some One else
+    if bytes_eq word (codes "2") then Some Two else None
+
 -- the words `plan` and `1`, or `plan` and `2`
 abbrev pub version_of : List (List ℕ) → Option Version
 version_of words =
     if (length words == 2) && bytes_eq (get_or words 0 []) (codes "plan")
-    then (if bytes_eq (get_or words 1 []) (codes "1") then Some One else if bytes_eq (get_or words 1 []) (codes "2") then Some Two else None)
+    then version_of_word (get_or words 1 [])
     else None
 
 -- the item of a line of a kind, from the words after its keyword
@@ -103,8 +121,9 @@ read_plan_words (Some version) words = read_item (plan_word version (get_or word
 -- a line as it stands before its newline, after a header of a version or before any
 unfoldable pub read_plan_line : Option Version → List ℕ → Result PlanLine TextWhy
 read_plan_line version line =
-    if is_long line then Err Long
-    else (if are_blank (words_of (without_return line)) then Ok Blank else read_plan_words version (words_of (without_return line)))
+    if is_long line then Err Long else
+    if are_blank (words_of (without_return line)) then Ok Blank
+    else read_plan_words version (words_of (without_return line))
 
 -- ---- reading the whole
 
@@ -208,14 +227,15 @@ is_short_point p = is_below 999999 p.x && is_below 999999 p.y
 abbrev pub is_short_list : List Point → Bool
 is_short_list points = (nat_le 1 (length points) && nat_le (length points) 1024) && list_all is_short_point points
 
--- a point whose coordinates have at most nine digits
+-- a point whose coordinates have few enough digits
 abbrev pub is_number_point : Point → Bool
-is_number_point p = is_below 999999999 p.x && is_below 999999999 p.y
+is_number_point p = is_below LARGEST_NUMBER p.x && is_below LARGEST_NUMBER p.y
 
 -- the item's numbers have few digits, and a polygon has few corners
 abbrev pub is_printable : Item → Bool
 is_printable (Grid g) =
-    (is_below 999999999 g.step && (is_below 999999999 g.x0 && is_below 999999999 g.y0)) && (is_below 999999999 g.cols && is_below 999999999 g.rows)
+    (is_below LARGEST_NUMBER g.step && (is_below LARGEST_NUMBER g.x0 && is_below LARGEST_NUMBER g.y0))
+    && (is_below LARGEST_NUMBER g.cols && is_below LARGEST_NUMBER g.rows)
 is_printable (Outer points) = is_short_list points
 is_printable (Obstacle name points) = is_short_list points
 is_printable (Screen name from to) = is_number_point from && is_number_point to
@@ -229,7 +249,8 @@ points_in (Obstacle name points) = length points
 points_in (Screen name from to) = 0
 points_in (Route name from to) = 0
 
--- at most 2000 items, lists of at most 4096 points together, and numbers of few digits: no line is then too long, nor is the text
+-- at most 2000 items, lists of at most 4096 points together, and numbers of few digits: no line is then too long, nor
+-- is the text
 pub record ArePrintable (items : List Item) : Type 0 where
   pub few : length items ≤ 2000
   pub short : sum_by points_in items ≤ 4096

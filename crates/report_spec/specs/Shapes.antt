@@ -1,5 +1,6 @@
 -- What lines have in common: a keyword, at most one name, and then numbers.
-use Rattle.std.specs.Prelude.{ℕ, ◌+◌, List, [], ◌∷◌, ◌++◌, Bool, true, false, ◌&&◌, ◌==◌, ◌%◌, nat_lt, length, map, Option, Some, None, Result, Ok, Err, ℤ, if◌then◌else◌, get_or, pos}
+use Rattle.std.specs.Prelude.{ℕ, ◌+◌, List, [], ◌∷◌, ◌++◌, Bool, true, false, ◌&&◌, ◌==◌, ◌%◌, nat_lt, length, map}
+use Rattle.std.specs.Prelude.{Option, Some, None, Result, Ok, Err, ℤ, if◌then◌else◌, get_or, pos}
 use Rattle.std.specs.Fmt.{signed_decimal}
 use Rattle.plane_spec.specs.declared.Point.{Point}
 use Rattle.plane_spec.specs.Vectors.{point}
@@ -48,10 +49,13 @@ fields_with name (Some numbers) = Ok (record { name = name; numbers = numbers })
 
 -- by whether a name is asked for: how many words there are is tested first, then the name, then the numbers
 unfoldable pub read_fields_by : Bool → Count → List (List ℕ) → Result Fields TextWhy
-read_fields_by false count words = if is_count count (length words) then fields_with [] (numbers_of words) else Err Words
+read_fields_by false count words =
+    if is_count count (length words) then fields_with [] (numbers_of words) else Err Words
 read_fields_by true count [] = Err Words
 read_fields_by true count (word ∷ words) =
-    if is_count count (length words) then (if is_name word then fields_with word (numbers_of words) else Err Name) else Err Words
+    if is_count count (length words)
+    then (if is_name word then fields_with word (numbers_of words) else Err Name)
+    else Err Words
 
 -- the words after the keyword, read as a line of this shape
 abbrev pub read_fields : Shape → List (List ℕ) → Result Fields TextWhy
