@@ -1,38 +1,9 @@
--- Lines of bytes that are put together, and the carriage return that stands last in one.
-use Rattle.std.proofs.Common.{◌≡◌, ◌<◌, ◌-◌, ◌==◌, ◌||◌, ℕ, Bool, true, false, List, [], ◌∷◌, ◌++◌, length, get_or, take, inl, inr, refl, ap, sym, ◌∙◌, arith}
+-- Lines of bytes that are put together.
+use Rattle.std.proofs.Common.{◌≡◌, ◌<◌, ◌==◌, ◌||◌, ℕ, Bool, true, false, List, [], ◌∷◌, ◌++◌, length, inl, inr, refl, ap, sym, ◌∙◌, arith}
 use Rattle.std.specs.List.{list_any, onto_first, slice_split}
 use Rattle.std.proofs.lemmas.Grind.{common_steps}
 use Rattle.std.proofs.lemmas.Bool.{cases_Bool, cond-true, cond-false, false≢true}
-use Rattle.text_spec.specs.Lines.{is_newline, lines_of, without_empty_last, without_return}
-
--- where a carriage return stands last
-return_last : (b : ℕ) (bytes : List ℕ) → get_or (b ∷ bytes) (length bytes) 0 ≡ 13 → take (length bytes) (b ∷ bytes) ≡ without_return (b ∷ bytes)
-unfolding without_return
-return_last b [] e = rw e refl
-return_last b (c ∷ bytes) e = ap (λ r. b ∷ r) (return_last c bytes e)
-
--- where another byte stands last
-other_last : (b : ℕ) (bytes : List ℕ) → (get_or (b ∷ bytes) (length bytes) 0 == 13) ≡ false → without_return (b ∷ bytes) ≡ b ∷ bytes
-unfolding without_return
-other_last b [] e = cond-false (b == 13) [] (b ∷ []) e
-other_last b (c ∷ bytes) e = ap (λ r. b ∷ r) (other_last c bytes e)
-
-pub without_return-nil : (line : List ℕ) → length line ≡ 0 → without_return line ≡ []
-unfolding without_return
-without_return-nil [] e = refl
-without_return-nil (b ∷ line) e = absurd (omega arith)
-
-pub without_return-dropped : (line : List ℕ) → 0 < length line → get_or line (length line - 1) 0 ≡ 13 → take (length line - 1) line ≡ without_return line
-without_return-dropped [] some e = absurd (omega arith)
-without_return-dropped (b ∷ line) some e =
-    let place : length (b ∷ line) - 1 ≡ length line = omega arith in
-    rw place (return_last b line (rw place at e))
-
-pub without_return-kept : (line : List ℕ) → 0 < length line → (get_or line (length line - 1) 0 == 13) ≡ false → without_return line ≡ line
-without_return-kept [] some e = absurd (omega arith)
-without_return-kept (b ∷ line) some e =
-    let place : length (b ∷ line) - 1 ≡ length line = omega arith in
-    other_last b line (rw place at e)
+use Rattle.text_spec.specs.Lines.{is_newline, lines_of, without_empty_last}
 
 split-other : (b : ℕ) (rest : List ℕ) → is_newline b ≡ false → slice_split is_newline (b ∷ rest) ≡ onto_first b (slice_split is_newline rest)
 split-other b rest e = cond-false (is_newline b) _ _ e

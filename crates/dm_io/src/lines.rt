@@ -3,6 +3,8 @@ ghost use Rattle.std.specs.Prelude.{◌≡◌, ◌≤◌, ◌<◌, ℕ, length, 
 ghost use Rattle.text_spec.specs.Lines.{without_return};
 ghost use Rattle.dm_io.specs.Lines.{answer_of, has_newline};
 
+use text_spec::without_return;
+
 /// What a reader of lines answers.
 #[derive(Clone, Copy, Debug, PartialEq, Eq)]
 pub enum Next {
@@ -35,20 +37,12 @@ pub fn newline_after(bytes: &[u8], seen: usize) -> Option<usize>
     None
 }
 
-/// The number of bytes without a carriage return that stands last.
+/// The number of bytes that are shown of a line: all but a carriage return that stands last.
 pub fn shown_length(line: &[u8]) -> usize
     ensures shown { take result line.now ≡ without_return line.now }
     ensures within { result ≤ length line.now }
 {
-    if line.is_empty() {
-        return 0;
-    }
-    let before = line.len() - 1;
-    if line[before] == b'\r' {
-        before
-    } else {
-        line.len()
-    }
+    without_return(line).len()
 }
 
 /// How a line is answered.

@@ -32,26 +32,3 @@ alone (b ∷ bytes) h = let some : eqb (length (b ∷ bytes)) 0 ≡ false = grin
 pub last_line : (bytes : List ℕ) → 0 < length bytes → position is_newline bytes ≡ None → lines_of bytes ≡ bytes ∷ []
 last_line bytes h e =
     ap without_empty_last (slice_split_none is_newline bytes (none_passes is_newline bytes (not_found is_newline bytes e))) ∙ alone bytes h
-
--- ---- a return
-
-pub return_dropped : (front : List ℕ) → without_return (front ++ 13 ∷ []) ≡ front
-unfolding without_return
-return_dropped [] = refl
-return_dropped (b ∷ []) = refl
-return_dropped (b ∷ c ∷ bytes) = ap (λ t. b ∷ t) (return_dropped (c ∷ bytes))
-
-one_by : (t : Bool) (b : ℕ) → eqb b 13 ≡ t → (t ≡ true → ⊥) → cond (eqb b 13) [] (b ∷ []) ≡ b ∷ []
-one_by true b e h = absurd (h refl)
-one_by false b e h = rw e refl
-
-pub no_return : (line : List ℕ) → ((front : List ℕ) → line ≢ front ++ 13 ∷ []) → without_return line ≡ line
-unfolding without_return
-no_return [] h = refl
-no_return (b ∷ []) h = one_by (eqb b 13) b refl (λ e. h [] (let same : b ≡ 13 = grind arith in ap (λ n. n ∷ []) same))
-no_return (b ∷ c ∷ bytes) h = ap (λ t. b ∷ t) (no_return (c ∷ bytes) (λ front e. h (b ∷ front) (ap (λ t. b ∷ t) e)))
-
-pub stripped : (line : List ℕ) (found : Option (Bor (List ℕ))) (whole : Bor (List ℕ)) →
-    MatchOption found ((front : List ℕ) → line ≢ front ++ 13 ∷ []) (λ x. line ≡ x.now ++ 13 ∷ []) → whole.now ≡ line → (unwrap_or found whole).now ≡ without_return line
-stripped line None whole h same = same ∙ sym (no_return line h)
-stripped line (Some front) whole h same = sym (ap without_return h ∙ return_dropped front.now)

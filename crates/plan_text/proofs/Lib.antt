@@ -10,3 +10,4 @@ pub mod PrintedLengths
 pub mod PrintedText
 pub mod Shifts
 pub mod SoundItems
+mod ShownLines

@@ -1,11 +1,14 @@
 -- What is answered of a plan and of a line of a script.
-use Rattle.std.specs.Prelude.{◌≡◌, ⊤, ℕ, List, Bool, true, false, Result, Ok, Err}
+use Rattle.std.specs.Prelude.{◌≡◌, ⊤, ℕ, List, Bool, true, false, Result, Ok, Err, if◌then◌else◌}
+use Rattle.text_spec.specs.Lines.{is_long, without_return}
 use Rattle.plan_spec.specs.declared.kinds.Item.{Item}
 use Rattle.plan_spec.specs.declared.changes.Edit.TheVariants.{Add}
 use Rattle.plan_spec.specs.Edits.{HasShift}
-use Rattle.report_spec.specs.declared.readings.Line.{Line}
-use Rattle.report_spec.specs.declared.readings.Line.TheVariants.{Blank, Edit, Query}
+use Rattle.report_spec.specs.declared.script_line.Line.{Line}
+use Rattle.report_spec.specs.declared.script_line.Line.TheVariants.{Blank, Edit, Query}
 use Rattle.report_spec.specs.declared.readings.TextWhy.{TextWhy}
+use Rattle.report_spec.specs.declared.readings.TextWhy.TheVariants.{Long}
+use Rattle.report_spec.specs.ScriptText.{read_script_line}
 use Rattle.report_spec.specs.PlanText.{read_plan_text, items_read, numbers_read}
 use Rattle.plan_text.specs.declared.faults.ReadLineFault.{ReadLineFault}
 use Rattle.plan_text.specs.declared.faults.ReadLineFault.TheVariants.{Bad, NoMemory}
@@ -31,6 +34,15 @@ abbrev pub ReadsLine : Result Line TextWhy → Result Line ReadLineFault → Typ
 ReadsLine reading (Ok line) = reading ≡ Ok line
 ReadsLine reading (Err (Bad why)) = reading ≡ Err why
 ReadsLine reading (Err NoMemory) = is_add reading ≡ true
+
+-- how a line of a script is read that is given without its newline and its carriage return
+abbrev pub reading_of_shown : List ℕ → Result Line TextWhy
+reading_of_shown shown = if is_long shown then Err Long else read_script_line shown
+
+-- what is shown of a line of a script: all but its carriage return, where the line isn't too long
+pub record IsShown (line shown : List ℕ) : Type 0 where
+  pub short : is_long line ≡ false
+  pub bytes : without_return line ≡ shown
 
 -- where the line moves an obstacle, its shift is at most 999999999 in each coordinate
 abbrev pub HasShiftInLine : Line → Type 0

@@ -21,9 +21,9 @@ pub enum ReadPlanFault {
 
 impl From<NoMemory> for ReadPlanFault {
     ghost use Rattle.std.specs.Prelude.{◌≡◌};
-    ghost use Rattle.plan_text.specs.declared.faults.ReadPlanFault.TheVariants.{NoMemory as OfMemory};
+    ghost use Rattle.plan_text.specs.declared.faults.ReadPlanFault.TheVariants.{NoMemory};
 
-    ghost from_gives = { λ none fault. fault ≡ OfMemory };
+    ghost from_gives = { λ none fault. fault ≡ NoMemory };
 
     fn from(_: NoMemory) -> ReadPlanFault {
         ReadPlanFault::NoMemory
@@ -43,9 +43,9 @@ impl From<TextWhy> for ReadLineFault {
 
 impl From<NoMemory> for ReadLineFault {
     ghost use Rattle.std.specs.Prelude.{◌≡◌};
-    ghost use Rattle.plan_text.specs.declared.faults.ReadLineFault.TheVariants.{NoMemory as OfMemory};
+    ghost use Rattle.plan_text.specs.declared.faults.ReadLineFault.TheVariants.{NoMemory};
 
-    ghost from_gives = { λ none fault. fault ≡ OfMemory };
+    ghost from_gives = { λ none fault. fault ≡ NoMemory };
 
     fn from(_: NoMemory) -> ReadLineFault {
         ReadLineFault::NoMemory

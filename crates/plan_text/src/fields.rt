@@ -4,42 +4,33 @@ ghost use Rattle.std.specs.Prelude.{◌≡◌, ◌+◌, ◌<◌, [], Some, None,
 ghost use Rattle.text_spec.specs.Words.{words_of};
 ghost use Rattle.report_spec.specs.Shapes.{is_count, number_before, numbers_of, fields_with, read_fields_by, point_from};
 ghost use Rattle.report_spec.specs.PlanText.{grid_of};
-ghost use Rattle.plan_text.specs.Kinds.{count_of};
 
 use crate::numbers::number;
 use crate::words::{count_words, next_word};
 use plan_spec::GridSpec;
 use plane_spec::Point;
-use report_spec::TextWhy;
+use report_spec::{Count, TextWhy};
 use text_spec::Name;
 
-/// How many numbers a line has.
-#[derive(Clone, Copy)]
-pub enum Numbers {
-    Exactly(usize),
-    /// At least one pair.
-    InPairs,
-}
-
 /// Whether the number of words fits.
-fn is_count(numbers: Numbers, count: usize) -> bool
-    ensures { result ≡ is_count (count_of numbers) count }
+fn is_count(asked: Count, count: usize) -> bool
+    ensures { result ≡ is_count asked count }
 {
-    match numbers {
-        Numbers::Exactly(wanted) => count == wanted,
-        Numbers::InPairs => count > 0 && count % 2 == 0,
+    match asked {
+        Count::Exactly(wanted) => count == wanted,
+        Count::InPairs => count > 0 && count % 2 == 0,
     }
 }
 
 /// The name and the words of the numbers, where the number of words fits.
 #[tactic(auto, unfolding(report_spec::specs::Shapes::read_fields_by))]
-pub fn name_and_numbers(words: &[u8], numbers: Numbers) -> Result<(Name, &[u8]), TextWhy>
-    ensures ok { IfOk result (λ r. read_fields_by true (count_of numbers) (words_of words.now) ≡ fields_with r.0 (numbers_of (words_of r.1.now))) }
-    ensures counted { IfOk result (λ r. is_count (count_of numbers) (length (words_of r.1.now)) ≡ true) }
-    ensures err { IfErr result (λ why. read_fields_by true (count_of numbers) (words_of words.now) ≡ Err why) }
+pub fn name_and_numbers(words: &[u8], asked: Count) -> Result<(Name, &[u8]), TextWhy>
+    ensures ok { IfOk result (λ r. read_fields_by true asked (words_of words.now) ≡ fields_with r.0 (numbers_of (words_of r.1.now))) }
+    ensures counted { IfOk result (λ r. is_count asked (length (words_of r.1.now)) ≡ true) }
+    ensures err { IfErr result (λ why. read_fields_by true asked (words_of words.now) ≡ Err why) }
 {
     let (word, rest) = next_word(words).ok_or(TextWhy::Words)?;
-    if !is_count(numbers, count_words(rest)) {
+    if !is_count(asked, count_words(rest)) {
         return Err(TextWhy::Words);
     }
     let name = Name::of(word).ok_or(TextWhy::Name)?;
@@ -48,12 +39,12 @@ pub fn name_and_numbers(words: &[u8], numbers: Numbers) -> Result<(Name, &[u8]),
 
 /// Tests the number of words of a line without a name.
 #[tactic(auto, unfolding(report_spec::specs::Shapes::read_fields_by))]
-pub fn numbers_alone(words: &[u8], numbers: Numbers) -> Result<(), TextWhy>
-    ensures ok { OnOk result (read_fields_by false (count_of numbers) (words_of words.now) ≡ fields_with [] (numbers_of (words_of words.now))) }
-    ensures counted { OnOk result (is_count (count_of numbers) (length (words_of words.now)) ≡ true) }
-    ensures err { IfErr result (λ why. read_fields_by false (count_of numbers) (words_of words.now) ≡ Err why) }
+pub fn numbers_alone(words: &[u8], asked: Count) -> Result<(), TextWhy>
+    ensures ok { OnOk result (read_fields_by false asked (words_of words.now) ≡ fields_with [] (numbers_of (words_of words.now))) }
+    ensures counted { OnOk result (is_count asked (length (words_of words.now)) ≡ true) }
+    ensures err { IfErr result (λ why. read_fields_by false asked (words_of words.now) ≡ Err why) }
 {
-    if !is_count(numbers, count_words(words)) {
+    if !is_count(asked, count_words(words)) {
         return Err(TextWhy::Words);
     }
     Ok(())

@@ -4,6 +4,7 @@
 //! |---|---|
 //! | [`read_plan`] | the items of a plan's text with the numbers of their lines, or the first line outside the grammar |
 //! | [`read_line`] | the edit or the question of a line of a script, or why it is outside the grammar |
+//! | [`shown_lines_are_read`] | the law that a line without its carriage return is read as it stands in the script |
 //! | [`print_plan`] | the text of items |
 //! | [`prints_and_reads`] | the law that what is printed is read again |
 //! | [`accepted_plans_are_printable`] | the law that the items of a sound plan keep the limits of printing |
@@ -12,11 +13,13 @@
 //! | [`Line`], [`Query`], [`TextWhy`], [`LineNumbers`] | what is read from a line |
 //! | [`Edit`], [`GridSpec`], [`Item`], [`Items`], [`PlanData`], [`Point`], [`Points`], [`Name`] | what plans and edits are made of |
 //! | [`NoMemory`] | what is answered where there is no memory |
+//! | [`LONGEST_PLAN`] | how many bytes the text of a plan may have |
 //!
 //! The grammar is that of `report_spec`: `specs/Shapes.antt`, `specs/PlanText.antt` and `specs/ScriptText.antt`. Bytes are
 //! cut into lines and words in place: only the points of polygons, items and the printed text take memory.
 #![tactic(auto)]
 
+mod arguments;
 mod faults;
 mod fields;
 mod numbers;
@@ -25,7 +28,6 @@ mod plans;
 mod polygons;
 mod printing;
 mod script_lines;
-mod shapes;
 mod words;
 
 pub use faults::{ReadLineFault, ReadPlanFault};
@@ -33,8 +35,8 @@ pub use plan_spec::{Edit, GridSpec, Item, Items, PlanData, Points};
 pub use plane_spec::Point;
 pub use plans::{PlanText, read_plan};
 pub use printing::{accepted_plans_are_printable, print_plan, prints_and_reads};
-pub use report_spec::{Line, LineNumbers, Query, TextWhy};
-pub use script_lines::read_line;
+pub use report_spec::{LONGEST_PLAN, Line, LineNumbers, Query, TextWhy};
+pub use script_lines::{read_line, shown_lines_are_read};
 pub use text_spec::{Name, NoMemory};
 
 #[cfg(test)]

@@ -3,8 +3,7 @@
 ghost use Rattle.std.specs.Prelude.{◌≡◌, length};
 ghost use Rattle.text_spec.specs.Numbers.{natural_of, number_of};
 
-/// How many digits a number may have.
-const MOST_DIGITS: usize = 9;
+use text_spec::MOST_DIGITS;
 
 /// 1 to 9 digits as a number.
 #[tactic(auto, unfolding(text_spec::specs::Numbers::natural_of))]

@@ -1,50 +1,23 @@
 //! The lines of a plan.
 
-ghost use Rattle.std.specs.Prelude.{◌≡◌, ◌∷◌, option_map};
+ghost use Rattle.std.specs.Prelude.{◌≡◌, ◌∷◌};
 ghost use Rattle.text_spec.specs.Words.{words_of};
 ghost use Rattle.report_spec.specs.Shapes.{read_fields};
 ghost use Rattle.report_spec.specs.PlanText.{ok_map, plan_word, has_screens, shape_of, item_of, version_of, read_plan_line};
-ghost use Rattle.plan_text.specs.Answers.{Answers, found_line};
-ghost use Rattle.plan_text.specs.Kinds.{version_kind, word_kind};
+ghost use Rattle.plan_text.specs.Answers.{Answers};
 
+use crate::arguments::{corners, grid, named_corners, named_polygon, polygon};
 use crate::faults::ReadLineFault;
 use crate::polygons::box_points;
-use crate::shapes::{corners, grid, named_corners, named_polygon, polygon};
-use crate::words::{begins_comment, is_long, is_word, next_word, without_return};
+use crate::words::{begins_comment, is_long, is_word, next_word};
 use plan_spec::Item;
-use report_spec::TextWhy;
+use report_spec::{PlanLine, PlanWord, TextWhy, Version};
 use std::alloc::Global;
-
-/// What the first line that isn't blank says: screens stand in version 2 alone.
-#[derive(Clone, Copy)]
-pub enum Version {
-    One,
-    Two,
-}
-
-/// The words that begin the line of an item.
-#[derive(Clone, Copy)]
-pub enum PlanWord {
-    Grid,
-    Outer,
-    Outerbox,
-    Obstacle,
-    Box,
-    Screen,
-    Route,
-}
-
-/// A line of a plan.
-#[derive(Drop)]
-pub enum PlanLine {
-    Blank,
-    Header(Version),
-    Item(Item),
-}
+use text_spec::without_return;
 
 /// Whether screens may stand in a plan of this version.
 fn has_screens(version: Version) -> bool
-    ensures { result ≡ has_screens (version_kind version) }
+    ensures { result ≡ has_screens version }
 {
     match version {
         Version::One => false,
@@ -55,7 +28,7 @@ fn has_screens(version: Version) -> bool
 /// The kind of line that a word begins.
 #[tactic(auto, unfolding(report_spec::specs::PlanText::plan_word))]
 fn kind_of_line(version: Version, word: &[u8]) -> Option<PlanWord>
-    ensures { option_map word_kind result ≡ plan_word (version_kind version) word.now }
+    ensures { result ≡ plan_word version word.now }
 {
     if is_word(word, b"grid") {
         Some(PlanWord::Grid)
@@ -79,7 +52,7 @@ fn kind_of_line(version: Version, word: &[u8]) -> Option<PlanWord>
 /// The item of a line, from the words after its keyword.
 #[tactic(auto, unfolding(report_spec::specs::PlanText::item_of))]
 fn item(alloc: Global, word: PlanWord, words: &[u8]) -> Result<Item, ReadLineFault>
-    ensures { Answers (ok_map (item_of (word_kind word)) (read_fields (shape_of (word_kind word)) (words_of words.now))) result }
+    ensures { Answers (ok_map (item_of word) (read_fields (shape_of word) (words_of words.now))) result }
 {
     match word {
         PlanWord::Grid => Ok(Item::Grid(grid(words)?)),
@@ -109,7 +82,7 @@ fn item(alloc: Global, word: PlanWord, words: &[u8]) -> Result<Item, ReadLineFau
 
 /// What the header says whose first word and whose rest these are.
 fn header_version(first: &[u8], rest: &[u8]) -> Option<Version>
-    ensures { option_map version_kind result ≡ version_of (first.now ∷ words_of rest.now) }
+    ensures { result ≡ version_of (first.now ∷ words_of rest.now) }
 {
     if !is_word(first, b"plan") {
         return None;
@@ -134,7 +107,7 @@ pub fn read_plan_line(
     header: Option<Version>,
     line: &[u8],
 ) -> Result<PlanLine, ReadLineFault>
-    ensures { Answers (read_plan_line (option_map version_kind header) line.now) (found_line result) }
+    ensures { Answers (read_plan_line header line.now) result }
 {
     if is_long(line) {
         return Err(ReadLineFault::Bad(TextWhy::Long));

@@ -1,15 +1,16 @@
 //! The text of a plan, read.
 
 ghost use Rattle.std.specs.Prelude.{◌≡◌, ◌≤◌, OnOk, length};
-ghost use Rattle.plan_text.specs.Drafts.{with_line};
+ghost use Rattle.plan_text.specs.PartialPlans.{with_line};
 ghost use Rattle.plan_text.specs.Answers.{fault_at};
+ghost use Rattle.report_spec.specs.declared.limits.TheConstants.{LONGEST_PLAN};
 ghost use Rattle.plan_text.specs.Readings.{ReadsPlan};
 
 use crate::faults::{ReadLineFault, ReadPlanFault};
-use crate::plan_lines::{PlanLine, Version, read_plan_line};
+use crate::plan_lines::read_plan_line;
 use crate::words::next_line;
 use plan_spec::{Items, PlanData};
-use report_spec::{LineNumbers, TextWhy};
+use report_spec::{LineNumbers, PlanLine, TextWhy, Version};
 use std::alloc::Global;
 use text_spec::NoMemory;
 
@@ -20,16 +21,16 @@ pub struct PlanText {
     pub lines: LineNumbers,
 }
 
-/// What was read so far.
+/// A plan as far as it is read.
 #[derive(Drop)]
-struct Draft {
+struct PartialPlan {
     header: Option<Version>,
     items: Items,
     lines: LineNumbers,
 }
 
 /// Takes one line more.
-fn take_line(draft: &mut Draft, number: u32, line: PlanLine) -> Result<(), NoMemory>
+fn take_line(draft: &mut PartialPlan, number: u32, line: PlanLine) -> Result<(), NoMemory>
     ensures { OnOk result (draft.new ≡ with_line number line draft.old) }
 {
     match line {
@@ -53,16 +54,16 @@ fn fault_at(line: u32, fault: ReadLineFault) -> ReadPlanFault
     }
 }
 
-/// Reads the text of a plan of at most 1,048,576 bytes: its items, each with the number of its line. `Bad` names the first
+/// Reads the text of a plan of at most [`LONGEST_PLAN`] bytes: its items, each with the number of its line. `Bad` names the first
 /// line that is outside the grammar, and the first cause that holds there; where no line is a header, the line after the
 /// last.
 ///
 /// Cost: one pass over the bytes, each looked at a constant number of times; memory for the items and their points alone.
 pub fn read_plan(alloc: Global, bytes: &[u8]) -> Result<PlanText, ReadPlanFault>
-    requires { length bytes.now ≤ 1048576 }
+    requires { length bytes.now ≤ LONGEST_PLAN }
     ensures { ReadsPlan bytes.now result }
 {
-    let mut draft = Draft {
+    let mut draft = PartialPlan {
         header: None,
         items: Items::new(alloc),
         lines: LineNumbers::new(alloc),

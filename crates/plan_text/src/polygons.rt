@@ -3,7 +3,7 @@
 ghost use Rattle.std.specs.Prelude.{◌≡◌, ◌∷◌, [], true, length, is_some, ok_or, option_map, IfOk, if◌then◌else◌};
 ghost use Rattle.text_spec.specs.Words.{words_of};
 ghost use Rattle.plane_spec.specs.Vectors.{point};
-ghost use Rattle.report_spec.specs.Shapes.{is_count, InPairs, numbers_of, points_of};
+ghost use Rattle.report_spec.specs.Shapes.{is_count, numbers_of, points_of};
 ghost use Rattle.plan_text.specs.Answers.{Answers};
 
 use crate::faults::ReadLineFault;
@@ -12,7 +12,7 @@ use crate::numbers::number;
 use crate::words::next_word;
 use plan_spec::Points;
 use plane_spec::Point;
-use report_spec::TextWhy;
+use report_spec::{Count, TextWhy};
 use std::alloc::Global;
 use text_spec::NoMemory;
 
@@ -35,7 +35,7 @@ fn fault_without_memory(words: &[u8]) -> ReadLineFault
 /// The words two by two as points.
 #[tactic(auto, unfolding(report_spec::specs::Shapes::numbers_of, report_spec::specs::Shapes::points_of))]
 pub fn points(alloc: Global, words: &[u8]) -> Result<Points, ReadLineFault>
-    requires { is_count InPairs (length (words_of words.now)) ≡ true }
+    requires { is_count Count.InPairs (length (words_of words.now)) ≡ true }
     ensures { Answers (ok_or (option_map points_of (numbers_of (words_of words.now))) TextWhy.Number) result }
 {
     let mut points = Points::new(alloc);

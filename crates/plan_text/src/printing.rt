@@ -21,10 +21,7 @@ use text_spec::{Name, NoMemory};
 fn put(text: &mut Vec<u8>, bytes: &[u8]) -> Result<(), NoMemory>
     ensures { OnOk result (text.new.items ≡ text.old.items ++ bytes.now) }
 {
-    match text.extend_from_slice(bytes) {
-        Ok(()) => Ok(()),
-        Err(_) => Err(NoMemory),
-    }
+    Ok(text.extend_from_slice(bytes)?)
 }
 
 /// Appends a space and a word.

@@ -1,42 +1,25 @@
 //! The lines of a script.
 
-ghost use Rattle.std.specs.Prelude.{◌≡◌, option_map, IfOk, if◌then◌else◌};
+ghost use Rattle.std.specs.Prelude.{◌≡◌, ℕ, List, true, IfOk};
 ghost use Rattle.text_spec.specs.Lines.{is_long};
 ghost use Rattle.text_spec.specs.Words.{words_of};
 ghost use Rattle.report_spec.specs.Shapes.{read_fields};
 ghost use Rattle.report_spec.specs.PlanText.{ok_map};
-ghost use Rattle.report_spec.specs.ScriptText.{script_word, script_shape, line_of, shown, read_show, read_script_line};
-ghost use Rattle.plan_text.specs.Kinds.{script_kind};
-ghost use Rattle.plan_text.specs.Readings.{ReadsLine, HasShiftInLine};
+ghost use Rattle.report_spec.specs.ScriptText.{script_word, script_shape, line_of, shown, read_show, read_line_of_script};
+ghost use Rattle.plan_text.specs.Readings.{IsShown, reading_of_shown, ReadsLine, HasShiftInLine};
 
+use crate::arguments::{named, named_corners, named_place, named_polygon, place};
 use crate::faults::ReadLineFault;
 use crate::polygons::box_points;
-use crate::shapes::{named, named_corners, named_place, named_polygon, place};
 use crate::words::{begins_comment, is_long, is_word, next_word};
 use plan_spec::Edit;
-use report_spec::{Line, Query, TextWhy};
+use report_spec::{Line, Query, ScriptWord, TextWhy};
 use std::alloc::Global;
-
-/// The words that begin a line; `show` stands apart.
-#[derive(Clone, Copy)]
-pub enum ScriptWord {
-    Add,
-    Addbox,
-    Remove,
-    Move,
-    Addscreen,
-    Removescreen,
-    Addroute,
-    Removeroute,
-    Depth,
-    Isovist,
-    Turns,
-}
 
 /// The kind of line that a word begins.
 #[tactic(auto, unfolding(report_spec::specs::ScriptText::script_word))]
 fn kind_of_line(word: &[u8]) -> Option<ScriptWord>
-    ensures { option_map script_kind result ≡ script_word word.now }
+    ensures { result ≡ script_word word.now }
 {
     if is_word(word, b"add") {
         Some(ScriptWord::Add)
@@ -68,7 +51,7 @@ fn kind_of_line(word: &[u8]) -> Option<ScriptWord>
 /// The edit or the question of a line, from the words after its keyword.
 #[tactic(auto, unfolding(report_spec::specs::ScriptText::line_of))]
 fn line(alloc: Global, word: ScriptWord, words: &[u8]) -> Result<Line, ReadLineFault>
-    ensures { ReadsLine (ok_map (line_of (script_kind word)) (read_fields (script_shape (script_kind word)) (words_of words.now))) result }
+    ensures { ReadsLine (ok_map (line_of word) (read_fields (script_shape word) (words_of words.now))) result }
 {
     match word {
         ScriptWord::Add => {
@@ -139,10 +122,12 @@ fn shown_table(words: &[u8]) -> Result<Line, TextWhy>
 /// taken for the points of `add` and `addbox` alone: of any other line, and of any that is outside the grammar, want of
 /// memory is never answered.
 ///
+/// That the answer is the grammar's of the line as it stands in the script is the law [`shown_lines_are_read`].
+///
 /// Cost: one pass over the bytes, each looked at a constant number of times.
 #[tactic(auto, unfolding(report_spec::specs::ScriptText::read_script_line, text_spec::specs::Words::are_blank))]
 pub fn read_line(alloc: Global, bytes: &[u8]) -> Result<Line, ReadLineFault>
-    ensures reads { ReadsLine (if is_long bytes.now then Err TextWhy.Long else read_script_line bytes.now) result }
+    ensures reads { ReadsLine (reading_of_shown bytes.now) result }
     ensures shift { IfOk result HasShiftInLine }
 {
     if is_long(bytes) {
@@ -160,3 +145,10 @@ pub fn read_line(alloc: Global, bytes: &[u8]) -> Result<Line, ReadLineFault>
     let word = kind_of_line(first).ok_or(TextWhy::Kind)?;
     line(alloc, word, rest)
 }
+
+/// What is read of a line without its carriage return is what the grammar reads of the line as it stands in the script; and
+/// a line that is too long there is outside the grammar for that, so it needn't be held to be refused.
+pub fn shown_lines_are_read()
+    ensures shown { (line shown : List ℕ) → IsShown line shown → reading_of_shown shown ≡ read_line_of_script line }
+    ensures long { (line : List ℕ) → is_long line ≡ true → read_line_of_script line ≡ Err TextWhy.Long }
+{}

@@ -2,9 +2,6 @@
 
 use super::*;
 
-/// A text of at most this many bytes is read.
-const MOST_BYTES: usize = 1_048_576;
-
 /// How a cause is printed.
 fn cause(why: TextWhy) -> &'static str {
     match why {
@@ -116,7 +113,7 @@ fn texts_of_plans(rt: HostRuntime) {
         ("plan 1\ngrid 1 2 3 4 5\nroute R 1 1 2 2\n", (4, "plan")),
     ];
     for (text, wanted) in cases {
-        assert!(rt; text.len() <= MOST_BYTES);
+        assert!(rt; text.len() <= LONGEST_PLAN);
         assert_eq!(rt;
             told_of_plan(read_plan(rt.alloc(), text.as_bytes())),
             wanted,
@@ -142,7 +139,7 @@ fn plans_are_printed(rt: HostRuntime) {
         ),
     ];
     for (text, wanted) in cases {
-        assert!(rt; text.len() <= MOST_BYTES);
+        assert!(rt; text.len() <= LONGEST_PLAN);
         let printed = match read_plan(rt.alloc(), text.as_bytes()) {
             Ok(read) => print_plan(rt.alloc(), &read.plan),
             Err(_) => Err(NoMemory),

@@ -2,11 +2,10 @@
 
 ghost use Rattle.std.specs.Prelude.{◌≡◌, ◌∷◌, ◌<◌, ◌≤◌, [], IfSome, IfNone, length, not, bytes_eq};
 ghost use Rattle.std.specs.List.{position, position_or_len};
-ghost use Rattle.text_spec.specs.Lines.{is_long, is_newline, lines_of, without_return};
+ghost use Rattle.text_spec.specs.Lines.{is_long, is_newline, lines_of};
 ghost use Rattle.text_spec.specs.Words.{begins_comment, is_space, words_of};
 
-/// How many bytes may stand before a newline, a carriage return counted.
-const LONGEST_LINE: usize = 20000;
+use text_spec::LONGEST_LINE;
 
 fn is_space(byte: u8) -> bool
     ensures { result ≡ is_space byte }
@@ -90,13 +89,6 @@ pub fn next_line(bytes: &[u8]) -> Option<(&[u8], &[u8])>
         Some(end) => Some((&bytes[..end], &bytes[end + 1..])),
         None => Some(bytes.split_at(bytes.len())),
     }
-}
-
-/// The line without one carriage return that stands last in it.
-pub fn without_return(line: &[u8]) -> &[u8]
-    ensures { result.now ≡ without_return line.now }
-{
-    line.strip_suffix(b"\r").unwrap_or(line)
 }
 
 /// Whether more bytes than a line may have stand before its newline.

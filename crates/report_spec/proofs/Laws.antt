@@ -5,13 +5,14 @@ use Rattle.plan_spec.specs.declared.refusals.Why.{Why}
 use Rattle.plan_spec.specs.Plan.{Plan}
 use Rattle.plan_spec.specs.Edits.{why_not_edit}
 use Rattle.report_spec.specs.declared.readings.TextWhy.{TextWhy}
-use Rattle.report_spec.specs.declared.readings.Line.{Line}
-use Rattle.report_spec.specs.declared.readings.Line.TheVariants.{Blank, Edit as OfEdit, Query as OfQuery}
+use Rattle.report_spec.specs.declared.script_line.Line.{Line}
+use Rattle.report_spec.specs.declared.script_line.Line.TheVariants.{Blank, Edit as OfEdit, Query as OfQuery}
 use Rattle.report_spec.specs.declared.replies.Form.{Form}
 use Rattle.report_spec.specs.ScriptText.{read_line_of_script}
 use Rattle.report_spec.specs.Records.{records_bytes}
 use Rattle.report_spec.specs.Replies.{Answer, answer, edit_step, query_step, step_by, step, replies, plan_after}
-use Rattle.report_spec.specs.Output.{Mode, mode_records, output_of}
+use Rattle.report_spec.specs.declared.replies.Mode.{Mode}
+use Rattle.report_spec.specs.Output.{mode_records, reply_bytes, output_of}
 
 edit_keeps : (plan : Plan) (number : ℕ) (edit : Edit) (why : Option Why) → (edit_step plan number edit why).refused ≡ true → (edit_step plan number edit why).plan ≡ plan
 edit_keeps plan number edit None e = cc
@@ -38,5 +39,5 @@ a_question_keeps_the_plan = query_keeps
 
 -- without lines the output is the mode's tables
 pub no_lines_leave_the_tables : (mode : Mode) (form : Form) (plan : Plan) → output_of mode form plan [] ≡ records_bytes form (mode_records mode plan)
-unfolding output_of replies plan_after
+unfolding output_of reply_bytes replies plan_after
 no_lines_leave_the_tables mode form plan = refl

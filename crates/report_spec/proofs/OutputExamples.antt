@@ -1,5 +1,5 @@
 -- Whole outputs, and the trial plan.
-use Rattle.std.specs.Prelude.{◌≡◌, refl, ℕ, List, [], ◌∷◌, ◌++◌, codes, Some, None, pos, true}
+use Rattle.std.specs.Prelude.{◌≡◌, refl, ℕ, List, [], ◌∷◌, ◌++◌, codes, Some, None, pos, true, false}
 use Rattle.std.specs.Fmt.{digits}
 use Rattle.plane_spec.specs.declared.Point.{Point}
 use Rattle.plane_spec.specs.Vectors.{point}
@@ -26,7 +26,10 @@ use Rattle.report_spec.specs.Records.{fraction_field, records_bytes}
 use Rattle.report_spec.specs.Tables.{points_table, plan_table}
 use Rattle.report_spec.specs.Replies.{answer, step, replies, plan_after, has_refusal}
 use Rattle.report_spec.specs.Trial.{trial_box, root_above}
-use Rattle.report_spec.specs.Output.{Vga, Check, Analyse, options_of, mode_records, output_of, output_is_refused}
+use Rattle.report_spec.specs.declared.replies.Mode.TheVariants.{Vga, Check}
+use Rattle.report_spec.specs.declared.options.Job.TheVariants.{Analyse, Trial}
+use Rattle.report_spec.specs.Options.{options_of}
+use Rattle.report_spec.specs.Output.{mode_records, reply_bytes, output_of, output_is_refused, trial_output, output_by, is_refused_by}
 
 abbrev at : ℕ → ℕ → Point
 at x y = point (pos x) (pos y)
@@ -51,7 +54,7 @@ a_script_is_answered_line_by_line :
     ∷ codes "table plan" ∷ codes "plan 1" ∷ codes "outer 0 0 10 0 10 10 0 10" ∷ codes "obstacle A 1 1 3 1 3 3 1 3" ∷ codes "end 3"
     ∷ codes "ok 6"
     ∷ codes "table plan" ∷ codes "plan 1" ∷ codes "outer 0 0 10 0 10 10 0 10" ∷ codes "end 2" ∷ [])
-unfolding output_of replies plan_after mode_records plan_table items_of numbers_of_points digits step answer read_line_of_script without_return read_script_line are_blank script_word shown line_of read_fields_by numbers_of number_of natural_of why_not_edit why_not_obstacle crosses_nowhere may_stand edges_to lies_within polygons_meet line_meets_polygon is_inside passes_right do_touch cross_properly is_on_segment edited with_item
+unfolding output_of reply_bytes replies plan_after mode_records plan_table items_of numbers_of_points digits step answer read_line_of_script without_return read_script_line are_blank script_word shown line_of read_fields_by numbers_of number_of natural_of why_not_edit why_not_obstacle crosses_nowhere may_stand edges_to lies_within polygons_meet line_meets_polygon is_inside passes_right do_touch cross_properly is_on_segment edited with_item
 a_script_is_answered_line_by_line = refl
 
 a_refused_line_is_told_by_the_status : output_is_refused Check room (codes "paint" ∷ []) ≡ true
@@ -63,7 +66,7 @@ the_tables_of_an_empty_room :
     ≡ ended (
     codes "table edges" ∷ codes "0 1" ∷ codes "0 2" ∷ codes "0 3" ∷ codes "1 2" ∷ codes "1 3" ∷ codes "2 3" ∷ codes "end 6"
     ∷ codes "table points" ∷ codes "0 0 0 3 4 3 1/1 0/1" ∷ codes "1 10 0 3 4 3 1/1 0/1" ∷ codes "2 0 10 3 4 3 1/1 0/1" ∷ codes "3 10 10 3 4 3 1/1 0/1" ∷ codes "end 4" ∷ [])
-unfolding output_of replies plan_after mode_records points_table measures_of depth_of reduced common_divisor digits visibility_edges grid_points is_open is_inside passes_right are_in_sight is_blocked leaves_wall corner_stops is_in_cone walls_round corners_round is_counterclockwise edges_to is_on_segment cross_properly
+unfolding output_of reply_bytes replies plan_after mode_records points_table measures_of depth_of reduced common_divisor digits visibility_edges grid_points is_open is_inside passes_right are_in_sight is_blocked leaves_wall corner_stops is_in_cone walls_round corners_round is_counterclockwise edges_to is_on_segment cross_properly
 the_tables_of_an_empty_room = refl
 
 csv_joins_by_commas : records_bytes Csv ((codes "ok" ∷ codes "1" ∷ []) ∷ []) ≡ codes "ok,1" ++ 10 ∷ []
@@ -96,3 +99,18 @@ no_workers_are_refused :
     options_of (record { mode = Some (codes "VGA"); file = Some (codes "p"); workers = Some (codes "0"); format = None; number = None }) ≡ None
 unfolding options_of natural_of
 no_workers_are_refused = refl
+
+without_a_plan_nothing_is_printed :
+    output_by (record { job = Analyse Vga (codes "p"); workers = 1; form = Text }) None (codes "paint" ∷ []) ≡ []
+unfolding output_by
+without_a_plan_nothing_is_printed = refl
+
+a_trial_is_printed_whatever_stands_in_a_script :
+    output_by (record { job = Trial 7; workers = 4; form = Csv }) None (codes "paint" ∷ []) ≡ trial_output Csv 7
+unfolding output_by
+a_trial_is_printed_whatever_stands_in_a_script = refl
+
+a_trial_has_no_refused_reply :
+    is_refused_by (record { job = Trial 7; workers = 4; form = Csv }) None (codes "paint" ∷ []) ≡ false
+unfolding is_refused_by
+a_trial_has_no_refused_reply = refl

@@ -5,8 +5,8 @@ use Rattle.text_spec.specs.Words.{are_blank}
 use Rattle.text_spec.specs.Numbers.{natural_of, number_of}
 use Rattle.plan_spec.specs.declared.changes.Edit.TheVariants.{Move}
 use Rattle.report_spec.specs.declared.readings.TextWhy.TheVariants.{Kind, Words, Name, Number}
-use Rattle.report_spec.specs.declared.readings.Query.TheVariants.{Edges}
-use Rattle.report_spec.specs.declared.readings.Line.TheVariants.{Blank, Edit as OfEdit, Query as OfQuery}
+use Rattle.report_spec.specs.declared.script_line.Query.TheVariants.{Edges}
+use Rattle.report_spec.specs.declared.script_line.Line.TheVariants.{Blank, Edit as OfEdit, Query as OfQuery}
 use Rattle.report_spec.specs.Shapes.{numbers_of, read_fields_by, points_of}
 use Rattle.report_spec.specs.ScriptText.{script_word, shown, line_of, read_script_line, read_line_of_script}
 

@@ -5,6 +5,7 @@ pub mod Records
 pub mod Tables
 pub mod Replies
 pub mod Trial
-pub mod Output
 pub mod PlanFile
+pub mod Options
+pub mod Output
 pub mod Messages

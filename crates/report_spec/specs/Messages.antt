@@ -1,28 +1,36 @@
--- The lines on standard error, each with its newline.
+-- The lines on standard error, each with its newline, by what has happened.
 use Rattle.std.specs.Prelude.{ℕ, List, [], ◌∷◌, ◌++◌, codes}
 use Rattle.std.specs.Fmt.{decimal}
 use Rattle.std.specs.List.{join_with_byte}
 use Rattle.report_spec.specs.declared.replies.Reason.{Reason}
 use Rattle.report_spec.specs.Replies.{reason_words}
 
+-- a text and a newline
 abbrev pub ended_message : List ℕ → List ℕ
 ended_message text = text ++ 10 ∷ []
 
+-- the words don't stand for options
 abbrev pub usage_message : List ℕ
 usage_message = ended_message (codes "depthmap: usage: depthmap -m VGA|ISOVIST|AXIAL|SEGMENT|CHECK -f FILE [--workers N] [--format text|csv] or depthmap -m TRIAL --number N [--workers N] [--format text|csv]")
 
--- plan line L: WHY
+-- the file holds no plan: plan line L: WHY
 abbrev pub plan_message : ℕ → Reason → List ℕ
-plan_message line reason = ended_message (codes "depthmap: plan line " ++ (decimal line ++ (codes ": " ++ join_with_byte 32 (reason_words reason))))
+plan_message line reason =
+    ended_message
+    (codes "depthmap: plan line " ++ (decimal line ++ (codes ": " ++ join_with_byte 32 (reason_words reason))))
 
+-- a call that reads failed
 abbrev pub read_message : List ℕ
 read_message = ended_message (codes "depthmap: cannot read")
 
+-- a call that writes failed
 abbrev pub write_message : List ℕ
 write_message = ended_message (codes "depthmap: cannot write")
 
+-- there is no memory
 abbrev pub memory_message : List ℕ
 memory_message = ended_message (codes "depthmap: out of memory")
 
+-- the plan's file or the script has more bytes than it may
 abbrev pub length_message : List ℕ
 length_message = ended_message (codes "depthmap: input too long")

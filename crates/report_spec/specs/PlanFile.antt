@@ -11,15 +11,18 @@ use Rattle.report_spec.specs.PlanText.{PlanReading, read_plan_text, items_read, 
 abbrev pub PlanFound : Type 0
 PlanFound = Result Plan (ℕ × Reason)
 
--- a refused item stands on its own line; where no outer polygon came, the line after the last is at fault
+-- the plan that items make, or the line of the item that is refused; where there are no items at all, the line after
+-- the last is at fault
 abbrev pub found_by : List ℕ → Result Plan (ℕ × Why) → PlanFound
 found_by numbers (Ok plan) = Ok plan
 found_by numbers (Err refused) = Err (get_or numbers refused.0 0, EditReason refused.1)
 
+-- the plan of a text that was read
 abbrev pub plan_read : List ℕ → PlanReading → PlanFound
 plan_read bytes (Err fault) = Err (fault.0, TextReason fault.1)
 plan_read bytes (Ok items) = found_by (numbers_read bytes items) (checked (items_read items))
 
--- the whole text is read first: the first line outside the grammar is told, and otherwise the first item that is refused
+-- the whole text is read first: the first line outside the grammar is told, and otherwise the first item that is
+-- refused. No length is too long here: a file of more than `LONGEST_PLAN` bytes is refused before its text is read
 unfoldable pub plan_in_file : List ℕ → PlanFound
 plan_in_file bytes = plan_read bytes (read_plan_text bytes)

@@ -1,32 +1,38 @@
 -- The text of a plan, read and printed.
-use Rattle.std.specs.Prelude.{IsTrue, ℕ, ◌+◌, ◌≤◌, List, [], ◌∷◌, ◌++◌, Bool, true, false, ◌&&◌, ◌==◌, length, map, flat_map, drop, get_or, Option, Some, None, Result, Ok, Err, ℤ, nat_le, nat_abs, if◌then◌else◌, codes, bytes_eq}
+use Rattle.std.specs.Prelude.{IsTrue, ℕ, ◌+◌, ◌≤◌, List, [], ◌∷◌, ◌++◌, Bool, true, false, ◌&&◌, ◌==◌, length, map}
+use Rattle.std.specs.Prelude.{flat_map, drop, get_or, Option, Some, None, Result, Ok, Err, ℤ, nat_le, nat_abs}
+use Rattle.std.specs.Prelude.{if◌then◌else◌, codes, bytes_eq}
 use Rattle.std.specs.List.{list_any, list_all, join_with_byte, sum_by}
 use Rattle.plane_spec.specs.declared.Point.{Point}
+use Rattle.text_spec.specs.declared.numbers.TheConstants.{LARGEST_NUMBER}
 use Rattle.text_spec.specs.Lines.{lines_of, without_return, is_long}
 use Rattle.text_spec.specs.Words.{words_of, are_blank}
 use Rattle.plan_spec.specs.declared.kinds.GridSpec.{GridSpec}
 use Rattle.plan_spec.specs.declared.kinds.Item.{Item}
 use Rattle.plan_spec.specs.declared.kinds.Item.TheVariants.{Grid, Outer, Obstacle, Screen, Route}
+use Rattle.report_spec.specs.declared.arguments.Count.TheVariants.{Exactly, InPairs}
+use Rattle.report_spec.specs.declared.plan_line.Version.{Version}
+use Rattle.report_spec.specs.declared.plan_line.Version.TheVariants.{One, Two}
+use Rattle.report_spec.specs.declared.plan_line.PlanWord.{PlanWord}
+use Rattle.report_spec.specs.declared.plan_line.PlanWord.TheVariants.{
+  Grid as GridWord,
+  Outer as OuterWord,
+  Outerbox as OuterboxWord,
+  Obstacle as ObstacleWord,
+  Box as BoxWord,
+  Screen as ScreenWord,
+  Route as RouteWord,
+}
+use Rattle.report_spec.specs.declared.plan_line.PlanLine.{PlanLine}
+use Rattle.report_spec.specs.declared.plan_line.PlanLine.TheVariants.{Blank, Header, Item as OfItem}
 use Rattle.report_spec.specs.declared.readings.TextWhy.{TextWhy}
 use Rattle.report_spec.specs.declared.readings.TextWhy.TheVariants.{Long, Kind}
-use Rattle.report_spec.specs.Shapes.{Exactly, InPairs, Shape, shape, Fields, read_fields, field_words, at, point_from, points_of, box_points, numbers_of_points}
+use Rattle.report_spec.specs.Shapes.{Shape, shape, Fields, read_fields, field_words, at, point_from, points_of}
+use Rattle.report_spec.specs.Shapes.{box_points, numbers_of_points}
 
 -- ---- the kinds of lines
 
--- the first line that isn't blank says which lines may follow: screens stand in version 2 alone
-pub data Version : Type 0 where
-  One : Version
-  Two : Version
-
-pub data PlanWord : Type 0 where
-  GridWord : PlanWord
-  OuterWord : PlanWord
-  OuterboxWord : PlanWord
-  ObstacleWord : PlanWord
-  BoxWord : PlanWord
-  ScreenWord : PlanWord
-  RouteWord : PlanWord
-
+-- the word that begins the lines of a kind
 abbrev pub keyword : PlanWord → List ℕ
 keyword GridWord = codes "grid"
 keyword OuterWord = codes "outer"
@@ -36,6 +42,7 @@ keyword BoxWord = codes "box"
 keyword ScreenWord = codes "screen"
 keyword RouteWord = codes "route"
 
+-- screens stand in version 2 alone
 abbrev pub has_screens : Version → Bool
 has_screens One = false
 has_screens Two = true
@@ -78,26 +85,30 @@ item_of RouteWord f = Route f.name (point_from f.numbers 0) (point_from f.number
 
 -- ---- reading a line
 
-pub data PlanLine : Type 0 where
-  Blank : PlanLine
-  Header : Version → PlanLine
-  OfItem : Item → PlanLine
-
+-- what is made of what was read; a refusal stays
 abbrev pub ok_map : {A B : Type 0} → (A → B) → Result A TextWhy → Result B TextWhy
 ok_map f (Ok x) = Ok (f x)
 ok_map f (Err why) = Err why
+
+-- the version that a word names
+abbrev pub version_of_word : List ℕ → Option Version
+version_of_word word =
+    if bytes_eq word (codes "1") then Some One else
+    if bytes_eq word (codes "2") then Some Two else None
 
 -- the words `plan` and `1`, or `plan` and `2`
 abbrev pub version_of : List (List ℕ) → Option Version
 version_of words =
     if (length words == 2) && bytes_eq (get_or words 0 []) (codes "plan")
-    then (if bytes_eq (get_or words 1 []) (codes "1") then Some One else if bytes_eq (get_or words 1 []) (codes "2") then Some Two else None)
+    then version_of_word (get_or words 1 [])
     else None
 
+-- the item of a line of a kind, from the words after its keyword
 abbrev pub read_item : Option PlanWord → List (List ℕ) → Result PlanLine TextWhy
 read_item None words = Err Kind
 read_item (Some word) words = ok_map (λ fields. OfItem (item_of word fields)) (read_fields (shape_of word) words)
 
+-- the header of a version, or that the line is none
 abbrev pub read_header : Option Version → Result PlanLine TextWhy
 read_header None = Err Kind
 read_header (Some version) = Ok (Header version)
@@ -110,8 +121,9 @@ read_plan_words (Some version) words = read_item (plan_word version (get_or word
 -- a line as it stands before its newline, after a header of a version or before any
 unfoldable pub read_plan_line : Option Version → List ℕ → Result PlanLine TextWhy
 read_plan_line version line =
-    if is_long line then Err Long
-    else (if are_blank (words_of (without_return line)) then Ok Blank else read_plan_words version (words_of (without_return line)))
+    if is_long line then Err Long else
+    if are_blank (words_of (without_return line)) then Ok Blank
+    else read_plan_words version (words_of (without_return line))
 
 -- ---- reading the whole
 
@@ -119,21 +131,24 @@ read_plan_line version line =
 abbrev pub PlanReading : Type 0
 PlanReading = Result (List (ℕ × Item)) (ℕ × TextWhy)
 
+-- an item before those of the lines after it
 abbrev pub item_before : ℕ × Item → PlanReading → PlanReading
 item_before item (Ok items) = Ok (item ∷ items)
 item_before item (Err fault) = Err fault
 
+-- a line that was read, and then those after it: a refusal ends the reading, and a header holds for all lines after it
 abbrev pub read_next : ℕ → Option Version → Result PlanLine TextWhy → (Option Version → PlanReading) → PlanReading
 read_next number version (Err why) rest = Err (number, why)
 read_next number version (Ok Blank) rest = rest version
 read_next number version (Ok (Header found)) rest = rest (Some found)
 read_next number version (Ok (OfItem item)) rest = item_before (number, item) (rest version)
 
+-- no lines are left: where no header came, the line of this number is at fault
 abbrev pub without_header : Option Version → ℕ → PlanReading
 without_header None number = Err (number, Kind)
 without_header (Some version) number = Ok []
 
--- the lines from `number` on; where no header came, the line after the last is at fault
+-- the lines from `number` on, after a header of a version or before any
 unfoldable pub read_plan_lines : Option Version → ℕ → List (List ℕ) → PlanReading
 read_plan_lines version number [] = without_header version number
 read_plan_lines version number (line ∷ lines) =
@@ -153,6 +168,7 @@ numbers_read bytes items = map (λ item. item.0) items ++ (length (lines_of byte
 
 -- ---- printing
 
+-- the keyword that an item is printed by
 abbrev pub word_of_item : Item → PlanWord
 word_of_item (Grid g) = GridWord
 word_of_item (Outer points) = OuterWord
@@ -160,9 +176,11 @@ word_of_item (Obstacle name points) = ObstacleWord
 word_of_item (Screen name from to) = ScreenWord
 word_of_item (Route name from to) = RouteWord
 
+-- a name and numbers as the fields of a line
 abbrev pub fields : List ℕ → List ℤ → Fields
 fields name numbers = record { name = name; numbers = numbers }
 
+-- what the item's line says after its keyword
 abbrev pub fields_of_item : Item → Fields
 fields_of_item (Grid g) = fields [] (g.step ∷ g.x0 ∷ g.y0 ∷ g.cols ∷ g.rows ∷ [])
 fields_of_item (Outer points) = fields [] (numbers_of_points points)
@@ -174,12 +192,10 @@ fields_of_item (Route name from to) = fields name (from.x ∷ from.y ∷ to.x �
 abbrev pub item_words : Item → List (List ℕ)
 item_words item = keyword (word_of_item item) ∷ field_words (shape_of (word_of_item item)) (fields_of_item item)
 
+-- the item stands in version 2 alone
 abbrev pub is_screen : Item → Bool
-is_screen (Grid g) = false
-is_screen (Outer points) = false
-is_screen (Obstacle name points) = false
 is_screen (Screen name from to) = true
-is_screen (Route name from to) = false
+is_screen _ = false
 
 -- `plan 2` where an item is a screen, and otherwise `plan 1`
 abbrev pub header_words : List Item → List (List ℕ)
@@ -199,6 +215,7 @@ plan_text_of items = flat_map ended_line (plan_words items)
 
 -- ---- items that can be printed
 
+-- the number is at most so far from 0
 abbrev pub is_below : ℕ → ℤ → Bool
 is_below most z = nat_le (nat_abs z) most
 
@@ -210,18 +227,21 @@ is_short_point p = is_below 999999 p.x && is_below 999999 p.y
 abbrev pub is_short_list : List Point → Bool
 is_short_list points = (nat_le 1 (length points) && nat_le (length points) 1024) && list_all is_short_point points
 
--- a point whose coordinates have at most nine digits
+-- a point whose coordinates have few enough digits
 abbrev pub is_number_point : Point → Bool
-is_number_point p = is_below 999999999 p.x && is_below 999999999 p.y
+is_number_point p = is_below LARGEST_NUMBER p.x && is_below LARGEST_NUMBER p.y
 
+-- the item's numbers have few digits, and a polygon has few corners
 abbrev pub is_printable : Item → Bool
 is_printable (Grid g) =
-    (is_below 999999999 g.step && (is_below 999999999 g.x0 && is_below 999999999 g.y0)) && (is_below 999999999 g.cols && is_below 999999999 g.rows)
+    (is_below LARGEST_NUMBER g.step && (is_below LARGEST_NUMBER g.x0 && is_below LARGEST_NUMBER g.y0))
+    && (is_below LARGEST_NUMBER g.cols && is_below LARGEST_NUMBER g.rows)
 is_printable (Outer points) = is_short_list points
 is_printable (Obstacle name points) = is_short_list points
 is_printable (Screen name from to) = is_number_point from && is_number_point to
 is_printable (Route name from to) = is_number_point from && is_number_point to
 
+-- how many corners the item has
 abbrev pub points_in : Item → ℕ
 points_in (Grid g) = 0
 points_in (Outer points) = length points
@@ -229,7 +249,8 @@ points_in (Obstacle name points) = length points
 points_in (Screen name from to) = 0
 points_in (Route name from to) = 0
 
--- at most 2000 items, lists of at most 4096 points together, and numbers of few digits: no line is then too long, nor is the text
+-- at most 2000 items, lists of at most 4096 points together, and numbers of few digits: no line is then too long, nor
+-- is the text
 pub record ArePrintable (items : List Item) : Type 0 where
   pub few : length items ≤ 2000
   pub short : sum_by points_in items ≤ 4096

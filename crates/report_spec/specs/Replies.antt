@@ -18,10 +18,10 @@ use Rattle.plan_spec.specs.Axial.{axial_lines}
 use Rattle.plan_spec.specs.Routes.{pieces_of}
 use Rattle.report_spec.specs.declared.readings.TextWhy.{TextWhy}
 use Rattle.report_spec.specs.declared.readings.TextWhy.TheVariants.{Long, Kind, Words, Name, Number}
-use Rattle.report_spec.specs.declared.readings.Query.{Query}
-use Rattle.report_spec.specs.declared.readings.Query.TheVariants.{Edges, Points, Axial, Lines, Segments, Plan as PlanQuery, Depth, Isovist, Turns}
-use Rattle.report_spec.specs.declared.readings.Line.{Line}
-use Rattle.report_spec.specs.declared.readings.Line.TheVariants.{Blank, Edit as OfEdit, Query as OfQuery}
+use Rattle.report_spec.specs.declared.script_line.Query.{Query}
+use Rattle.report_spec.specs.declared.script_line.Query.TheVariants.{Edges, Points, Axial, Lines, Segments, Plan as PlanQuery, Depth, Isovist, Turns}
+use Rattle.report_spec.specs.declared.script_line.Line.{Line}
+use Rattle.report_spec.specs.declared.script_line.Line.TheVariants.{Blank, Edit as OfEdit, Query as OfQuery}
 use Rattle.report_spec.specs.declared.replies.Reason.{Reason}
 use Rattle.report_spec.specs.declared.replies.Reason.TheVariants.{Text as TextReason, Edit as EditReason, NoPoint, Closed, Lines as LinesReason}
 use Rattle.report_spec.specs.ScriptText.{read_line_of_script}

@@ -1,29 +1,34 @@
 -- The lines of a script.
-use Rattle.std.specs.Prelude.{ℕ, List, [], true, false, ◌==◌, length, drop, get_or, Option, Some, None, Result, Ok, Err, if◌then◌else◌, codes, bytes_eq}
+use Rattle.std.specs.Prelude.{ℕ, List, [], true, false, ◌==◌, length, drop, get_or, Option, Some, None, Result, Ok}
+use Rattle.std.specs.Prelude.{Err, if◌then◌else◌, codes, bytes_eq}
 use Rattle.text_spec.specs.Lines.{without_return, is_long}
 use Rattle.text_spec.specs.Words.{words_of, are_blank}
-use Rattle.plan_spec.specs.declared.changes.Edit.TheVariants.{Add, Remove, Move, AddScreen, RemoveScreen, AddRoute, RemoveRoute}
+use Rattle.plan_spec.specs.declared.changes.Edit.TheVariants.{Add, Remove, Move, AddScreen, RemoveScreen, AddRoute}
+use Rattle.plan_spec.specs.declared.changes.Edit.TheVariants.{RemoveRoute}
+use Rattle.report_spec.specs.declared.arguments.Count.TheVariants.{Exactly, InPairs}
 use Rattle.report_spec.specs.declared.readings.TextWhy.{TextWhy}
 use Rattle.report_spec.specs.declared.readings.TextWhy.TheVariants.{Long, Kind, Words}
-use Rattle.report_spec.specs.declared.readings.Query.{Query}
-use Rattle.report_spec.specs.declared.readings.Query.TheVariants.{Edges, Points, Axial, Lines, Segments, Plan, Depth, Isovist, Turns}
-use Rattle.report_spec.specs.declared.readings.Line.{Line}
-use Rattle.report_spec.specs.declared.readings.Line.TheVariants.{Blank, Edit as OfEdit, Query as OfQuery}
-use Rattle.report_spec.specs.Shapes.{Exactly, InPairs, Shape, shape, Fields, read_fields, at, point_from, points_of, box_points}
+use Rattle.report_spec.specs.declared.script_line.ScriptWord.{ScriptWord}
+use Rattle.report_spec.specs.declared.script_line.ScriptWord.TheVariants.{
+  Add as AddWord,
+  Addbox as AddboxWord,
+  Remove as RemoveWord,
+  Move as MoveWord,
+  Addscreen as AddscreenWord,
+  Removescreen as RemovescreenWord,
+  Addroute as AddrouteWord,
+  Removeroute as RemoverouteWord,
+  Depth as DepthWord,
+  Isovist as IsovistWord,
+  Turns as TurnsWord,
+}
+use Rattle.report_spec.specs.declared.script_line.Query.{Query}
+use Rattle.report_spec.specs.declared.script_line.Query.TheVariants.{Edges, Points, Axial, Lines, Segments, Plan}
+use Rattle.report_spec.specs.declared.script_line.Query.TheVariants.{Depth, Isovist, Turns}
+use Rattle.report_spec.specs.declared.script_line.Line.{Line}
+use Rattle.report_spec.specs.declared.script_line.Line.TheVariants.{Blank, Edit as OfEdit, Query as OfQuery}
+use Rattle.report_spec.specs.Shapes.{Shape, shape, Fields, read_fields, at, point_from, points_of, box_points}
 use Rattle.report_spec.specs.PlanText.{ok_map}
-
-pub data ScriptWord : Type 0 where
-  AddWord : ScriptWord
-  AddboxWord : ScriptWord
-  RemoveWord : ScriptWord
-  MoveWord : ScriptWord
-  AddscreenWord : ScriptWord
-  RemovescreenWord : ScriptWord
-  AddrouteWord : ScriptWord
-  RemoverouteWord : ScriptWord
-  DepthWord : ScriptWord
-  IsovistWord : ScriptWord
-  TurnsWord : ScriptWord
 
 -- the kind of line that a word begins, or none; `show` stands apart
 unfoldable pub script_word : List ℕ → Option ScriptWord
@@ -78,6 +83,7 @@ shown word =
     if bytes_eq word (codes "segments") then Some Segments else
     if bytes_eq word (codes "plan") then Some Plan else None
 
+-- the question for a table, or that no table has this name
 abbrev pub read_shown : Option Query → Result Line TextWhy
 read_shown None = Err Kind
 read_shown (Some query) = Ok (OfQuery query)
@@ -86,6 +92,7 @@ read_shown (Some query) = Ok (OfQuery query)
 abbrev pub read_show : List (List ℕ) → Result Line TextWhy
 read_show words = if length words == 1 then read_shown (shown (get_or words 0 [])) else Err Words
 
+-- a line of a kind, from the words after its keyword
 abbrev pub read_kind : Option ScriptWord → List (List ℕ) → Result Line TextWhy
 read_kind None words = Err Kind
 read_kind (Some word) words = ok_map (line_of word) (read_fields (script_shape word) words)
@@ -93,7 +100,9 @@ read_kind (Some word) words = ok_map (line_of word) (read_fields (script_shape w
 -- the words of a line that isn't blank
 abbrev pub read_script_words : List (List ℕ) → Result Line TextWhy
 read_script_words words =
-    if bytes_eq (get_or words 0 []) (codes "show") then read_show (drop 1 words) else read_kind (script_word (get_or words 0 [])) (drop 1 words)
+    if bytes_eq (get_or words 0 []) (codes "show")
+    then read_show (drop 1 words)
+    else read_kind (script_word (get_or words 0 [])) (drop 1 words)
 
 -- a line without its newline and without a carriage return before it
 unfoldable pub read_script_line : List ℕ → Result Line TextWhy

@@ -1,7 +1,22 @@
-//! How replies and tables are printed.
+//! What is printed: which tables, how, and why a line is refused.
 
 use crate::readings::TextWhy;
 use plan_spec::Why;
+
+/// Which tables of a plan stand after the replies.
+#[derive(Clone, Copy, Debug, PartialEq, Eq)]
+pub enum Mode {
+    /// What the grid points see of one another, and what follows for each.
+    Vga,
+    /// What is seen from each open grid point.
+    Isovists,
+    /// The axial lines, and how they cross.
+    AxialMap,
+    /// The pieces of the routes.
+    Segments,
+    /// The plan alone.
+    Check,
+}
 
 /// How the fields of a record are joined: by a space, or by a comma.
 #[derive(Clone, Copy, Debug, PartialEq, Eq)]

@@ -1,5 +1,5 @@
 -- The definitions on small texts.
-use Rattle.std.specs.Prelude.{◌≡◌, refl, ℕ, List, [], ◌∷◌, ◌++◌, codes, Some, None, pos, negsuc, true, false}
+use Rattle.std.specs.Prelude.{◌≡◌, refl, [], ◌∷◌, ◌++◌, codes, Some, None, pos, negsuc, true, false}
 use Rattle.text_spec.specs.Lines.{lines_of, without_empty_last, without_return}
 use Rattle.text_spec.specs.Words.{words_of, are_blank}
 use Rattle.text_spec.specs.Numbers.{natural_of, number_of}

@@ -1,15 +1,19 @@
 -- Words that are numbers.
-use Rattle.std.specs.Prelude.{ℕ, List, [], ◌∷◌, ◌&&◌, ◌==◌, nat_le, length, Option, Some, None, option_map, ℤ, pos, neg_ℤ, if◌then◌else◌}
+use Rattle.std.specs.Prelude.{ℕ, List, [], ◌∷◌, ◌&&◌, ◌==◌, nat_le, length, ℤ, pos, neg_ℤ, if◌then◌else◌}
+use Rattle.std.specs.Prelude.{Option, Some, None, option_map}
 use Rattle.std.specs.List.{list_all}
 use Rattle.std.specs.Char.{is_ascii_digit}
 use Rattle.std.specs.Str.Parse.{digits_value}
+use Rattle.text_spec.specs.declared.numbers.TheConstants.{MOST_DIGITS}
 
--- 1 to 9 digits, which may begin with zeros, as a number
+-- 1 to `MOST_DIGITS` digits, which may begin with zeros, as a number
 unfoldable pub natural_of : List ℕ → Option ℕ
 natural_of word =
-    if nat_le 1 (length word) && (nat_le (length word) 9 && list_all is_ascii_digit word) then Some (digits_value 10 word) else None
+    if nat_le 1 (length word) && (nat_le (length word) MOST_DIGITS && list_all is_ascii_digit word)
+    then Some (digits_value 10 word)
+    else None
 
--- 1 to 9 digits, with `-` before them or without, as a number
+-- 1 to `MOST_DIGITS` digits, with `-` before them or without, as a number
 unfoldable pub number_of : List ℕ → Option ℤ
 number_of [] = None
 number_of (b ∷ bytes) =

@@ -1,18 +1,27 @@
-//! Lines, words, numbers and names as bytes: the definitions that readers of text cite, and the type of names.
+//! Lines, words, numbers and names as bytes: the definitions that readers of text cite, and the types that all crates share.
 //!
 //! | item | what it is |
 //! |---|---|
 //! | [`Name`] | 1 to 32 letters, digits, `_` and `-` |
+//! | [`Sequence`] | a list that grows at its end |
 //! | [`NoMemory`] | what every call answers that found no memory |
+//! | [`without_return`] | a line without the carriage return that stands last in it |
+//! | [`lines_are_whole_but_for_the_last`] | the law that ties all lines to those that a newline ends |
+//! | [`LONGEST_LINE`], [`LONGEST_NAME`] | how many bytes lines and names may have |
+//! | [`MOST_DIGITS`], [`LARGEST_NUMBER`] | how many digits numbers may have, and what they come to |
 //!
 //! `specs/Lines.antt` cuts bytes into lines, `specs/Words.antt` lines into words; `specs/Numbers.antt` and
 //! `specs/Names.antt` say which words are numbers and names.
 #![tactic(auto)]
 
+mod lines;
 mod name;
+mod no_memory;
+mod numbers;
+mod sequence;
 
-pub use name::Name;
-
-/// There is no memory. Every call that allocates may answer it, and then leaves what it was lent as before.
-#[derive(Clone, Copy, Debug, PartialEq, Eq)]
-pub struct NoMemory;
+pub use lines::{LONGEST_LINE, lines_are_whole_but_for_the_last, without_return};
+pub use name::{LONGEST_NAME, Name};
+pub use no_memory::NoMemory;
+pub use numbers::{LARGEST_NUMBER, MOST_DIGITS};
+pub use sequence::Sequence;

@@ -8,13 +8,13 @@ use arrayvec::ArrayVec;
 use std::hash::{Hash, Hasher};
 use std::marker::Model;
 
-/// The number of bytes that a name may have.
-const NAME_LENGTH: usize = 32;
+/// How many bytes a name may have.
+pub const LONGEST_NAME: usize = 32;
 
 /// A name of 1 to 32 letters, digits, `_` and `-`. Contracts see its bytes.
 #[derive(Drop)]
 pub struct Name {
-    bytes: ArrayVec<u8, 32>,
+    bytes: ArrayVec<u8, LONGEST_NAME>,
 }
 
 impl Model for Name {
@@ -45,7 +45,7 @@ impl Name {
     pub fn of(bytes: &[u8]) -> Option<Name>
         ensures { result ≡ (if is_name bytes.now then Some bytes.now else None) }
     {
-        if bytes.is_empty() || bytes.len() > NAME_LENGTH || !all_allowed(bytes) {
+        if bytes.is_empty() || bytes.len() > LONGEST_NAME || !all_allowed(bytes) {
             return None;
         }
         let mut kept = ArrayVec::new();

@@ -4,7 +4,11 @@ use Rattle.clap.proofs.OnLiterals.{clap_on_literals}
 use Rattle.text_spec.specs.Words.{words_of}
 use Rattle.text_spec.specs.Numbers.{natural_of}
 use Rattle.report_spec.specs.declared.replies.Form.TheVariants.{Text, Csv}
-use Rattle.report_spec.specs.Output.{Given, Options, Vga, Analyse, Trial, options_of}
+use Rattle.report_spec.specs.declared.replies.Mode.TheVariants.{Vga}
+use Rattle.report_spec.specs.declared.options.Given.{Given}
+use Rattle.report_spec.specs.declared.options.Job.TheVariants.{Analyse, Trial}
+use Rattle.report_spec.specs.declared.options.Options.{Options}
+use Rattle.report_spec.specs.Options.{options_of}
 use Rattle.words_spec.specs.CommandWords.{given_in, options_in}
 
 -- the texts that the words of a line give, and the options that they stand for

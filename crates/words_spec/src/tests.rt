@@ -1,40 +1,15 @@
 //! Words of the command, read by the code of `clap`. By their contracts, what the functions here answer is what the
 //! definition says, so the table shows the definition at work.
 
-ghost use Rattle.std.specs.Prelude.{◌≡◌, ◌↔◌, IfErr, IfOk, IsTrue, None, false, map};
+ghost use Rattle.std.specs.Prelude.{◌≡◌, ◌↔◌, IfErr, IfOk, IsTrue, None, false, map, option_map};
 ghost use Rattle.clap.specs.Words.{app_of, kind_of, found_of, rows_of, rule_of};
-ghost use Rattle.words_spec.specs.CommandWords.{command, given_by, given_in, option_rule};
+ghost use Rattle.words_spec.specs.CommandWords.{command, given_by, given_in, option_rule, text_given};
 
 use clap::error::ErrorKind;
 use clap::{Arg, ArgAction, ArgMatches, Command, Error};
+use report_spec::{Given, GivenText};
 use std::alloc::{AllocError, Global};
-use std::marker::Model;
 use std::test::Fail;
-
-/// The texts that were given for the options.
-#[derive(Drop)]
-struct Texts<'a> {
-    mode: Option<&'a str>,
-    file: Option<&'a str>,
-    workers: Option<&'a str>,
-    format: Option<&'a str>,
-    number: Option<&'a str>,
-}
-
-impl<'a> Model for Texts<'a> {
-    ghost use Rattle.std.specs.Prelude.{option_map};
-    ghost use Rattle.report_spec.specs.Output.{Given};
-
-    ghost Value = { Given };
-
-    ghost view = { λ a. record {
-      mode = option_map (λ text. text.now) a.mode;
-      file = option_map (λ text. text.now) a.file;
-      workers = option_map (λ text. text.now) a.workers;
-      format = option_map (λ text. text.now) a.format;
-      number = option_map (λ text. text.now) a.number;
-    } };
-}
 
 /// An option that takes one text and may stand once, by its long name alone.
 fn text_option<'a>(alloc: Global, name: &'a str) -> Arg<'a>
@@ -59,21 +34,38 @@ fn five_options<'a>(alloc: Global) -> Result<Command<'a>, AllocError>
         .arg(text_option(alloc, "number"))
 }
 
+/// A text as one that was given for an option.
+fn given(text: Option<&str>) -> Option<GivenText<'_>>
+    ensures { result ≡ option_map (λ t. t.now) text.entry }
+{
+    match text {
+        Some(text) => Some(GivenText::of(text)),
+        None => None,
+    }
+}
+
+/// The text that was given for the option of a name.
+fn text_in<'a>(matches: &ArgMatches<'a>, name: &str) -> Option<GivenText<'a>>
+    ensures text { result ≡ text_given (rows_of (found_of matches.now)) name.now }
+{
+    given(matches.get_str(name))
+}
+
 /// The texts by the options' names.
-fn texts_in<'a>(matches: &ArgMatches<'a>) -> Texts<'a>
+fn texts_in<'a>(matches: &ArgMatches<'a>) -> Given<'a>
     ensures texts { result ≡ given_by (rows_of (found_of matches.now)) }
 {
-    Texts {
-        mode: matches.get_str("mode"),
-        file: matches.get_str("file"),
-        workers: matches.get_str("workers"),
-        format: matches.get_str("format"),
-        number: matches.get_str("number"),
+    Given {
+        mode: text_in(matches, "mode"),
+        file: text_in(matches, "file"),
+        workers: text_in(matches, "workers"),
+        format: text_in(matches, "format"),
+        number: text_in(matches, "number"),
     }
 }
 
 /// The texts that the words give, where the command takes the words.
-fn texts_of<'a>(alloc: Global, words: &'a [&'a str]) -> Result<Option<Texts<'a>>, Error>
+fn texts_of<'a>(alloc: Global, words: &'a [&'a str]) -> Result<Option<Given<'a>>, Error>
     ensures texts { IfOk result (λ r. r ≡ given_in (map (λ word. word.now) words.now)) }
     ensures no_memory { IfErr result (λ e. kind_of e ≡ ErrorKind.OutOfMemory) }
 {
@@ -85,31 +77,42 @@ fn texts_of<'a>(alloc: Global, words: &'a [&'a str]) -> Result<Option<Texts<'a>>
 }
 
 /// Words, and the texts that they give, if they are taken.
-type Row = (&'static [&'static str], Option<Texts<'static>>);
+type Row = (&'static [&'static str], Option<Given<'static>>);
 
 /// A mode and a file alone.
-fn both(mode: &'static str, file: &'static str) -> Option<Texts<'static>> {
-    Some(Texts {
-        mode: Some(mode),
-        file: Some(file),
+fn both(mode: &'static str, file: &'static str) -> Option<Given<'static>> {
+    Some(Given {
+        mode: Some(GivenText::of(mode)),
+        file: Some(GivenText::of(file)),
         workers: None,
         format: None,
         number: None,
     })
 }
 
+/// Whether two texts are the same, where they were given.
+fn is_same(given: &Option<GivenText<'_>>, wanted: &Option<GivenText<'_>>) -> bool
+    ensures same { IsTrue result ↔ given.now ≡ wanted.now }
+{
+    match (given, wanted) {
+        (None, None) => true,
+        (Some(given), Some(wanted)) => given.as_str() == wanted.as_str(),
+        _ => false,
+    }
+}
+
 /// Whether the texts are the same.
-fn are_same(given: &Option<Texts<'_>>, wanted: &Option<Texts<'_>>) -> bool
+fn are_same(given: &Option<Given<'_>>, wanted: &Option<Given<'_>>) -> bool
     ensures same { IsTrue result ↔ given.now ≡ wanted.now }
 {
     match (given, wanted) {
         (None, None) => true,
         (Some(given), Some(wanted)) => {
-            given.mode == wanted.mode
-                && given.file == wanted.file
-                && given.workers == wanted.workers
-                && given.format == wanted.format
-                && given.number == wanted.number
+            is_same(&given.mode, &wanted.mode)
+                && is_same(&given.file, &wanted.file)
+                && is_same(&given.workers, &wanted.workers)
+                && is_same(&given.format, &wanted.format)
+                && is_same(&given.number, &wanted.number)
         }
         _ => false,
     }
@@ -117,25 +120,25 @@ fn are_same(given: &Option<Texts<'_>>, wanted: &Option<Texts<'_>>) -> bool
 
 #[test]
 fn words_are_taken_or_refused(rt: HostRuntime) -> Result<(), Fail> {
-    let nothing = Some(Texts {
+    let nothing = Some(Given {
         mode: None,
         file: None,
         workers: None,
         format: None,
         number: None,
     });
-    let trial = Some(Texts {
-        mode: Some("TRIAL"),
+    let trial = Some(Given {
+        mode: Some(GivenText::of("TRIAL")),
         file: None,
         workers: None,
         format: None,
-        number: Some("7"),
+        number: Some(GivenText::of("7")),
     });
-    let four_workers = Some(Texts {
-        mode: Some("VGA"),
-        file: Some("p"),
-        workers: Some("4"),
-        format: Some("csv"),
+    let four_workers = Some(Given {
+        mode: Some(GivenText::of("VGA")),
+        file: Some(GivenText::of("p")),
+        workers: Some(GivenText::of("4")),
+        format: Some(GivenText::of("csv")),
         number: None,
     });
     let table: [Row; 34] = [

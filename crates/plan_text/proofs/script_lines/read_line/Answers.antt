@@ -1,7 +1,6 @@
 use Rattle.text_spec.specs.Words.{words_of}
-use Rattle.plan_text.specs.Kinds.{script_kind}
 use Rattle.plan_text.proofs.Shifts.{answer_has_shift}
 use Rattle.plan_text.proofs.script_lines.read_line.Goals as goal
 
 pub returns-clause-shift : goal.returns-clause-shift
-returns-clause-shift c = answer_has_shift (script_kind c.in_ok-word.word) (words_of c.in-Some.rest.now) c.line.result c.line.ensures
+returns-clause-shift c = answer_has_shift c.in_ok-word.word (words_of c.in-Some.rest.now) c.line.result c.line.ensures

@@ -1,0 +1,9 @@
+//! What stands after the word that begins a line.
+
+/// How many numbers a line has.
+#[derive(Clone, Copy, Debug, PartialEq, Eq)]
+pub enum Count {
+    Exactly(usize),
+    /// At least one pair.
+    InPairs,
+}
