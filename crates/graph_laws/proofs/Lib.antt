@@ -6,3 +6,8 @@ pub mod Steps
 pub mod Least
 pub mod Rounds
 pub mod Turns
+pub mod Agreeing
+pub mod SimpleGraphs
+pub mod Visibility
+pub mod SameGraphs
+pub mod Bounds

@@ -1,5 +1,5 @@
 //! Laws of graphs and of walks along routes: the depths that are computed, and that stand in tables, are those of the
-//! least walks.
+//! least walks; the graphs of what is seen and of what meets have no direction and no loops.
 //!
 //! A depth is said twice. As a relation it is the least over all walks, of any length: that is what a reader has to
 //! believe. As a value it is found by a search that ends, from which the tables are defined. These laws say that both
@@ -7,37 +7,80 @@
 //!
 //! A law is a function without parameters and with an empty body, whose contract states it.
 //!
-//! | law | what it says |
-//! |---|---|
-//! | [`depth_is_least`] | the computed depth of a node is the least number of edges of a walk to it, or none where there is no walk |
-//! | [`depth_is_unique`] | a node has one depth |
-//! | [`turn_depth_is_least`] | the computed turn depth of a piece is the least cost of a walk to it, or none where there is no walk |
-//! | [`turn_depth_is_unique`] | a piece has one turn depth |
+//! | law | what it says | rests on |
+//! |---|---|---|
+//! | [`depth_is_least`] | the computed depth of a node is the least number of edges of a walk to it, or none where there is no walk | `Graphs` |
+//! | [`depth_is_unique`] | a node has one depth | `Graphs` |
+//! | [`depths_are_bounded`] | a depth is less than the number of nodes, and a total at most the square of one less | `Graphs` |
+//! | [`same_graphs_measure_the_same`] | graphs that are the same below their count have the same depths, measures and edges | `Graphs` |
+//! | [`same_simple_graphs_are_equal`] | where graphs join nodes alone, that makes them equal | `Graphs` |
+//! | [`the_visibility_graph_is_simple`] | what sees is seen, and the graph's edges are the listed pairs that see each other | `Grid`, `Sight` |
+//! | [`the_crossing_graph_is_simple`] | what meets is met | `Axial` |
+//! | [`turn_depth_is_least`] | the computed turn depth of a piece is the least cost of a walk to it, or none where there is no walk | `Routes` |
+//! | [`turn_depth_is_unique`] | a piece has one turn depth | `Routes` |
 //!
-//! Proofs of code cite the laws by the lemmas in `proofs/`, `Depths` and `Turns`.
+//! Proofs of code cite the laws by the lemmas in `proofs/`: `Depths`, `Bounds`, `SameGraphs`, `SimpleGraphs`,
+//! `Visibility` and `Turns`.
 #![tactic(auto)]
 
-ghost use Rattle.std.specs.Prelude.{◌≡◌, ◌<◌, ℕ, List, Option, None, length, get_or};
+ghost use Rattle.std.specs.Prelude.{◌≡◌, ◌<◌, ◌≤◌, ◌-◌, ◌*◌, ℕ, List, Option, None, Some, length, get_or};
 ghost use Rattle.std.specs.List.{Contains, enumerate_from};
-ghost use Rattle.plan_spec.specs.Graphs.{Graph, IsDepth, depth_of, depths_of};
+ghost use Rattle.plan_spec.specs.Plan.{Plan};
+ghost use Rattle.plan_spec.specs.Graphs.{Graph, IsDepth, IsSameGraph, IsSimpleGraph, depth_of, depths_of, edges_of, measures_of, measures_of_nodes};
+ghost use Rattle.plan_spec.specs.Grid.{visibility_edges, visibility_graph};
+ghost use Rattle.plan_spec.specs.Axial.{AxialLine, crossing_graph};
 ghost use Rattle.plan_spec.specs.Routes.{IsTurnDepth, Piece, turn_depths_of};
 
 /// The depth of node `j` from `i` that is computed is the least number of edges of any walk from `i` to `j`, and none
 /// is computed exactly where there is no walk. The list of depths from `i` has one for each node, at its number.
 ///
 /// So what stands in a table as a depth is true of all walks, although only fewer edges than there are nodes are
-/// tried: a shortest walk meets no node twice. `i` may be any number; from one that is no node, no node is reached.
-/// `j` has to be a node, since an edge may also join a node to a number that is none.
+/// tried: a shortest walk meets no node twice. `i` and `j` may be any numbers: one that is no node has no walk.
 pub fn depth_is_least()
-    ensures value { (graph : Graph) (i j : ℕ) → j < graph.count → IsDepth graph i j (depth_of graph i j) }
+    ensures value { (graph : Graph) (i j : ℕ) → IsDepth graph i j (depth_of graph i j) }
     ensures one_each { (graph : Graph) (i : ℕ) → length (depths_of graph i) ≡ graph.count }
-    ensures listed { (graph : Graph) (i j : ℕ) → j < graph.count → IsDepth graph i j (get_or (depths_of graph i) j None) }
+    ensures listed { (graph : Graph) (i j : ℕ) → IsDepth graph i j (get_or (depths_of graph i) j None) }
 {}
 
 /// Two depths of one node from another are the same. So whoever finds a least walk, by whichever search, has found
 /// the depth that is computed.
 pub fn depth_is_unique()
     ensures { (graph : Graph) (i j : ℕ) (a b : Option ℕ) → IsDepth graph i j a → IsDepth graph i j b → a ≡ b }
+{}
+
+/// A depth is less than the number of nodes. Each of the other nodes adds a depth to a total, so this is at most the
+/// square of one less than the number of nodes.
+pub fn depths_are_bounded()
+    ensures depth { (graph : Graph) (i j depth : ℕ) → depth_of graph i j ≡ Some depth → depth < graph.count }
+    ensures total { (graph : Graph) (i : ℕ) → (measures_of graph i).total ≤ (graph.count - 1) * (graph.count - 1) }
+{}
+
+/// Graphs with as many nodes, of which the same are joined, have the same depths, measures and edges, whatever they say
+/// of numbers that are no nodes.
+pub fn same_graphs_measure_the_same()
+    ensures depth { (g h : Graph) → IsSameGraph g h → (i j : ℕ) → depth_of g i j ≡ depth_of h i j }
+    ensures depths { (g h : Graph) → IsSameGraph g h → (i : ℕ) → depths_of g i ≡ depths_of h i }
+    ensures measures { (g h : Graph) → IsSameGraph g h → measures_of_nodes g ≡ measures_of_nodes h }
+    ensures edges { (g h : Graph) → IsSameGraph g h → edges_of g ≡ edges_of h }
+{}
+
+/// Simple graphs that are the same below their count are equal, since neither joins any other number. So are graphs
+/// with as many nodes that join the same numbers.
+pub fn same_simple_graphs_are_equal()
+    ensures simple { (g h : Graph) → IsSimpleGraph g → IsSimpleGraph h → IsSameGraph g h → g ≡ h }
+    ensures joins { (g h : Graph) → g.count ≡ h.count → ((i j : ℕ) → g.joins i j ≡ h.joins i j) → g ≡ h }
+{}
+
+/// The visibility graph of any plan has no direction and no loops and joins numbers of grid points alone. Its edges are
+/// the pairs of open points that see each other, in the order in which the table of edges has them.
+pub fn the_visibility_graph_is_simple()
+    ensures simple { (plan : Plan) → IsSimpleGraph (visibility_graph plan) }
+    ensures edges { (plan : Plan) → edges_of (visibility_graph plan) ≡ visibility_edges plan }
+{}
+
+/// The crossing graph of any lines has no direction and no loops and joins numbers of lines alone.
+pub fn the_crossing_graph_is_simple()
+    ensures { (lines : List AxialLine) → IsSimpleGraph (crossing_graph lines) }
 {}
 
 /// The list of turn depths that is computed has one for each piece, at its number. It is the least cost of any walk

@@ -1,13 +1,19 @@
 -- Depths and measures of small graphs, and what an edit leaves clean.
-use Rattle.std.specs.Prelude.{◌≡◌, refl, [], ◌∷◌, Some, None, pos, true, false}
+use Rattle.std.specs.Prelude.{◌≡◌, refl, ℕ, ◌==◌, ◌&&◌, ◌||◌, List, [], ◌∷◌, Some, None, pos, true, false}
+use Rattle.std.specs.List.{list_any}
 use Rattle.plane_spec.specs.Fractions.{fraction, whole, reduced, common_divisor}
 use Rattle.plane_spec.specs.Boxes.{is_left_of, does_meet_box, with_points}
 use Rattle.plan_spec.specs.declared.changes.Edit.TheVariants.{Add}
-use Rattle.plan_spec.specs.Graphs.{Graph, graph_of_edges, depth_of, depths_of, measures_of}
+use Rattle.plan_spec.specs.Graphs.{Graph, graph_where, edges_of, depth_of, depths_of, measures_of}
 use Rattle.plan_spec.specs.Grid.{grid_points}
 use Rattle.plan_spec.specs.Edits.{changed_boxes}
 use Rattle.plan_spec.specs.Dirty.{is_dirty_pair, is_dirty_row}
 use Rattle.plan_spec.proofs.Figures.{at, box, room, grid}
+
+-- the graph of so many nodes with these edges
+abbrev graph_of_edges : ℕ → List (ℕ × ℕ) → Graph
+graph_of_edges count edges =
+    graph_where count (λ i j. list_any (λ e. (e.0 == i && e.1 == j) || (e.0 == j && e.1 == i)) edges)
 
 -- all pairs of four nodes but 0 and 3
 abbrev square : Graph
@@ -16,6 +22,10 @@ square = graph_of_edges 4 ((0, 1) ∷ (0, 2) ∷ (1, 2) ∷ (1, 3) ∷ (2, 3) �
 -- two nodes that are joined, and one apart
 abbrev parted : Graph
 parted = graph_of_edges 3 ((0, 1) ∷ [])
+
+the_edges_of_a_graph_stand_in_order : edges_of square ≡ (0, 1) ∷ (0, 2) ∷ (1, 2) ∷ (1, 3) ∷ (2, 3) ∷ []
+unfolding edges_of
+the_edges_of_a_graph_stand_in_order = refl
 
 the_node_across_is_two_edges_away : depths_of square 0 ≡ Some 0 ∷ Some 1 ∷ Some 1 ∷ Some 2 ∷ []
 unfolding depth_of

@@ -14,7 +14,7 @@ use Rattle.plan_spec.specs.Grid.{grid_points, is_visible_pair, numbers_of_pair, 
 abbrev IsAbove : ℕ → ℕ × Point → Type 0
 IsAbove low e = low < e.0
 
-abbrev Rises : (ℕ × Point) × (ℕ × Point) → Type 0
+abbrev pub Rises : (ℕ × Point) × (ℕ × Point) → Type 0
 Rises e = e.0.0 < e.1.0
 
 abbrev EdgeRises : ℕ × ℕ → Type 0
@@ -25,7 +25,8 @@ numbers_above : (low n : ℕ) (points : List Point) → low < n → All (IsAbove
 numbers_above low n [] h = All-nil (IsAbove low)
 numbers_above low n (p ∷ points) h = All-cons (IsAbove low) (n, p) (enumerate_from (n + 1) points) h (numbers_above low (n + 1) points (omega arith))
 
-rising_pairs : (n : ℕ) (points : List Point) → All Rises (pairs (enumerate_from n points))
+-- in a pair of a numbered list the smaller number stands first
+pub rising_pairs : (n : ℕ) (points : List Point) → All Rises (pairs (enumerate_from n points))
 rising_pairs n [] = All-nil Rises
 rising_pairs n (p ∷ points) =
     All-append Rises (map (with_each (n, p)) (enumerate_from (n + 1) points)) (pairs (enumerate_from (n + 1) points))

@@ -1,17 +1,16 @@
 -- Axial lines, and which of them cross.
-use Rattle.std.specs.Prelude.{ℕ, ◌==◌, ℤ, pos, ◌-ℤ◌, ◌*ℤ◌, Bool, ◌&&◌, ◌||◌, not, List, map, filter, length, Option, Some, None}
+use Rattle.std.specs.Prelude.{ℕ, ℤ, pos, ◌-ℤ◌, ◌*ℤ◌, Bool, ◌&&◌, ◌||◌, not, List, map, filter, length, get_or, Option, Some, None}
 use Rattle.std.specs.Ordering.{int_eq}
-use Rattle.std.specs.List.{list_any}
 use Rattle.plane_spec.specs.declared.Point.{Point}
 use Rattle.plane_spec.specs.declared.Corner.{Corner}
 use Rattle.plane_spec.specs.Lists.{numbered_pairs, firsts}
-use Rattle.plane_spec.specs.Vectors.{vector}
+use Rattle.plane_spec.specs.Vectors.{point, vector}
 use Rattle.plane_spec.specs.Segments.{are_opposite}
 use Rattle.plane_spec.specs.Fractions.{Fraction, Place, is_before, at_point, along, same_place}
 use Rattle.plan_spec.specs.Scene.{Scene}
 use Rattle.plan_spec.specs.Sight.{are_in_sight}
 use Rattle.plan_spec.specs.Stops.{stop_of}
-use Rattle.plan_spec.specs.Graphs.{Graph}
+use Rattle.plan_spec.specs.Graphs.{Graph, graph_where}
 
 -- the line through two corners, with their numbers, as far as nothing stops it
 pub record AxialLine : Type 0 where
@@ -83,12 +82,13 @@ do_places_touch a b c d =
 abbrev pub do_meet : AxialLine → AxialLine → Bool
 do_meet l m = do_places_touch l.from l.to m.from m.to
 
--- two different places of a list hold elements that pass the test
-abbrev pub join_by : {X : Type 0} → (X → X → Bool) → List X → ℕ → ℕ → Bool
-join_by test xs i j =
-    list_any (λ e. ((e.0.0 == i) && (e.1.0 == j)) && test e.0.1 e.1.1) (numbered_pairs xs)
-    || list_any (λ e. ((e.0.0 == j) && (e.1.0 == i)) && test e.0.1 e.1.1) (numbered_pairs xs)
+abbrev pub no_line : AxialLine
+no_line = record { first = 0; second = 0; from = at_point (point (pos 0) (pos 0)); to = at_point (point (pos 0) (pos 0)) }
+
+-- the line of a number; one that leads nowhere stands for a number that no line has
+abbrev pub line_of_number : List AxialLine → ℕ → AxialLine
+line_of_number lines k = get_or lines k no_line
 
 -- the graph over the lines' numbers that joins different lines that meet
 unfoldable pub crossing_graph : List AxialLine → Graph
-crossing_graph lines = record { count = length lines; joins = join_by do_meet lines }
+crossing_graph lines = graph_where (length lines) (λ i j. do_meet (line_of_number lines i) (line_of_number lines j))

@@ -1,29 +1,47 @@
 -- Graphs, walks in them, depths and the measures of a node.
-use Rattle.std.specs.Prelude.{◌≡◌, ℕ, zero, suc, ◌+◌, ◌-◌, ◌*◌, ◌≤◌, nat_le, pos, ◌-ℤ◌, ◌*ℤ◌, Bool, true, ◌&&◌, ◌==◌, List, map, count_by, Option, Some, None, is_some, unwrap_or, if◌then◌else◌}
+use Rattle.std.specs.Prelude.{◌≡◌, ℕ, zero, suc, ◌+◌, ◌-◌, ◌*◌, ◌<◌, ◌≤◌, nat_lt, nat_le, pos, ◌-ℤ◌, ◌*ℤ◌, Bool, true, false, ◌&&◌, not, ◌==◌, List, map, filter, count_by, Option, Some, None, is_some, unwrap_or, if◌then◌else◌}
 use Rattle.std.specs.List.{list_any, range_with_len, sum_by}
 use Rattle.plane_spec.specs.Fractions.{Fraction, reduced}
+use Rattle.plane_spec.specs.Lists.{pairs}
 
--- a graph over the nodes below `count`; an edge has no direction
+-- a graph over the nodes below `count`, and which two of them an edge joins
 pub record Graph : Type 0 where
   pub count : ℕ
   pub joins : ℕ → ℕ → Bool
 
--- the graph of edges that are listed with the smaller node first
-abbrev pub graph_of_edges : ℕ → List (ℕ × ℕ) → Graph
-graph_of_edges count edges = record { count = count; joins = λ i j. list_any (λ e. is_pair e i j) edges }
-  where
-    is_pair : ℕ × ℕ → ℕ → ℕ → Bool
-    is_pair e i j = if (e.0 == i) && (e.1 == j) then true else ((e.0 == j) && (e.1 == i))
+-- an edge has no direction, joins no node to itself, and joins nodes of the graph alone
+pub record IsSimpleGraph (graph : Graph) : Type 0 where
+  pub symmetric : (i j : ℕ) → graph.joins i j ≡ graph.joins j i
+  pub loopless : (i : ℕ) → graph.joins i i ≡ false
+  pub on_nodes : (i j : ℕ) → graph.joins i j ≡ true → (i < graph.count) × (j < graph.count)
 
+-- the same graph: as many nodes, of which the same are joined; what is said of other numbers doesn't matter
+pub record IsSameGraph (g h : Graph) : Type 0 where
+  pub count : g.count ≡ h.count
+  pub joins : (i j : ℕ) → i < g.count → j < g.count → g.joins i j ≡ h.joins i j
+
+-- the graph over so many nodes that joins two different ones where the test says so
+abbrev pub graph_where : ℕ → (ℕ → ℕ → Bool) → Graph
+graph_where count test =
+    record { count = count; joins = λ i j. ((nat_lt i count && nat_lt j count) && not (i == j)) && test i j }
+
+-- the numbers below the count
 abbrev pub nodes : Graph → List ℕ
 nodes graph = range_with_len 0 graph.count
 
+abbrev pub is_edge : Graph → ℕ × ℕ → Bool
+is_edge graph e = graph.joins e.0 e.1
+
+-- the edges, each once, its smaller node first, in order of that and then of the other
+unfoldable pub edges_of : Graph → List (ℕ × ℕ)
+edges_of graph = filter (is_edge graph) (pairs (nodes graph))
+
 -- ---- walks
 
--- a walk of so many edges from i to j, in which each edge joins two nodes of the graph
+-- a walk of so many edges from i to j over nodes of the graph; a number that is no node has none, not even to itself
 abbrev pub Walk : Graph → ℕ → ℕ → ℕ → Type 0
-Walk graph i j zero = i ≡ j
-Walk graph i j (suc steps) = (k : ℕ) × Walk graph i k steps × (suc k ≤ graph.count) × (graph.joins k j ≡ true)
+Walk graph i j zero = (i ≡ j) × (j < graph.count)
+Walk graph i j (suc steps) = (k : ℕ) × Walk graph i k steps × (graph.joins k j ≡ true) × (j < graph.count)
 
 -- the depth of j from i: the least number of edges of a walk, or none where there is no walk
 abbrev pub IsDepth : Graph → ℕ → ℕ → Option ℕ → Type 0
@@ -32,8 +50,9 @@ IsDepth graph i j (Some depth) = Walk graph i j depth × ((steps : ℕ) → Walk
 
 -- there is a walk of so many edges
 abbrev pub has_walk : Graph → ℕ → ℕ → ℕ → Bool
-has_walk graph i j zero = i == j
-has_walk graph i j (suc steps) = list_any (λ k. has_walk graph i k steps && graph.joins k j) (nodes graph)
+has_walk graph i j zero = (i == j) && nat_lt j graph.count
+has_walk graph i j (suc steps) =
+    list_any (λ k. has_walk graph i k steps && graph.joins k j) (nodes graph) && nat_lt j graph.count
 
 -- the first of `count` numbers from k on that passes the test
 abbrev pub first_from : (ℕ → Bool) → ℕ → ℕ → Option ℕ
@@ -83,6 +102,10 @@ measures_by connectivity depths =
       asymmetry = relative_asymmetry (count_by is_some depths) (total_depth depths);
     }
 
--- the measures of node i
+-- the measures of a node
 unfoldable pub measures_of : Graph → ℕ → Measures
 measures_of graph i = measures_by (count_by (graph.joins i) (nodes graph)) (depths_of graph i)
+
+-- the measures of each node
+abbrev pub measures_of_nodes : Graph → List Measures
+measures_of_nodes graph = map (measures_of graph) (nodes graph)

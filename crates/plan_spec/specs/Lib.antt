@@ -5,9 +5,9 @@ pub mod Edits
 pub mod Scene
 pub mod Sight
 pub mod Stops
+pub mod Graphs
 pub mod Grid
 pub mod Isovist
-pub mod Graphs
 pub mod Axial
 pub mod Dirty
 pub mod Routes

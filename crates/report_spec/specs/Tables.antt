@@ -1,15 +1,14 @@
 -- The table of each question, afresh from the plan.
-use Rattle.std.specs.Prelude.{ℕ, ◌-◌, nat_le, List, [], ◌∷◌, ◌++◌, map, filter, length, codes, get_or, count_by, Option, None, is_some, if◌then◌else◌}
+use Rattle.std.specs.Prelude.{ℕ, ◌-◌, nat_le, List, [], ◌∷◌, ◌++◌, map, length, codes, get_or, count_by, Option, None, is_some, if◌then◌else◌}
 use Rattle.std.specs.Fmt.{decimal, signed_decimal}
 use Rattle.std.specs.List.{enumerate_from}
 use Rattle.plane_spec.specs.declared.Point.{Point}
 use Rattle.plan_spec.specs.declared.kinds.Route.{Route}
 use Rattle.plan_spec.specs.Plan.{Plan, items_of}
 use Rattle.plan_spec.specs.Scene.{scene_of}
-use Rattle.plan_spec.specs.Sight.{is_open}
-use Rattle.plan_spec.specs.Grid.{grid_points, visibility_edges}
+use Rattle.plan_spec.specs.Grid.{open_points, visibility_edges, visibility_graph}
 use Rattle.plan_spec.specs.Isovist.{Isovist, Triangle, isovist_in}
-use Rattle.plan_spec.specs.Graphs.{Graph, Measures, graph_of_edges, nodes, depths_of, measures_of, mean_depth, total_depth}
+use Rattle.plan_spec.specs.Graphs.{Graph, Measures, nodes, depths_of, measures_of, mean_depth, total_depth}
 use Rattle.plan_spec.specs.Axial.{AxialLine, axial_lines, crossing_graph}
 use Rattle.plan_spec.specs.Routes.{Piece, pieces_of, neighbours_of, turn_depths_of}
 use Rattle.report_spec.specs.Records.{fraction_field, number_or_dash, fraction_or_dash, place_fields, table, table_with_total}
@@ -23,14 +22,6 @@ edge_row e = decimal e.0 ∷ decimal e.1 ∷ []
 -- i, j
 abbrev pub edges_table : Plan → List (List (List ℕ))
 edges_table plan = table (codes "edges") (map edge_row (visibility_edges plan))
-
--- the visibility graph of the grid
-abbrev pub visibility_graph : Plan → Graph
-visibility_graph plan = graph_of_edges (length (grid_points plan.grid)) (visibility_edges plan)
-
--- the grid points that are open, each beside its number
-abbrev pub open_points : Plan → List (ℕ × Point)
-open_points plan = filter (λ e. is_open plan e.1) (enumerate_from 0 (grid_points plan.grid))
 
 -- connectivity, reached, total, mean, RA
 abbrev pub measure_fields : Measures → List (List ℕ)

@@ -7,9 +7,8 @@ use Rattle.plane_spec.specs.Vectors.{point}
 use Rattle.plan_spec.specs.declared.kinds.Item.{Item}
 use Rattle.plan_spec.specs.declared.kinds.Item.TheVariants.{Grid, Outer, Obstacle}
 use Rattle.plan_spec.specs.Plan.{Plan, empty_plan, with_items}
-use Rattle.plan_spec.specs.Grid.{grid_points, visibility_edges}
+use Rattle.plan_spec.specs.Grid.{grid_points, open_points, visibility_edges, visibility_graph}
 use Rattle.plan_spec.specs.Graphs.{Graph, depths_of, total_depth}
-use Rattle.report_spec.specs.Tables.{visibility_graph, open_points}
 
 -- the least number from `root` on, of so many, whose square is at least n
 abbrev pub root_from : ℕ → ℕ → ℕ → ℕ
