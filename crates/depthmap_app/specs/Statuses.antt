@@ -1,13 +1,14 @@
--- The statuses: their numbers, and what is said of each on standard error.
-use Rattle.std.specs.Prelude.{◌≡◌, ◌⊎◌, ◌<◌, ℕ, List, Option, Some, None}
+-- What each status says: of the output, of the plan's file, of standard error, and of the faults.
+use Rattle.std.specs.Prelude.{◌≡◌, ◌⊎◌, ◌<◌, ◌+◌, ℕ, List, [], length, Option, Some, None, IfSome}
+use Rattle.report_spec.specs.declared.replies.Reason.{Reason}
 use Rattle.report_spec.specs.Messages.{usage_message, plan_message, read_message, write_message, memory_message, length_message}
-use Rattle.dm_io.specs.Streams.{PutsFront, with_end}
+use Rattle.report_spec.specs.PlanFile.{plan_in_file}
+use Rattle.dm_io.specs.Streams.{IsFront, IsIfTold, PutsFront, TakesAtMost, with_end}
+use Rattle.plan_spec.specs.Plan.{Plan}
+use Rattle.depthmap_app.specs.Outputs.{HoldsPlan, IsAnswered, IsAnsweredInPart, IsRefused, WritesAtMost}
+use Rattle.depthmap_app.specs.declared.plan_file.TheConstants.{MOST_PLAN_BYTES}
 use Rattle.depthmap_app.specs.declared.status.Status.{Status}
 use Rattle.depthmap_app.specs.declared.status.Status.TheVariants.{Done, DoneWithRefusals, BadWords, BadPlan, ReadFault, WriteFault, NoMemory, TooLong}
-use Rattle.depthmap_app.specs.declared.status.Outcome.{Outcome}
-use Rattle.depthmap_app.specs.declared.status.Outcome.TheVariants.{Done as DoneOutcome, BadWords as BadWordsOutcome, BadPlan as BadPlanOutcome, ReadFault as ReadFaultOutcome, WriteFault as WriteFaultOutcome, NoMemory as NoMemoryOutcome, TooLong as TooLongOutcome}
-
--- ---- numbers
 
 -- the number that the program ends with
 abbrev pub code_of : Status → ℕ
@@ -20,47 +21,91 @@ code_of WriteFault = 5
 code_of NoMemory = 6
 code_of TooLong = 7
 
-abbrev pub status_of : Outcome → Status
-status_of DoneOutcome = Done
-status_of BadWordsOutcome = BadWords
-status_of (BadPlanOutcome line reason) = BadPlan
-status_of ReadFaultOutcome = ReadFault
-status_of WriteFaultOutcome = WriteFault
-status_of NoMemoryOutcome = NoMemory
-status_of TooLongOutcome = TooLong
+-- ---- the output
 
--- ---- messages
+-- what was written, by what is known of the bytes in the plan's file; no script is read, so no reply is refused
+abbrev pub Writes : Option (List ℕ) → Option (List ℕ) → Option (List ℕ) → Status → Type 0
+Writes known before after Done = IfSome known (λ bytes. IsAnswered bytes before after)
+Writes known before after DoneWithRefusals = ⊥
+Writes known before after BadWords = after ≡ before
+Writes known before after BadPlan = after ≡ before
+Writes known before after ReadFault = after ≡ before
+Writes known before after WriteFault = IfSome known (λ bytes. IsAnsweredInPart bytes before after)
+Writes known before after NoMemory = IfSome known (λ bytes. WritesAtMost (plan_in_file bytes) before after)
+Writes known before after TooLong = after ≡ before
 
--- what is said on standard error, if anything
-abbrev pub message_of : Outcome → Option (List ℕ)
-message_of DoneOutcome = None
-message_of BadWordsOutcome = Some usage_message
-message_of (BadPlanOutcome line reason) = Some (plan_message line reason)
-message_of ReadFaultOutcome = Some read_message
-message_of WriteFaultOutcome = Some write_message
-message_of NoMemoryOutcome = Some memory_message
-message_of TooLongOutcome = Some length_message
+-- ---- the plan's file
+
+-- exactly one byte more than the limit was taken of what is known, and this is left
+abbrev pub TakesTooMany : Option (List ℕ) → Option (List ℕ) → Type 0
+TakesTooMany known left = (front : List ℕ) × (length front ≡ MOST_PLAN_BYTES + 1) × IsFront known front left
+
+-- how much was taken, by what is known of the file's bytes and by what was left before and is left after
+abbrev pub TakesPlan : Option (List ℕ) → Option (List ℕ) → Option (List ℕ) → Status → Type 0
+TakesPlan known before left Done = IsIfTold [] left
+TakesPlan known before left DoneWithRefusals = IsIfTold [] left
+TakesPlan known before left BadWords = left ≡ before
+TakesPlan known before left BadPlan = IsIfTold [] left
+TakesPlan known before left ReadFault = (left ≡ before) ⊎ TakesAtMost MOST_PLAN_BYTES known left
+TakesPlan known before left WriteFault = IsIfTold [] left
+TakesPlan known before left NoMemory = (left ≡ before) ⊎ TakesAtMost (MOST_PLAN_BYTES + 1) known left
+TakesPlan known before left TooLong = TakesTooMany known left
+
+-- ---- standard error, by what was written there and how often it had failed, each before and after
+
+-- nothing was said
+abbrev pub IsSilent : Option (List ℕ) → Option (List ℕ) → ℕ → ℕ → Type 0
+IsSilent before after faults faults_after = (after ≡ before) × (faults_after ≡ faults)
 
 -- the message was written; or a front of it, and then the count of faults rose
-abbrev pub Says : Option (List ℕ) → Option (List ℕ) → ℕ → ℕ → List ℕ → Type 0
-Says before after faults_before faults_after message =
-    ((after ≡ with_end before message) × (faults_after ≡ faults_before)) ⊎ (PutsFront before after message × (faults_before < faults_after))
+abbrev pub IsSaid : Option (List ℕ) → Option (List ℕ) → ℕ → ℕ → List ℕ → Type 0
+IsSaid before after faults faults_after message =
+    ((after ≡ with_end before message) × (faults_after ≡ faults)) ⊎ (PutsFront before after message × (faults < faults_after))
 
--- what is said of a status on standard error, where that is one and the same line
-abbrev pub line_of : Status → Option (List ℕ)
-line_of Done = None
-line_of DoneWithRefusals = None
-line_of BadWords = Some usage_message
-line_of BadPlan = None
-line_of ReadFault = Some read_message
-line_of WriteFault = Some write_message
-line_of NoMemory = Some memory_message
-line_of TooLong = Some length_message
+-- the bytes that are known hold no plan, and the line at fault was said with its reason
+abbrev pub SaysWhy : Option (List ℕ) → Option (List ℕ) → Option (List ℕ) → ℕ → ℕ → Type 0
+SaysWhy known before after faults faults_after =
+    (line : ℕ) × (reason : Reason) × IfSome known (λ bytes. IsRefused bytes line reason) × IsSaid before after faults faults_after (plan_message line reason)
 
--- the statuses with which the file was read to its end
-abbrev pub IsAfterPlan : Status → Type 0
-IsAfterPlan status = (status ≡ Done) ⊎ (status ≡ BadPlan) ⊎ (status ≡ WriteFault)
+-- what was said
+abbrev pub Says : Option (List ℕ) → Option (List ℕ) → Option (List ℕ) → ℕ → ℕ → Status → Type 0
+Says known before after faults faults_after Done = IsSilent before after faults faults_after
+Says known before after faults faults_after DoneWithRefusals = IsSilent before after faults faults_after
+Says known before after faults faults_after BadWords = IsSaid before after faults faults_after usage_message
+Says known before after faults faults_after BadPlan = SaysWhy known before after faults faults_after
+Says known before after faults faults_after ReadFault = IsSaid before after faults faults_after read_message
+Says known before after faults faults_after WriteFault = IsSaid before after faults faults_after write_message
+Says known before after faults faults_after NoMemory = IsSaid before after faults faults_after memory_message
+Says known before after faults faults_after TooLong = IsSaid before after faults faults_after length_message
 
--- the statuses with which nothing is written
-abbrev pub IsUnwritten : Status → Type 0
-IsUnwritten status = (status ≡ BadWords) ⊎ (status ≡ BadPlan) ⊎ (status ≡ ReadFault) ⊎ (status ≡ TooLong)
+-- the line that is said of a status, where it is one and the same
+abbrev pub message_of : Status → Option (List ℕ)
+message_of Done = None
+message_of DoneWithRefusals = None
+message_of BadWords = Some usage_message
+message_of BadPlan = None
+message_of ReadFault = Some read_message
+message_of WriteFault = Some write_message
+message_of NoMemory = Some memory_message
+message_of TooLong = Some length_message
+
+-- ---- faults
+
+-- how often the files failed, the script and the output
+pub record Faults : Type 0 where
+  pub files : ℕ
+  pub script : ℕ
+  pub out : ℕ
+
+abbrev pub faults : ℕ → ℕ → ℕ → Faults
+faults files script out = record { files = files; script = script; out = out }
+
+-- which count of faults rose, if any
+abbrev pub Counts : Faults → Faults → Status → Type 0
+Counts old new ReadFault = (old.files < new.files) × (new.script ≡ old.script) × (new.out ≡ old.out)
+Counts old new WriteFault = (new.files ≡ old.files) × (new.script ≡ old.script) × (old.out < new.out)
+Counts old new _ = new ≡ old
+
+-- where the bytes hold a plan and nothing failed, all was done or there was no memory
+abbrev pub IsComplete : List ℕ → Faults → Faults → Status → Type 0
+IsComplete bytes old new status = (plan : Plan) → HoldsPlan bytes plan → new ≡ old → (status ≡ Done) ⊎ (status ≡ NoMemory)

@@ -5,14 +5,17 @@
 //! |---|---|
 //! | [`run`] | does all that the program does |
 //! | [`Status`] | how a run ended, with the number that the program ends with |
+//! | [`MOST_PLAN_BYTES`] | how many bytes a plan file may have |
+//! | [`start`], [`exit`], [`NO_WORDS`] | what a program's `main` does: [`run`] over the system's own files and streams |
 //!
-//! Data goes one way: words and bytes, plan (`plan_file`), grid points and scene, edges, records (`edges`), bytes. The
-//! definitions that the contract of [`run`] cites stand in `specs/`: `Words` says which words name a file, `Outputs` what
-//! is printed for a plan, `Statuses` what is said of each status.
+//! Data goes one way: words and bytes, plan, grid points and scene, edges, records (`edges`), bytes. The definitions that
+//! the contract of [`run`] cites stand in `specs/`: `Words` says which words name a file, `Outputs` what is written for a
+//! plan, `Statuses` what each status says of the output, of the plan's file, of standard error and of the faults.
 #![tactic(auto)]
 
 mod edges;
 mod grid;
+mod host;
 mod messages;
 mod output;
 mod plan_file;
@@ -20,6 +23,8 @@ mod program;
 mod status;
 mod words;
 
+pub use host::{NO_WORDS, exit, start};
+pub use plan_file::MOST_PLAN_BYTES;
 pub use program::run;
 pub use status::Status;
 

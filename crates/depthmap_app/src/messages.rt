@@ -1,13 +1,13 @@
 //! The line on standard error.
 
-ghost use Rattle.std.specs.Prelude.{◌≡◌, ◌<◌, ◌-◌, ◌^◌, ◌++◌, IfNone, IfSome, OnErr, OnOk};
+ghost use Rattle.std.specs.Prelude.{◌≡◌, ◌⊎◌, ◌<◌, ◌-◌, ◌^◌, ◌++◌, IfNone, IfSome, OnErr, OnOk};
 ghost use Rattle.std.specs.List.{flat_map, join_with_byte};
 ghost use Rattle.report_spec.specs.Messages.{plan_message};
 ghost use Rattle.report_spec.specs.Replies.{reason_words, text_why_word, why_words};
 ghost use Rattle.dm_io.specs.Streams.{PutsFront, Rose, with_end};
-ghost use Rattle.depthmap_app.specs.Statuses.{Says, message_of};
+ghost use Rattle.depthmap_app.specs.Statuses.{IsSaid, IsSilent, message_of};
 
-use crate::status::Outcome;
+use crate::status::Status;
 use dm_io::{PutFailed, Sink, put_all};
 use itoa::Buffer;
 use plan_spec::{Limit, Why};
@@ -108,19 +108,29 @@ fn put_plan_message<E: Sink>(err: &mut E, line: u32, reason: &Reason) -> Result<
     put_pieces(err, &pieces)
 }
 
-/// Writes the line that is said of an outcome, if there is one. What becomes of it changes nothing else. Takes no memory.
-pub fn say<E: Sink>(err: &mut E, outcome: &Outcome)
+/// Says on which line a plan is at fault, and why. What becomes of it changes nothing else. Takes no memory.
+pub fn say_why<E: Sink>(err: &mut E, line: u32, reason: &Reason)
     requires { E.faults err.old < 2 ^ 64 - 1 }
-    ensures says { IfSome (message_of outcome.now) (Says (E.written err.old) (E.written err.new) (E.faults err.old) (E.faults err.new)) }
-    ensures silent { IfNone (message_of outcome.now) ((E.written err.new ≡ E.written err.old) × (E.faults err.new ≡ E.faults err.old)) }
+    ensures { IsSaid (E.written err.old) (E.written err.new) (E.faults err.old) (E.faults err.new) (plan_message line reason.now) }
 {
-    let _ = match outcome {
-        Outcome::Done => Ok(()),
-        Outcome::BadWords => put_all(err, USAGE),
-        Outcome::BadPlan { line, reason } => put_plan_message(err, *line, reason),
-        Outcome::ReadFault => put_all(err, b"depthmap: cannot read\n"),
-        Outcome::WriteFault => put_all(err, b"depthmap: cannot write\n"),
-        Outcome::NoMemory => put_all(err, b"depthmap: out of memory\n"),
-        Outcome::TooLong => put_all(err, b"depthmap: input too long\n"),
+    let _ = put_plan_message(err, line, reason);
+}
+
+/// Says the line of a status. Nothing is said where all was done, nor of a refused plan, of which the line at fault was
+/// said where it was found. What becomes of it changes nothing else. Takes no memory.
+pub fn say<E: Sink>(err: &mut E, status: Status)
+    requires { (status ≡ Status.BadPlan) ⊎ (E.faults err.old < 2 ^ 64 - 1) }
+    ensures said { IfSome (message_of status) (IsSaid (E.written err.old) (E.written err.new) (E.faults err.old) (E.faults err.new)) }
+    ensures silent { IfNone (message_of status) (IsSilent (E.written err.old) (E.written err.new) (E.faults err.old) (E.faults err.new)) }
+{
+    let _ = match status {
+        Status::Done => Ok(()),
+        Status::DoneWithRefusals => Ok(()),
+        Status::BadWords => put_all(err, USAGE),
+        Status::BadPlan => Ok(()),
+        Status::ReadFault => put_all(err, b"depthmap: cannot read\n"),
+        Status::WriteFault => put_all(err, b"depthmap: cannot write\n"),
+        Status::NoMemory => put_all(err, b"depthmap: out of memory\n"),
+        Status::TooLong => put_all(err, b"depthmap: input too long\n"),
     };
 }

@@ -1,8 +1,8 @@
 //! The output for a plan.
 
-ghost use Rattle.std.specs.Prelude.{◌≡◌, ◌⊎◌, [], IsErrOf, OnErr, OnOk};
+ghost use Rattle.std.specs.Prelude.{◌≡◌, ◌⊎◌, IsErrOf, OnErr, OnOk};
 ghost use Rattle.dm_io.specs.Streams.{PutsFront, Rose, with_end};
-ghost use Rattle.depthmap_app.specs.Outputs.{edges_output_of};
+ghost use Rattle.depthmap_app.specs.Outputs.{output_of};
 
 use crate::edges::put_edges;
 use crate::grid::open_points;
@@ -16,14 +16,14 @@ use std::alloc::Global;
 pub enum PrintFault {
     /// The sink failed.
     Write,
-    /// There is no memory.
+    /// The memory ran out.
     NoMemory,
 }
 
-/// Prints the output for a plan where no line of a script is read: the table of its edges.
+/// Prints the output for a plan: the table of its edges.
 pub fn put_output<O: Sink>(alloc: Global, out: &mut O, plan: &Plan) -> Result<(), PrintFault>
-    ensures all { OnOk result (O.written out.new ≡ with_end (O.written out.old) (edges_output_of plan.now [])) }
-    ensures front { OnErr result (PutsFront (O.written out.old) (O.written out.new) (edges_output_of plan.now [])) }
+    ensures all { OnOk result (O.written out.new ≡ with_end (O.written out.old) (output_of plan.now)) }
+    ensures front { OnErr result (PutsFront (O.written out.old) (O.written out.new) (output_of plan.now)) }
     ensures cause { IsErrOf result PrintFault.Write → Rose (O.faults out.old) (O.faults out.new) }
     ensures quiet { IsErrOf result PrintFault.Write ⊎ (O.faults out.new ≡ O.faults out.old) }
 {

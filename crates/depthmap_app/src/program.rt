@@ -1,84 +1,95 @@
 //! The top call.
 
-ghost use Rattle.std.specs.Prelude.{◌≡◌, ◌⊎◌, ◌↔◌, ◌<◌, ◌≤◌, ◌-◌, ◌^◌, ℕ, IfOk, IfSome, IsErrOf, IsTrue, List, OnOk, [], length};
-ghost use Rattle.dm_io.specs.Streams.{IsIfTold, Rose};
-ghost use Rattle.plan_spec.specs.Plan.{Plan};
-ghost use Rattle.report_spec.specs.declared.replies.Reason.{Reason};
-ghost use Rattle.report_spec.specs.Messages.{plan_message};
-ghost use Rattle.report_spec.specs.PlanFile.{plan_in_file};
-ghost use Rattle.depthmap_app.specs.Outcomes.{Counts, GivesTooMany, Leaves};
-ghost use Rattle.depthmap_app.specs.Outputs.{HoldsPlan, IsAnswered, IsAnsweredInPart, IsRefused, WritesAtMost};
-ghost use Rattle.depthmap_app.specs.Statuses.{IsAfterPlan, IsUnwritten, Says, line_of, status_of};
+ghost use Rattle.std.specs.Prelude.{◌≡◌, ◌⊎◌, ◌↔◌, ◌<◌, ◌-◌, ◌^◌, ℕ, IfSome, IsTrue};
+ghost use Rattle.depthmap_app.specs.Statuses.{Counts, IsComplete, IsSilent, Says, SaysWhy, TakesPlan, Writes, faults};
 ghost use Rattle.depthmap_app.specs.Words.{file_in, told_file};
 
-use crate::messages::say;
+use crate::messages::{say, say_why};
 use crate::output::{PrintFault, put_output};
-use crate::plan_file::{PlanFault, plan_in};
-use crate::status::{Outcome, Status};
+use crate::plan_file::read_file;
+use crate::status::Status;
 use crate::words::file_name;
-use dm_io::{AllFault, Files, Gate, Sink, Source, read_all};
+use dm_io::{AllFault, Files, Gate, Sink, Source};
+use plan_check::{CheckFault, check};
+use plan_text::{ReadPlanFault, read_plan};
+use report_spec::Reason;
 use std::alloc::Global;
 use std::thread::Threads;
 
-/// How many bytes a plan file may have.
-const MOST_PLAN_BYTES: usize = 1_048_576;
-
-/// All the bytes of a plan file.
-fn read_file<F: Files>(alloc: Global, files: &mut F, name: &str) -> Result<Vec<u8>, AllFault>
-    requires { IsTrue (F.allows files.old name.now) }
-    ensures all { IfOk result (λ bytes. IfSome (F.holds files.old name.now) (λ told. bytes.items ≡ told)) }
-    ensures end { OnOk result (IsIfTold [] (F.left files.new)) }
-    ensures short { IfOk result (λ bytes. length bytes.items ≤ 1048576) }
-    ensures over { IsErrOf result AllFault.Over → GivesTooMany (F.holds files.old name.now) (F.left files.new) }
-    ensures cause { IsErrOf result AllFault.Failed → Rose (F.faults files.old) (F.faults files.new) }
-    ensures quiet { IsErrOf result AllFault.Failed ⊎ (F.faults files.new ≡ F.faults files.old) }
-{
-    if files.open_file(name).is_err() {
-        return Err(AllFault::Failed);
-    }
-    read_all(alloc, files, MOST_PLAN_BYTES)
-}
-
-/// Prints the edges of the plan in the file of a name.
-fn print_file<F: Files, O: Sink>(alloc: Global, files: &mut F, name: &str, out: &mut O) -> Outcome
+/// Prints the output for the plan in the file of a name. Where the file holds none, it says why on `err`.
+fn print_file<F: Files, O: Sink, E: Sink>(
+    alloc: Global,
+    files: &mut F,
+    name: &str,
+    out: &mut O,
+    err: &mut E,
+) -> Status
     requires files_below { F.faults files.old < 2 ^ 64 - 1 }
     requires out_below { O.faults out.old < 2 ^ 64 - 1 }
+    requires err_below { E.faults err.old < 2 ^ 64 - 1 }
     requires allowed { IsTrue (F.allows files.old name.now) }
-    ensures leaves { Leaves (F.holds files.old name.now) (F.left files.new) (O.written out.old) (O.written out.new) result }
-    ensures counts { Counts (F.faults files.old) (F.faults files.new) (O.faults out.old) (O.faults out.new) result }
-    ensures named { status_of result ≡ Status.BadWords → ⊥ }
+    ensures writes { Writes (F.holds files.old name.now) (O.written out.old) (O.written out.new) result }
+    ensures takes { TakesPlan (F.holds files.old name.now) (F.left files.old) (F.left files.new) result }
+    ensures why { result ≡ Status.BadPlan → SaysWhy (F.holds files.old name.now) (E.written err.old) (E.written err.new) (E.faults err.old) (E.faults err.new) }
+    ensures silent { (result ≡ Status.BadPlan) ⊎ IsSilent (E.written err.old) (E.written err.new) (E.faults err.old) (E.faults err.new) }
+    ensures counts { (script : ℕ) → Counts (faults (F.faults files.old) script (O.faults out.old)) (faults (F.faults files.new) script (O.faults out.new)) result }
+    ensures named { result ≡ Status.BadWords → ⊥ }
 {
     let bytes = match read_file(alloc, files, name) {
         Ok(bytes) => bytes,
-        Err(AllFault::Failed) => return Outcome::ReadFault,
-        Err(AllFault::Over) => return Outcome::TooLong,
-        Err(AllFault::NoMemory) => return Outcome::NoMemory,
+        Err(AllFault::Failed) => return Status::ReadFault,
+        Err(AllFault::Over) => return Status::TooLong,
+        Err(AllFault::NoMemory) => return Status::NoMemory,
     };
-    let plan = match plan_in(alloc, &bytes) {
+    let text = match read_plan(alloc, &bytes) {
+        Ok(text) => text,
+        Err(ReadPlanFault::Bad { line, why }) => {
+            say_why(err, line, &Reason::Text(why));
+            return Status::BadPlan;
+        }
+        Err(ReadPlanFault::NoMemory) => return Status::NoMemory,
+    };
+    let plan = match check(alloc, &text.plan) {
         Ok(plan) => plan,
-        Err(PlanFault::Refused { line, reason }) => return Outcome::BadPlan { line, reason },
-        Err(PlanFault::NoMemory) => return Outcome::NoMemory,
+        Err(CheckFault::Bad { item, why }) => {
+            say_why(
+                err,
+                text.lines.as_slice()[item as usize],
+                &Reason::Edit(why),
+            );
+            return Status::BadPlan;
+        }
+        Err(CheckFault::NoMemory) => return Status::NoMemory,
     };
     match put_output(alloc, out, &plan) {
-        Ok(()) => Outcome::Done,
-        Err(PrintFault::Write) => Outcome::WriteFault,
-        Err(PrintFault::NoMemory) => Outcome::NoMemory,
+        Ok(()) => Status::Done,
+        Err(PrintFault::Write) => Status::WriteFault,
+        Err(PrintFault::NoMemory) => Status::NoMemory,
     }
 }
 
-/// Does what the words ask for, but for the line on standard error.
-fn answer<F: Files, O: Sink>(alloc: Global, words: &[String], files: &mut F, out: &mut O) -> Outcome
+/// Does what the words ask for. On `err` it says why a plan is refused, and nothing else.
+fn answer<F: Files, O: Sink, E: Sink>(
+    alloc: Global,
+    words: &[String],
+    files: &mut F,
+    out: &mut O,
+    err: &mut E,
+) -> Status
     requires files_below { F.faults files.old < 2 ^ 64 - 1 }
     requires out_below { O.faults out.old < 2 ^ 64 - 1 }
+    requires err_below { E.faults err.old < 2 ^ 64 - 1 }
     requires allowed { IfSome (file_in words.now) (λ name. IsTrue (F.allows files.old name)) }
-    ensures leaves { Leaves (told_file words.now (F.holds files.old)) (F.left files.new) (O.written out.old) (O.written out.new) result }
-    ensures counts { Counts (F.faults files.old) (F.faults files.new) (O.faults out.old) (O.faults out.new) result }
-    ensures bad_words { (status_of result ≡ Status.BadWords) ↔ (file_in words.now ≡ None) }
-    ensures untouched { status_of result ≡ Status.BadWords → F.left files.new ≡ F.left files.old }
+    ensures writes { Writes (told_file words.now (F.holds files.old)) (O.written out.old) (O.written out.new) result }
+    ensures takes { TakesPlan (told_file words.now (F.holds files.old)) (F.left files.old) (F.left files.new) result }
+    ensures why { result ≡ Status.BadPlan → SaysWhy (told_file words.now (F.holds files.old)) (E.written err.old) (E.written err.new) (E.faults err.old) (E.faults err.new) }
+    ensures silent { (result ≡ Status.BadPlan) ⊎ IsSilent (E.written err.old) (E.written err.new) (E.faults err.old) (E.faults err.new) }
+    ensures counts { (script : ℕ) → Counts (faults (F.faults files.old) script (O.faults out.old)) (faults (F.faults files.new) script (O.faults out.new)) result }
+    ensures bad_words { (result ≡ Status.BadWords) ↔ (file_in words.now ≡ None) }
 {
     match file_name(words) {
-        Some(name) => print_file(alloc, files, name, out),
-        None => Outcome::BadWords,
+        Some(name) => print_file(alloc, files, name, out, err),
+        None => Status::BadWords,
     }
 }
 
@@ -105,33 +116,20 @@ pub fn run<F: Files, S: Source, O: Sink, E: Sink, G: Gate>(
     requires err_below { E.faults err.old < 2 ^ 64 - 1 }
     requires allowed { IfSome (file_in words.now) (λ name. IsTrue (F.allows files.old name)) }
 
-    // Where nothing fails, the output is exactly that of the plan in the file.
-    ensures output { result ≡ Status.Done → IfSome (told_file words.now (F.holds files.old)) (λ bytes. IsAnswered bytes (O.written out.old) (O.written out.new)) }
-    ensures complete { IfSome (told_file words.now (F.holds files.old)) (λ bytes. (plan : Plan) → HoldsPlan bytes plan → F.faults files.new ≡ F.faults files.old → O.faults out.new ≡ O.faults out.old → (result ≡ Status.Done) ⊎ (result ≡ Status.NoMemory)) }
+    // What each status says of the output, of the plan's file, of standard error, and of the faults.
+    ensures writes { Writes (told_file words.now (F.holds files.old)) (O.written out.old) (O.written out.new) result }
+    ensures takes { TakesPlan (told_file words.now (F.holds files.old)) (F.left files.old) (F.left files.new) result }
+    ensures says { Says (told_file words.now (F.holds files.old)) (E.written err.old) (E.written err.new) (E.faults err.old) (E.faults err.new) result }
+    ensures counts { Counts (faults (F.faults files.old) (S.faults script.old) (O.faults out.old)) (faults (F.faults files.new) (S.faults script.new) (O.faults out.new)) result }
 
-    // Each other status has its cause.
+    // When the words are at fault, and when all is done.
     ensures bad_words { (result ≡ Status.BadWords) ↔ (file_in words.now ≡ None) }
-    ensures bad_plan { result ≡ Status.BadPlan → (line : ℕ) × (reason : Reason) × IfSome (told_file words.now (F.holds files.old)) (λ bytes. IsRefused bytes line reason) × Says (E.written err.old) (E.written err.new) (E.faults err.old) (E.faults err.new) (plan_message line reason) }
-    ensures read_fault { result ≡ Status.ReadFault → F.faults files.old < F.faults files.new }
-    ensures write_fault { result ≡ Status.WriteFault → O.faults out.old < O.faults out.new }
-    ensures too_long { result ≡ Status.TooLong → GivesTooMany (told_file words.now (F.holds files.old)) (F.left files.new) }
-    ensures no_refusals { result ≡ Status.DoneWithRefusals → ⊥ }
+    ensures complete { IfSome (told_file words.now (F.holds files.old)) (λ bytes. IsComplete bytes (faults (F.faults files.old) (S.faults script.old) (O.faults out.old)) (faults (F.faults files.new) (S.faults script.new) (O.faults out.new)) result) }
 
-    // No other fault came, and the script stays.
-    ensures files_quiet { (result ≡ Status.ReadFault) ⊎ (F.faults files.new ≡ F.faults files.old) }
-    ensures out_quiet { (result ≡ Status.WriteFault) ⊎ (O.faults out.new ≡ O.faults out.old) }
-    ensures script { (S.left script.new ≡ S.left script.old) × (S.faults script.new ≡ S.faults script.old) }
-    ensures untouched { result ≡ Status.BadWords → F.left files.new ≡ F.left files.old }
-    ensures read_whole { IsAfterPlan result → IsIfTold [] (F.left files.new) }
-
-    // What is written where the run ends early, and what is said of it.
-    ensures unwritten { IsUnwritten result → O.written out.new ≡ O.written out.old }
-    ensures written_part { result ≡ Status.WriteFault → IfSome (told_file words.now (F.holds files.old)) (λ bytes. IsAnsweredInPart bytes (O.written out.old) (O.written out.new)) }
-    ensures written_at_most { result ≡ Status.NoMemory → IfSome (told_file words.now (F.holds files.old)) (λ bytes. WritesAtMost (plan_in_file bytes) (O.written out.old) (O.written out.new)) }
-    ensures says { IfSome (line_of result) (Says (E.written err.old) (E.written err.new) (E.faults err.old) (E.faults err.new)) }
-    ensures silent { result ≡ Status.Done → (E.written err.new ≡ E.written err.old) × (E.faults err.new ≡ E.faults err.old) }
+    // The script stays as it is.
+    ensures script { S.left script.new ≡ S.left script.old }
 {
-    let outcome = answer(alloc, words, files, out);
-    say(err, &outcome);
-    outcome.status()
+    let status = answer(alloc, words, files, out, err);
+    say(err, status);
+    status
 }

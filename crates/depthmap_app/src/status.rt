@@ -1,9 +1,7 @@
 //! How a run ended.
 
 ghost use Rattle.std.specs.Prelude.{◌≡◌};
-ghost use Rattle.depthmap_app.specs.Statuses.{code_of, status_of};
-
-use report_spec::Reason;
+ghost use Rattle.depthmap_app.specs.Statuses.{code_of};
 
 /// How a run ended.
 #[derive(Clone, Copy, Debug, PartialEq, Eq)]
@@ -20,7 +18,7 @@ pub enum Status {
     ReadFault,
     /// The output couldn't be written.
     WriteFault,
-    /// There was no memory.
+    /// The memory ran out.
     NoMemory,
     /// The file or the script is longer than its limit.
     TooLong,
@@ -40,35 +38,6 @@ impl Status {
             Status::WriteFault => 5,
             Status::NoMemory => 6,
             Status::TooLong => 7,
-        }
-    }
-}
-
-/// How a run ended, with what is said of it on standard error.
-#[derive(Drop)]
-pub(crate) enum Outcome {
-    Done,
-    BadWords,
-    /// The line at fault, and why it is.
-    BadPlan { line: u32, reason: Reason },
-    ReadFault,
-    WriteFault,
-    NoMemory,
-    TooLong,
-}
-
-impl Outcome {
-    pub(crate) fn status(&self) -> Status
-        ensures { result ≡ status_of self.now }
-    {
-        match self {
-            Outcome::Done => Status::Done,
-            Outcome::BadWords => Status::BadWords,
-            Outcome::BadPlan { .. } => Status::BadPlan,
-            Outcome::ReadFault => Status::ReadFault,
-            Outcome::WriteFault => Status::WriteFault,
-            Outcome::NoMemory => Status::NoMemory,
-            Outcome::TooLong => Status::TooLong,
         }
     }
 }
