@@ -1,9 +1,11 @@
-mod Held
-mod Parts
-mod Touching
-mod Crossing
-mod Blocking
+pub mod Held
+pub mod Parts
+pub mod Touching
+pub mod Crossing
+pub mod Blocking
 mod Kept
 pub mod Sight
 mod Within
 pub mod Openness
+pub mod Rows
+pub mod Unboxed
