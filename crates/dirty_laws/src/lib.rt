@@ -17,8 +17,7 @@
 //! is made otherwise (`Scene`); openness breaks if a point is inside a polygon otherwise (`plane_spec`, `Polygons`);
 //! edges break if the grid's points or its edges change (`Grid`).
 //!
-//! Proofs cite the laws by the lemmas in `proofs/`: `Sight`, `Openness`, `Rows`, `Unboxed`; and of points in boxes
-//! `Held`, `Parts`, `Touching`, `Crossing`, `Blocking`.
+//! Proofs cite the laws by the lemmas in `proofs/`: `Sight`, `Openness`, `Rows`, `Unboxed`.
 #![tactic(auto)]
 
 ghost use Rattle.std.specs.Prelude.{◌≡◌, None, ℕ, false, filter};

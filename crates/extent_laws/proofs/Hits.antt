@@ -28,13 +28,12 @@ use Rattle.plane_spec.specs.Fractions.{Fraction, fraction, whole}
 use Rattle.plan_spec.specs.Sight.{is_on_middle}
 use Rattle.plan_spec.specs.Scene.{Scene, lines_of_scene}
 use Rattle.plan_spec.specs.Stops.{is_across, meeting, line_hit, corner_hit, start_hit, hits_of}
-use Rattle.dirty_laws.proofs.Held.{IsIn}
-use Rattle.dirty_laws.proofs.Parts.{OfEnds}
-use Rattle.dirty_laws.proofs.Touching.{order_stays, line_turned}
-use Rattle.dirty_laws.proofs.Blocking.{or_cases, on_edge_in}
-use Rattle.extent_laws.proofs.Spots.{spot_at, IsPositive, SpotIn, Cut, hit_in, along_line, reach_x, reach_y}
-use Rattle.extent_laws.proofs.Spots.{cut_between, cut_at}
-use Rattle.extent_laws.proofs.Factors.{not_negative}
+use Rattle.box_laws.specs.Boxes.{IsIn, OfEnds}
+use Rattle.box_laws.proofs.Touching.{order_stays, line_turned}
+use Rattle.box_laws.proofs.Blocking.{or_cases, on_edge_in}
+use Rattle.spot_laws.proofs.Spots.{spot_at, IsPositive, SpotIn, Cut, hit_in, along_line, reach_x, reach_y}
+use Rattle.spot_laws.proofs.Spots.{cut_between, cut_at}
+use Rattle.spot_laws.proofs.Factors.{not_negative}
 
 -- a fraction over a positive denominator, not below 0
 pub record IsHit (t : Fraction) : Type 0 where

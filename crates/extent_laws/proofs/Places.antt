@@ -28,13 +28,13 @@ use Rattle.plane_spec.specs.Boxes.{does_extent_meet_box}
 use Rattle.exact_geom.proofs.Lowest.{reduced_is_reduced}
 use Rattle.exact_geom.proofs.Values.{reduced_keeps_value}
 use Rattle.plan_spec.specs.Axial.{end_by, is_between_fractions}
-use Rattle.dirty_laws.proofs.Touching.{line_turned}
-use Rattle.extent_laws.proofs.Spots.{Spot, spot_at, spots_meet_box}
+use Rattle.box_laws.proofs.Touching.{line_turned}
+use Rattle.spot_laws.proofs.Spots.{Spot, spot_at, spots_meet_box}
 use Rattle.extent_laws.proofs.Hits.{IsHit}
 use Rattle.extent_laws.proofs.Reaches.{reach}
-use Rattle.extent_laws.proofs.Factors.{from_one, same_factor, low_same, high_same}
-use Rattle.extent_laws.proofs.Spans.{outer_up, outer_down}
-use Rattle.extent_laws.proofs.SameSpots.{SameSpot, IsExtent, side_same, turned}
+use Rattle.spot_laws.proofs.Factors.{from_one, same_factor, low_same, high_same}
+use Rattle.spot_laws.proofs.Spans.{outer_up, outer_down}
+use Rattle.spot_laws.proofs.SameSpots.{SameSpot, IsExtent, side_same, turned}
 
 -- ---- a place and a spot of one value
 

@@ -22,14 +22,14 @@ use Rattle.exact_geom.proofs.Lowest.{divisor_of, divisor_is_positive, reduced_is
 use Rattle.exact_geom.proofs.Values.{numerator_is, denominator_is}
 use Rattle.plan_spec.specs.Scene.{Scene}
 use Rattle.plan_spec.specs.Stops.{hits_of, stop_of}
-use Rattle.dirty_laws.proofs.Touching.{order_stays}
-use Rattle.dirty_laws.proofs.Crossing.{strictly_stays}
-use Rattle.extent_laws.proofs.Spots.{Spot, spot_at, spots_meet_box, SpotIn, ending_meets}
+use Rattle.box_laws.proofs.Touching.{order_stays}
+use Rattle.box_laws.proofs.Crossing.{strictly_stays}
+use Rattle.spot_laws.proofs.Spots.{Spot, spot_at, spots_meet_box, SpotIn, ending_meets}
 use Rattle.std.specs.Option.{IfSome}
 use Rattle.list_laws.specs.Orders.{IsWeakOrder}
 use Rattle.list_laws.proofs.Least.{least_has}
 use Rattle.extent_laws.proofs.Hits.{IsHit, Touch, all_hits}
-use Rattle.extent_laws.proofs.Factors.{not_negative, from_one, to_one, outer_exchanged, cancel_le, cancel_lt}
+use Rattle.spot_laws.proofs.Factors.{not_negative, from_one, to_one, outer_exchanged, cancel_le, cancel_lt}
 
 -- ---- the order of fractions over positive numbers
 

@@ -19,10 +19,10 @@ use Rattle.plan_spec.specs.Edits.{changed}
 use Rattle.plan_spec.specs.Axial.{AxialLine, end_beyond, line_through, same_ends}
 use Rattle.plan_spec.specs.Dirty.{corner_point, meets_if_there, extent_meets_if_there, is_dirty_pair, is_dirty_line}
 use Rattle.plan_spec.specs.Dirty.{is_on_extent}
-use Rattle.dirty_laws.proofs.Blocking.{or_cases}
+use Rattle.box_laws.proofs.Blocking.{or_cases}
 use Rattle.extent_laws.specs.Corners.{Pair, IsPairOfCorners}
-use Rattle.extent_laws.proofs.Spans.{extent_of_meeting}
-use Rattle.extent_laws.proofs.SameSpots.{SameSpot, IsExtent, extent_same, extent_same_back, turned}
+use Rattle.spot_laws.proofs.Spans.{extent_of_meeting}
+use Rattle.spot_laws.proofs.SameSpots.{SameSpot, IsExtent, extent_same, extent_same_back, turned}
 use Rattle.extent_laws.proofs.Hits.{IsHit}
 use Rattle.extent_laws.proofs.Reaches.{reach, reach_is_hit, spot_beyond, line_meets, leads, same_back}
 use Rattle.extent_laws.proofs.Places.{IsSpot, end_is_spot, meets_as_spots, same_spots, is_on_spots, on_as_spots}

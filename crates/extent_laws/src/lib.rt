@@ -17,8 +17,8 @@
 //! meets it (`plan_spec`, `Dirty`; `plane_spec`, `Boxes` and `Fractions`). They break if a stop is another multiple of
 //! the direction than one of at least 0, or if an extent meets a box by more than its ends and its line.
 //!
-//! Proofs cite the laws by the lemmas in `proofs/SameLines`. Besides, `Hits` and `Reaches` have what is known of stops,
-//! and `Spots`, `Spans`, `SameSpots` and `Places` the geometry.
+//! Proofs cite the laws by the lemmas in `proofs/SameLines`; `Hits` and `Reaches` have what is known of stops, and
+//! `Places` how the ends of lines are told as spots.
 #![tactic(auto)]
 
 ghost use Rattle.std.specs.Prelude.{◌≡◌, true};

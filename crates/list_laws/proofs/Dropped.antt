@@ -5,7 +5,8 @@
 -- dropped, and no list is cut in parts. What is joined, or given by a function, is dropped accordingly. A test that
 -- fails of all that is dropped is passed by some element of the one list exactly where by some of the other.
 use Rattle.std.proofs.Common.{◌≡◌, ◌∙◌, Bool, true, false, ◌||◌, List, [], ◌∷◌, ◌++◌, Option, Some, None, refl, ap}
-use Rattle.std.specs.List.{All, list_any, filter_map, cons_option}
+use Rattle.std.proofs.Common.{cond, not, map, filter}
+use Rattle.std.specs.List.{All, list_any, filter_map, flat_map, cons_option}
 use Rattle.std.proofs.lemmas.List.Elements.{All-cons, All-head, All-tail}
 use Rattle.list_laws.specs.Dropped.{Dropped, done, keep, drop}
 
@@ -61,6 +62,40 @@ mapped_dropped {Y = Y} P Q f gives xs ys (drop x us vs p d) =
         → Dropped Q (cons_option o (filter_map f us)) (filter_map f vs)
     gone None h e = e
     gone (Some y) h e = drop y (filter_map f us) (filter_map f vs) (h y refl) e
+
+-- what a function gives of each element
+pub each_dropped : {X Y : Type 0} (P : X → Type 0) (Q : Y → Type 0) (f : X → Y) → ((x : X) → P x → Q (f x))
+    → (xs ys : List X) → Dropped P xs ys → Dropped Q (map f xs) (map f ys)
+each_dropped P Q f gives xs ys done = done
+each_dropped P Q f gives xs ys (keep x us vs d) =
+    keep (f x) (map f us) (map f vs) (each_dropped P Q f gives us vs d)
+each_dropped P Q f gives xs ys (drop x us vs p d) =
+    drop (f x) (map f us) (map f vs) (gives x p) (each_dropped P Q f gives us vs d)
+
+-- the lists that a function gives of each element, joined
+pub parts_dropped : {X Y : Type 0} (P : X → Type 0) (Q : Y → Type 0) (f : X → List Y) → ((x : X) → P x → All Q (f x))
+    → (xs ys : List X) → Dropped P xs ys → Dropped Q (flat_map f xs) (flat_map f ys)
+parts_dropped P Q f gives xs ys done = done
+parts_dropped P Q f gives xs ys (keep x us vs d) =
+    both_dropped Q (f x) (f x) (flat_map f us) (flat_map f vs) (nothing_dropped Q (f x))
+    (parts_dropped P Q f gives us vs d)
+parts_dropped P Q f gives xs ys (drop x us vs p d) =
+    both_dropped Q (f x) [] (flat_map f us) (flat_map f vs) (all_dropped Q (f x) (gives x p))
+    (parts_dropped P Q f gives us vs d)
+
+-- a list without those that pass a test
+pub passing_dropped : {X : Type 0} (P : X → Type 0) (test : X → Bool) (xs : List X) → All P (filter test xs)
+    → Dropped P xs (filter (λ x. not (test x)) xs)
+passing_dropped P test [] all = done
+passing_dropped {X = X} P test (x ∷ xs) all = by (test x) all (λ h. passing_dropped P test xs h)
+  where
+    by : (t : Bool) → All P (cond t (x ∷ filter test xs) (filter test xs))
+        → (All P (filter test xs) → Dropped P xs (filter (λ x. not (test x)) xs))
+        → Dropped P (x ∷ xs) (cond (not t) (x ∷ filter (λ x. not (test x)) xs) (filter (λ x. not (test x)) xs))
+    by true all ih =
+        drop x xs (filter (λ x. not (test x)) xs) (All-head P x (filter test xs) all)
+        (ih (All-tail P x (filter test xs) all))
+    by false all ih = keep x xs (filter (λ x. not (test x)) xs) (ih all)
 
 -- a test that fails of all that is dropped
 pub found_alike : {X : Type 0} (P : X → Type 0) (test : X → Bool) → ((x : X) → P x → test x ≡ false)

@@ -6,3 +6,5 @@ pub mod Least
 pub mod Gaps
 pub mod Firsts
 pub mod Merged
+pub mod Numbers
+pub mod Single

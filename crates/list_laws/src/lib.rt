@@ -10,6 +10,8 @@
 //! | `Least` | the least stays when others are dropped, and comes back when greater ones are added |
 //! | `Gaps` | where a part is gone, the numbered pairs are those of which both stay, with their numbers closed up |
 //! | `Firsts` | the first elements that pass a test are the first ones of those that pass, where like ones pass alike |
+//! | `Numbers` | what is known of numbered elements and of their pairs, and that the pairs are in order |
+//! | `Single` | where one element passes a test, what stands before it and after it |
 //! | `Merged` | a list in order is those that pass a test, merged with the others |
 //!
 //! They rest on std's lists and on `pairs`, `firsts` and `least` of `plane_spec` (`Lists`), and break if those change.

@@ -20,9 +20,9 @@ use Rattle.plane_spec.specs.declared.PlanBox.{PlanBox}
 use Rattle.plane_spec.specs.Vectors.{vector}
 use Rattle.plane_spec.specs.Fractions.{Fraction}
 use Rattle.plane_spec.specs.Boxes.{do_overlap, does_meet_box}
-use Rattle.dirty_laws.proofs.Touching.{order_stays, order_turns}
-use Rattle.extent_laws.proofs.Spots.{spot_at, spots_overlap, spots_meet_box, IsPositive, SpotIn, Cut}
-use Rattle.extent_laws.proofs.Factors.{not_negative, outer_exchanged, cancel_le}
+use Rattle.box_laws.proofs.Touching.{order_stays, order_turns}
+use Rattle.spot_laws.proofs.Spots.{spot_at, spots_overlap, spots_meet_box, IsPositive, SpotIn, Cut}
+use Rattle.spot_laws.proofs.Factors.{not_negative, outer_exchanged, cancel_le}
 
 -- the same over differences of naturals
 span_diff : (a b c d e f g h i j k l : ℕ) →

@@ -4,8 +4,8 @@ use Rattle.std.specs.Prelude.{int_lt, int_le}
 use Rattle.std.proofs.lemmas.Int.{ints, by_lt_z}
 use Rattle.int_laws.proofs.Ring.{times_zero, product_swapped, product_grouped}
 use Rattle.int_laws.proofs.Signs.{positive_product}
-use Rattle.dirty_laws.proofs.Touching.{order_stays}
-use Rattle.dirty_laws.proofs.Crossing.{strictly_stays}
+use Rattle.box_laws.proofs.Touching.{order_stays}
+use Rattle.box_laws.proofs.Crossing.{strictly_stays}
 
 -- what is positive isn't negative
 pub not_negative : (z : ℤ) → pos 0 <ℤ z → pos 0 ≤ℤ z

@@ -22,9 +22,9 @@ use Rattle.plane_spec.specs.declared.PlanBox.{PlanBox}
 use Rattle.plane_spec.specs.Vectors.{vector, orient_of}
 use Rattle.plane_spec.specs.Fractions.{Fraction}
 use Rattle.plane_spec.specs.Boxes.{is_left_of}
-use Rattle.dirty_laws.proofs.Touching.{order_stays}
-use Rattle.extent_laws.proofs.Spots.{Spot, spot_at, spots_overlap, spots_meet_box, IsPositive}
-use Rattle.extent_laws.proofs.Factors.{not_negative, same_sign, low_same, high_same}
+use Rattle.box_laws.proofs.Touching.{order_stays}
+use Rattle.spot_laws.proofs.Spots.{Spot, spot_at, spots_overlap, spots_meet_box, IsPositive}
+use Rattle.spot_laws.proofs.Factors.{not_negative, same_sign, low_same, high_same}
 
 -- ---- the cross product of two combinations
 -- the same over differences of naturals

@@ -16,10 +16,10 @@ use Rattle.plane_spec.specs.Cones.{is_in_cone}
 use Rattle.plane_spec.specs.Boxes.{does_meet_box}
 use Rattle.plan_spec.specs.Dirty.{meets_if_there}
 use Rattle.plan_spec.specs.Sight.{crosses, is_on_middle, leaves_wall, enters_wall, corner_stops, corner_blocks}
-use Rattle.dirty_laws.proofs.Held.{IsIn, IsHeld, meeting_turned}
-use Rattle.dirty_laws.proofs.Parts.{OfEnds}
-use Rattle.dirty_laws.proofs.Touching.{on_parts, touching_meets}
-use Rattle.dirty_laws.proofs.Crossing.{crossing_meets}
+use Rattle.box_laws.specs.Boxes.{IsIn, IsHeld, OfEnds}
+use Rattle.box_laws.proofs.Held.{meeting_turned}
+use Rattle.box_laws.proofs.Touching.{on_parts, touching_meets}
+use Rattle.box_laws.proofs.Crossing.{crossing_meets}
 
 -- ---- ends in the box
 

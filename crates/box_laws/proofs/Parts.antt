@@ -4,18 +4,13 @@ use Rattle.std.specs.List.{All}
 use Rattle.std.proofs.lemmas.List.Elements.{All-nil, All-cons, All-head, All-tail, All-map, All-weaker}
 use Rattle.plane_spec.specs.declared.Point.{Point}
 use Rattle.plane_spec.specs.declared.Segment.{Segment}
-use Rattle.plane_spec.specs.declared.Corner.{Corner}
 use Rattle.plane_spec.specs.Polygons.{edges_to, edges_of}
 use Rattle.plane_spec.specs.Cones.{corner}
 use Rattle.plan_spec.specs.Scene.{turned_edge, goes_round, walls_round, corners_after, last_edge, corners_along}
 use Rattle.plan_spec.specs.Scene.{turned_corner, corners_round}
+use Rattle.box_laws.specs.Boxes.{OfEnds, OfCorner}
 
 -- ---- edges
-
--- it holds of both ends
-pub record OfEnds (P : Point → Type 0) (e : Segment) : Type 0 where
-  pub a : P e.a
-  pub b : P e.b
 
 -- the edges along points and back to a first one
 edges_to_held : (P : Point → Type 0) (first : Point) (points : List Point) → P first → All P points
@@ -54,10 +49,6 @@ walls_held P counterclockwise points all = by_way (goes_round counterclockwise p
     by_way false = turned_held P (edges_of points) (edges_held P points all)
 
 -- ---- corners
-
--- it holds of the corner's point
-abbrev pub OfCorner : (Point → Type 0) → Corner → Type 0
-OfCorner P c = P c.here
 
 -- corners at the beginnings of edges
 corners_after_held : (P : Point → Type 0) (before : Segment) (edges : List Segment) → All (OfEnds P) edges

@@ -22,8 +22,8 @@ use Rattle.plane_spec.specs.declared.PlanBox.{PlanBox}
 use Rattle.plane_spec.specs.Vectors.{vector, cross_of, orient_of}
 use Rattle.plane_spec.specs.Fractions.{Fraction}
 use Rattle.plane_spec.specs.Boxes.{is_left_of, reaches_line}
-use Rattle.dirty_laws.proofs.Held.{IsIn}
-use Rattle.dirty_laws.proofs.Touching.{order_stays, order_turns, left_in_box, line_turned, not_true}
+use Rattle.box_laws.specs.Boxes.{IsIn}
+use Rattle.box_laws.proofs.Touching.{order_stays, order_turns, left_in_box, line_turned, not_true}
 
 -- ---- spots
 
