@@ -129,7 +129,7 @@ module _ (scene : Scene) where
     pub to : l.to ≡ end_beyond scene e.0.1 e.1.1
 
   -- the line of a pair of corners
-  line_of_corners : (e : Pair) → IsPairOfCorners scene e → IsLineOf (line_through scene e) e
+  pub line_of_corners : (e : Pair) → IsPairOfCorners scene e → IsLineOf (line_through scene e) e
   line_of_corners e c = record { first = c.first; second = c.second; from = refl; to = refl }
 
   -- the line of a pair meets the box, where there is one

@@ -4,7 +4,7 @@ use Rattle.std.proofs.Common.{refl, sym, ap, subst, arith}
 use Rattle.std.specs.List.{All, Contains, flat_map, list_any, list_all}
 use Rattle.std.proofs.lemmas.Bool.{and_parts}
 use Rattle.std.proofs.lemmas.Grind.{common_steps}
-use Rattle.std.proofs.lemmas.List.Elements.{All-nil, All-cons, All-head, All-tail, All-map, All-weaker}
+use Rattle.std.proofs.lemmas.List.Elements.{All-nil, All-cons, All-head, All-tail, All-map, All-weaker, filter_agree}
 use Rattle.std.proofs.lemmas.List.Folds.{list_any-append, list_any_at}
 
 -- ---- elements of a list
@@ -98,6 +98,16 @@ filter_twice p q (x ∷ xs) = by (q x) (p x) refl refl (filter_twice p q xs)
     by : (t u : Bool) → q x ≡ t → p x ≡ u → filter p (filter q xs) ≡ filter (λ x. q x && p x) xs
         → filter p (filter q (x ∷ xs)) ≡ filter (λ x. q x && p x) (x ∷ xs)
     by t u e f ih = grind (arith, common_steps)
+
+-- in either order
+pub filter_exchanged : {X : Type 0} (p q : X → Bool) (xs : List X) → filter p (filter q xs) ≡ filter q (filter p xs)
+filter_exchanged p q xs =
+    filter_twice p q xs
+    ∙ filter_agree (λ x. q x && p x) (λ x. p x && q x) (λ x. turned (q x) (p x)) xs
+    ∙ sym (filter_twice q p xs)
+  where
+    turned : (a b : Bool) → (a && b) ≡ (b && a)
+    turned a b = grind arith
 
 -- what is found among those that pass
 pub found_among_passing : {X : Type 0} (test passes : X → Bool) (xs : List X)
