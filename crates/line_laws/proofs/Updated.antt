@@ -44,15 +44,15 @@ use Rattle.plan_spec.specs.Dirty.{corner_point, is_dirty_pair, is_dirty_line, is
 use Rattle.plan_spec.specs.Dirty.{is_dirty_to_another, is_dirty_corner}
 use Rattle.list_laws.proofs.Tests.{list_any_map}
 use Rattle.list_laws.specs.Merged.{merged}
-use Rattle.line_laws.specs.Lines.{comes_before, renumbered, kept_lines, fresh_pairs, fresh_lines}
-use Rattle.line_laws.specs.Lines.{is_stopped, are_fresh_stopped, removal_of}
+use Rattle.line_laws.specs.Lines.{comes_before, renumbered, kept_lines, fresh_pairs, fresh_lines, IsSameLine}
+use Rattle.line_laws.specs.Lines.{is_stopped, are_fresh_stopped}
 use Rattle.box_laws.specs.Boxes.{IsIn}
 use Rattle.box_laws.proofs.Held.{meeting_turned}
 use Rattle.list_laws.proofs.Elements.{before_map, filter_map_first, filter_same_on, found_among_passing}
 use Rattle.list_laws.proofs.Elements.{filter_exchanged}
 use Rattle.list_laws.proofs.Elements.{where_passed, each_passes, implied_first, map_same_on, map_twice, passed_by_one}
 use Rattle.box_laws.proofs.Blocking.{first_meets, second_meets}
-use Rattle.line_laws.specs.Scenes.{IsWithout, IsSameLine}
+use Rattle.dirty_laws.specs.Scenes.{IsWithout, removal_of}
 use Rattle.line_laws.proofs.Without.{clash, sight_stays, pair_misses, line_kept, line_came}
 use Rattle.extent_laws.proofs.Reaches.{same_back, line_meets}
 use Rattle.extent_laws.specs.Corners.{Pair}

@@ -40,11 +40,11 @@ use Rattle.spot_laws.proofs.Spans.{within_extent, extent_of_meeting}
 use Rattle.spot_laws.proofs.SameSpots.{extent_back}
 use Rattle.extent_laws.proofs.Reaches.{hits_ordered, reduced_is_hit, reduced_in, touch_meets, reach, reach_is_hit}
 use Rattle.extent_laws.proofs.Reaches.{spot_beyond, line_meets, leads, same_back}
-use Rattle.line_laws.specs.Scenes.{IsWithout, IsSameLine}
+use Rattle.dirty_laws.specs.Scenes.{IsWithout, removal_of}
 use Rattle.extent_laws.specs.Corners.{Pair, IsPairOfCorners}
 use Rattle.plan_spec.specs.Axial.{line_through}
 use Rattle.plan_spec.specs.Dirty.{is_dirty_line}
-use Rattle.line_laws.specs.Lines.{removal_of, is_stopped}
+use Rattle.line_laws.specs.Lines.{is_stopped, IsSameLine}
 use Rattle.extent_laws.proofs.SameLines.{dirty_as_meets, line_of_corners}
 
 -- a test doesn't both fail and pass

@@ -1,21 +1,25 @@
--- The axial lines after a removal, made of those before it and of fresh ones between dirty corners.
-use Rattle.std.specs.Prelude.{ℕ, ◌==◌, nat_lt, Bool, ◌&&◌, ◌||◌, not, List, map, filter, is_some, Some, None}
+-- Axial lines before and after an edit: which are the same, and those after a removal, made of those before it and of
+-- fresh ones between dirty corners.
+use Rattle.std.specs.Prelude.{◌≡◌, ℕ, ◌==◌, nat_lt, Bool, ◌&&◌, ◌||◌, not, List, map, filter, is_some}
 use Rattle.std.specs.List.{list_all, enumerate_from}
 use Rattle.plane_spec.specs.declared.Point.{Point}
-use Rattle.plane_spec.specs.declared.PlanBox.{PlanBox}
 use Rattle.plane_spec.specs.Lists.{pairs, firsts}
 use Rattle.plane_spec.specs.Vectors.{vector}
 use Rattle.plan_spec.specs.declared.changes.Changed.{Changed}
-use Rattle.plan_spec.specs.Edits.{changed}
 use Rattle.plan_spec.specs.Scene.{Scene}
+use Rattle.plan_spec.specs.Sight.{are_in_sight}
 use Rattle.plan_spec.specs.Stops.{stop_of}
 use Rattle.plan_spec.specs.Axial.{AxialLine, here_of, line_through, is_seen_pair, same_ends}
 use Rattle.plan_spec.specs.Dirty.{is_dirty_line, is_dirty_corner}
 use Rattle.list_laws.specs.Gaps.{closed_up}
 
--- the boxes of an edit that only takes something away
-abbrev pub removal_of : PlanBox → Changed
-removal_of box = changed (Some box) None
+-- ---- the same line
+
+-- the two points see each other in both scenes or in neither, and the line through them has the same stops
+pub record IsSameLine (old new : Scene) (p q : Point) : Type 0 where
+  pub sight : are_in_sight new p q ≡ are_in_sight old p q
+  pub from : stop_of new p (vector q p) ≡ stop_of old p (vector q p)
+  pub to : stop_of new q (vector p q) ≡ stop_of old q (vector p q)
 
 -- ---- kept lines
 

@@ -39,9 +39,8 @@ use Rattle.box_laws.proofs.Held.{held_in}
 use Rattle.box_laws.proofs.Parts.{corners_held}
 use Rattle.box_laws.proofs.Blocking.{first_meets}
 use Rattle.dirty_laws.proofs.Unboxed.{first_of, second_of}
-use Rattle.line_laws.specs.Scenes.{ClosesUp}
-use Rattle.line_laws.specs.Lines.{removal_of}
-use Rattle.line_laws.proofs.Removal.{PointsIn, EndsIn, end_corners_held, no_box, moved_box}
+use Rattle.dirty_laws.specs.Scenes.{ClosesUp, removal_of}
+use Rattle.dirty_laws.proofs.Removal.{PointsIn, EndsIn, end_corners_held, no_box, moved_box}
 
 -- ---- the box as a test
 

@@ -31,9 +31,8 @@ use Rattle.box_laws.proofs.Parts.{walls_held, corners_held}
 use Rattle.list_laws.specs.Dropped.{Dropped}
 use Rattle.list_laws.proofs.Dropped.{nothing_dropped, both_dropped, parts_dropped, each_dropped}
 use Rattle.list_laws.proofs.Dropped.{passing_dropped}
-use Rattle.line_laws.specs.Scenes.{IsWithout}
+use Rattle.dirty_laws.specs.Scenes.{IsWithout, removal_of}
 use Rattle.dirty_laws.proofs.Unboxed.{first_of, second_of}
-use Rattle.line_laws.specs.Lines.{removal_of}
 
 -- ---- obstacles and screens in the box
 

@@ -1,24 +1,24 @@
 -- Scenes before and after an edit.
-use Rattle.std.specs.Prelude.{◌≡◌, true, List, ◌++◌, map, None}
+use Rattle.std.specs.Prelude.{◌≡◌, true, List, ◌++◌, map, Some, None}
 use Rattle.std.specs.List.{list_all}
 use Rattle.plane_spec.specs.declared.Point.{Point}
 use Rattle.plane_spec.specs.declared.PlanBox.{PlanBox}
 use Rattle.plane_spec.specs.Boxes.{does_meet_box}
-use Rattle.plane_spec.specs.Vectors.{vector}
 use Rattle.plan_spec.specs.declared.changes.Changed.{Changed}
 use Rattle.plan_spec.specs.declared.changes.Edit.{Edit}
 use Rattle.plan_spec.specs.Plan.{Plan}
 use Rattle.plan_spec.specs.Accepted.{is_sound}
-use Rattle.plan_spec.specs.Edits.{changed_boxes, edited, why_not_edit}
+use Rattle.plan_spec.specs.Edits.{changed, changed_boxes, edited, why_not_edit}
 use Rattle.plan_spec.specs.Scene.{Scene, scene_of}
-use Rattle.plan_spec.specs.Sight.{are_in_sight}
-use Rattle.plan_spec.specs.Stops.{stop_of}
 use Rattle.plan_spec.specs.Axial.{here_of}
 use Rattle.list_laws.specs.Dropped.{Dropped}
 use Rattle.box_laws.specs.Boxes.{IsIn, OfEnds, OfCorner}
-use Rattle.line_laws.specs.Lines.{removal_of}
 
 -- ---- edits between scenes
+
+-- the boxes of an edit that only takes something away
+abbrev pub removal_of : PlanBox → Changed
+removal_of box = changed (Some box) None
 
 -- the scenes are those of a sound plan and of the plan after an edit that nothing refuses, and these are its boxes
 pub record IsEdited (before after : Scene) (boxes : Changed) : Type 0 where
@@ -54,11 +54,3 @@ pub record ClosesUp (box : PlanBox) (old new : Scene) : Type 0 where
   pub old_is : map here_of old.corners ≡ front ++ (gone ++ back)
   pub new_is : map here_of new.corners ≡ front ++ back
   pub gone_in : list_all (λ p. does_meet_box p p box) gone ≡ true
-
--- ---- what stays
-
--- the two points see each other in both scenes or in neither, and the line through them has the same stops
-pub record IsSameLine (old new : Scene) (p q : Point) : Type 0 where
-  pub sight : are_in_sight new p q ≡ are_in_sight old p q
-  pub from : stop_of new p (vector q p) ≡ stop_of old p (vector q p)
-  pub to : stop_of new q (vector p q) ≡ stop_of old q (vector p q)

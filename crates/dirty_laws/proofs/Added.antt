@@ -39,7 +39,7 @@ use Rattle.list_laws.proofs.Single.{with_single_changed}
 use Rattle.box_laws.specs.Boxes.{IsIn}
 use Rattle.box_laws.proofs.Held.{held_in}
 use Rattle.box_laws.proofs.Blocking.{second_meets}
-use Rattle.line_laws.proofs.ClosingUp.{obstacle_alone, only_one_has, places, part_in_middle, screens_last}
+use Rattle.dirty_laws.proofs.ClosingUp.{obstacle_alone, only_one_has, places, part_in_middle, screens_last}
 
 -- ---- two corners of the box
 

@@ -1,5 +1,0 @@
-use Rattle.line_laws.proofs.Laws.{corners_close_up}
-use Rattle.line_laws.proofs.the_corners_after_a_removal.Goals as goal
-
-pub returns : goal.returns
-returns c = corners_close_up
