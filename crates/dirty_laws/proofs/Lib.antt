@@ -1,9 +1,9 @@
-mod Held
-mod Parts
-mod Touching
-mod Crossing
-mod Blocking
 mod Kept
 pub mod Sight
-mod Within
 pub mod Openness
+pub mod Rows
+pub mod Unboxed
+pub mod Removal
+pub mod ClosingUp
+pub mod Added
+pub mod Edited

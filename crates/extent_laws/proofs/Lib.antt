@@ -1,0 +1,4 @@
+pub mod Hits
+pub mod Reaches
+pub mod Places
+pub mod SameLines

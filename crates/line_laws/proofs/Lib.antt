@@ -1,0 +1,4 @@
+pub mod Without
+pub mod Corners
+pub mod Updated
+pub mod Laws

@@ -1,0 +1,4 @@
+pub mod Dropped
+pub mod Orders
+pub mod Merged
+pub mod Gaps

@@ -1,0 +1,4 @@
+pub mod Factors
+pub mod Spots
+pub mod Spans
+pub mod SameSpots
