@@ -93,7 +93,7 @@ unfolding edges_to
 last_to first p [] e = (refl, inl refl)
 last_to first p (q ∷ points) e = let l = last_to first q points (wall p q) in (l.0, inr l.1)
 
-all_corners : (points : List Point) → AreCorners (edges_of points) (corners_along (edges_of points))
+pub all_corners : (points : List Point) → AreCorners (edges_of points) (corners_along (edges_of points))
 unfolding edges_to
 all_corners [] = record { from = λ c k. absurd k; to = λ f k. absurd k }
 all_corners (p ∷ []) =
@@ -108,25 +108,26 @@ all_corners (p ∷ q ∷ points) =
       to = λ f k. corner_to (edges_to p (p ∷ q ∷ points)) (last_edge (wall p q) (edges_to p (q ∷ points))) p p (q ∷ points) (inr l.1) l.0 (λ e h. h) f k;
     }
 
+-- turned round, a corner between two edges is one between the turned edges
+pub turned_from : (edges : List Segment) (c d : Corner) → turned_corner d ≡ c → CornerOf edges d → CornerOf (map turned_edge edges) c
+turned_from edges c d e o =
+    record {
+      before = turned_edge o.edge;
+      edge = turned_edge o.before;
+      before_there = mapped turned_edge edges o.edge o.edge_there;
+      edge_there = mapped turned_edge edges o.before o.before_there;
+      meets = sym o.meets;
+      is = ap (λ t. corner o.edge.b t o.before.a) o.meets ∙ (ap turned_corner o.is ∙ e);
+    }
+
 -- turned round, they are the corners of the turned edges
 turned_corners : (edges : List Segment) (corners : List Corner) (k : ℤ) → IsSound (map turned_edge edges) k → AreCorners edges corners → AreCorners (map turned_edge edges) (map turned_corner corners)
 turned_corners edges corners k sound all =
     record {
-      from = λ c there. let o = source turned_corner corners c there in by_corner c o.it o.is (all.from o.it o.is_in);
+      from = λ c there. let o = source turned_corner corners c there in turned_from edges c o.it o.is (all.from o.it o.is_in);
       to = λ f there. let o = source turned_edge edges f there in subst (λ t. AtStart (map turned_edge edges) (map turned_corner corners) t) o.is (start_of o.it o.is_in);
     }
   where
-    by_corner : (c d : Corner) → turned_corner d ≡ c → CornerOf edges d → CornerOf (map turned_edge edges) c
-    by_corner c d e o =
-        record {
-          before = turned_edge o.edge;
-          edge = turned_edge o.before;
-          before_there = mapped turned_edge edges o.edge o.edge_there;
-          edge_there = mapped turned_edge edges o.before o.before_there;
-          meets = sym o.meets;
-          is = ap (λ t. corner o.edge.b t o.before.a) o.meets ∙ (ap turned_corner o.is ∙ e);
-        }
-
     start_of : (g : Segment) → IsIn edges g → AtStart (map turned_edge edges) (map turned_corner corners) (turned_edge g)
     start_of g there =
         let s = sound.sides (turned_edge g) (mapped turned_edge edges g there) in

@@ -1,4 +1,5 @@
 -- When two segments don't touch: one is strictly on one side of the other's line, or they lie apart in a coordinate.
+use Rattle.plane_spec.proofs.Laws.{touching_is_symmetric}
 use Rattle.std.specs.Prelude.{true, false, ◌&&◌, Bool, ◌||◌}
 use Rattle.std.specs.Ordering.{int_eq}
 use Rattle.std.proofs.Common.{arith, inl, inr, pos, ℤ, ◌≡◌, ◌⊎◌, ◌*ℤ◌, ◌<ℤ◌, ◌≤ℤ◌, ◌-ℤ◌, ap, sym, ◌∙◌, refl, subst, neg_ℤ, ◌+ℤ◌}
@@ -74,10 +75,10 @@ left_off : (x a b : Point) → pos 0 <ℤ orient_of a b x → is_on_segment x a 
 unfolding is_on_segment
 left_off x a b h = ap (λ t. t && (is_between x.x a.x b.x && is_between x.y a.y b.y)) (not_equal (orient_of a b x) h)
 
-all_false : (c p q a b : Bool) → c ≡ false → p ≡ false → q ≡ false → a ≡ false → b ≡ false → (c || ((a || b) || (p || q))) ≡ false
+pub all_false : (c p q a b : Bool) → c ≡ false → p ≡ false → q ≡ false → a ≡ false → b ≡ false → (c || ((a || b) || (p || q))) ≡ false
 all_false c p q a b h i j k l = rw (h, i, j, k, l) refl
 
-first_false : (c d : Bool) → c ≡ false → (c && d) ≡ false
+pub first_false : (c d : Bool) → c ≡ false → (c && d) ≡ false
 first_false c d h = rw h refl
 
 -- both ends of the second segment are strictly left of the first
@@ -93,19 +94,11 @@ free_left a b p q sp sq =
 pub free_right : (a b p q : Point) → pos 0 <ℤ orient_of b a p → pos 0 <ℤ orient_of b a q → do_touch a b p q ≡ false
 free_right a b p q sp sq = sym (touch_turned a b p q) ∙ free_left b a p q sp sq
 
-pub touch_exchanged : (a b p q : Point) → do_touch p q a b ≡ do_touch a b p q
-unfolding do_touch cross_properly
-touch_exchanged a b p q =
-    ap (λ t. t || ((is_on_segment p a b || is_on_segment q a b) || (is_on_segment a p q || is_on_segment b p q)))
-    (and_swapped (are_opposite (orient_of p q a) (orient_of p q b)) (are_opposite (orient_of a b p) (orient_of a b q)))
-    ∙ ap (λ t. (are_opposite (orient_of a b p) (orient_of a b q) && are_opposite (orient_of p q a) (orient_of p q b)) || t)
-    (or_swapped (is_on_segment p a b || is_on_segment q a b) (is_on_segment a p q || is_on_segment b p q))
-
 pub free_up : (a b p q : Point) → pos 0 <ℤ orient_of p q a → pos 0 <ℤ orient_of p q b → do_touch a b p q ≡ false
-free_up a b p q ta tb = sym (touch_exchanged a b p q) ∙ free_left p q a b ta tb
+free_up a b p q ta tb = touching_is_symmetric a b p q ∙ free_left p q a b ta tb
 
 pub free_down : (a b p q : Point) → pos 0 <ℤ orient_of q p a → pos 0 <ℤ orient_of q p b → do_touch a b p q ≡ false
-free_down a b p q ta tb = sym (touch_exchanged a b p q) ∙ free_right p q a b ta tb
+free_down a b p q ta tb = touching_is_symmetric a b p q ∙ free_right p q a b ta tb
 
 -- ---- apart in a coordinate
 
@@ -142,11 +135,11 @@ never_met k ta tb sp sq a b p q e f i hsp hsq hta htb apart =
     let three = opposite_product ta (b -ℤ a) (omega (arith, ints, hta)) (omega (arith, ints, on)) in
     absurd (omega (arith, ints, i, k_is, sp_parts, more, more_too, three)))
 
-data Crossing (s t : ℤ) : Type 0 where
+pub data Crossing (s t : ℤ) : Type 0 where
   falls : pos 0 <ℤ s → t <ℤ pos 0 → Crossing s t
   rises : s <ℤ pos 0 → pos 0 <ℤ t → Crossing s t
 
-crossing : (s t : ℤ) → are_opposite s t ≡ true → Crossing s t
+pub crossing : (s t : ℤ) → are_opposite s t ≡ true → Crossing s t
 crossing s t h =
     by_lt_z (pos 0) s
     (λ p. let q : t <ℤ pos 0 = grind (arith, ints) in falls p q)
@@ -220,7 +213,7 @@ free_south a b p q apart =
     (off_y a p q (outside a.y p.y q.y (inr (apart.pa, apart.qa)))) (off_y b p q (outside b.y p.y q.y (inr (apart.pb, apart.qb))))
 
 pub free_east : (a b p q : Point) → AreBefore a.x b.x p.x q.x → do_touch a b p q ≡ false
-free_east a b p q apart = sym (touch_exchanged a b p q) ∙ free_west p q a b apart
+free_east a b p q apart = touching_is_symmetric a b p q ∙ free_west p q a b apart
 
 pub free_north : (a b p q : Point) → AreBefore a.y b.y p.y q.y → do_touch a b p q ≡ false
-free_north a b p q apart = sym (touch_exchanged a b p q) ∙ free_south p q a b apart
+free_north a b p q apart = touching_is_symmetric a b p q ∙ free_south p q a b apart

@@ -1,18 +1,19 @@
 -- Points between two others, and their heights.
 use Rattle.std.specs.Ordering.{int_eq}
-use Rattle.std.proofs.Common.{arith, true, ℤ, ◌≡◌, ◌⊎◌, ◌≤ℤ◌, inl, inr, pos, ◌-ℤ◌, ◌*ℤ◌, false, ◌<ℤ◌, ◌&&◌, ◌+ℤ◌, ap, ◌∙◌, sym, subst}
+use Rattle.std.proofs.Common.{arith, true, ℤ, ◌≡◌, ◌⊎◌, ◌≤ℤ◌, inl, inr, pos, ◌-ℤ◌, ◌*ℤ◌, false, ◌<ℤ◌, ◌&&◌, ◌+ℤ◌, ap, ◌∙◌, sym, subst, refl}
 use Rattle.std.proofs.lemmas.Int.{ints}
 use Rattle.std.proofs.lemmas.Bool.Decides.{Decides-int_eq}
 use Rattle.std.proofs.lemmas.Bool.{and_parts, and_cases, and_from}
-use Rattle.int_laws.proofs.Signs.{negative_factors, not_negative_product, negative_product_both, positive_product, none_times}
-use Rattle.int_laws.proofs.Ring.{sum_times, times_sum}
-use Rattle.int_laws.proofs.Tests.{equal_tested}
+use Rattle.int_laws.proofs.Signs.{negative_factors, not_negative_product, negative_product_both, positive_product, none_times, positive_factor, zero_factor, not_negative_factor}
+use Rattle.int_laws.proofs.Ring.{sum_times, times_sum, product_swapped, times_zero}
+use Rattle.int_laws.proofs.Tests.{equal_tested, tested_equal}
 use Rattle.plane_spec.specs.declared.Point.{Point}
 use Rattle.plane_spec.specs.declared.Segment.{Segment}
 use Rattle.plane_spec.specs.Segments.{is_between, is_on_segment}
-use Rattle.plane_spec.specs.Vectors.{orient_of, dot_of, vector, same_point, cross_of}
+use Rattle.plane_spec.specs.Vectors.{orient_of, dot_of, vector, same_point, cross_of, point}
 use Rattle.plane_laws.proofs.Heights.{times_steps, along, height, height_from}
-use Rattle.plane_laws.proofs.Directions.{at_start, at_end}
+use Rattle.plane_laws.proofs.Directions.{at_start, at_end, some_square}
+use Rattle.std.specs.Prelude.{false, true}
 
 -- ---- one coordinate
 
@@ -175,3 +176,39 @@ same_ends a b e = subst (λ t. same_point a t ≡ true) e (own a)
       where
         own_by : (x y : ℤ) → same_point (record { x = x; y = y }) (record { x = x; y = y }) ≡ true
         own_by x y = grind (arith, ints)
+
+-- what has both ends of the wall on one side has x on it
+pub height_positive : (v z x : Point) (j : Segment) → IsAlong v z x → pos 0 ≤ℤ height j v → pos 0 <ℤ height j z → pos 0 <ℤ height j x
+height_positive v z x j h hv hz =
+    let m = mixed v z x j h.between.line in
+    let k = long v z x h in
+    let first = not_negative_product (dot_of (vector v z) (vector x z)) (height j v) (high x v z h.between) hv in
+    let second = positive_product (dot_of (vector v z) (vector v x)) (height j z) (low_apart x v z h.between h.apart) hz in
+    let turn = product_swapped (dot_of (vector v z) (vector v z)) (height j x) in
+    positive_factor (height j x) (dot_of (vector v z) (vector v z)) (omega (arith, ints, m, first, second, turn)) k
+
+pub height_none : (v z x : Point) (j : Segment) → IsAlong v z x → height j v ≡ pos 0 → height j z ≡ pos 0 → height j x ≡ pos 0
+height_none v z x j h hv hz =
+    let m = mixed v z x j h.between.line in
+    let k = long v z x h in
+    let first = ap (λ t. dot_of (vector v z) (vector x z) *ℤ t) hv ∙ times_zero (dot_of (vector v z) (vector x z)) in
+    let second = ap (λ t. dot_of (vector v z) (vector v x) *ℤ t) hz ∙ times_zero (dot_of (vector v z) (vector v x)) in
+    let turn = product_swapped (dot_of (vector v z) (vector v z)) (height j x) in
+    zero_factor (height j x) (dot_of (vector v z) (vector v z)) (omega (arith, ints, m, first, second, turn)) k
+
+pub weak_mean : (v z x : Point) (j : Segment) → same_point v z ≡ false → IsBetween x v z → pos 0 ≤ℤ height j v → pos 0 ≤ℤ height j z → pos 0 ≤ℤ height j x
+weak_mean v z x j apart on hv hz =
+    let m = mixed v z x j on.line in
+    let k = some_square v z apart in
+    let first = not_negative_product (dot_of (vector v z) (vector x z)) (height j v) (high x v z on) hv in
+    let second = not_negative_product (dot_of (vector v z) (vector v x)) (height j z) (low x v z on) hz in
+    let turn = product_swapped (dot_of (vector v z) (vector v z)) (height j x) in
+    not_negative_factor (height j x) (dot_of (vector v z) (vector v z)) (omega (arith, ints, m, first, second, turn)) k
+
+pub same_from_test : (x v : Point) → same_point x v ≡ true → v ≡ x
+same_from_test x v h =
+    let parts = and_parts _ _ h in
+    both v.x v.y x.x x.y (sym (tested_equal x.x v.x parts.0)) (sym (tested_equal x.y v.y parts.1))
+  where
+    both : (p q r s : ℤ) → p ≡ r → q ≡ s → point p q ≡ point r s
+    both p q r s e f = rw (e, f) refl

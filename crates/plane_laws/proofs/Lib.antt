@@ -8,3 +8,4 @@ pub mod Scaled
 pub mod Shared
 pub mod Tests
 pub mod Touching
+pub mod Separated

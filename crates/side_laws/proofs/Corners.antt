@@ -9,31 +9,12 @@ use Rattle.plane_spec.specs.declared.Segment.{Segment}
 use Rattle.plane_spec.specs.Vectors.{dot_of, vector, cross_of, orient_of, same_point}
 use Rattle.plane_spec.specs.Segments.{do_touch}
 use Rattle.exact_geom.proofs.Orientation.{orient_of_first_exchanged, orient_of_cycled}
-use Rattle.plane_laws.proofs.Between.{IsAlong, high, long, low_apart, mixed, high_apart, low}
+use Rattle.plane_laws.proofs.Between.{IsAlong, high, long, low_apart, mixed, high_apart, low, height_positive, height_none}
 use Rattle.plane_laws.proofs.Heights.{height, along, same_way, height_from, four}
 use Rattle.plane_laws.proofs.Directions.{exchanged, at_start, at_end, back_cross, cross_back, minus_cross, turn_is, cross_none, at_both, none_cross}
 use Rattle.plane_laws.proofs.Touching.{changes, never_down, never_up}
 use Rattle.winding_laws.proofs.Strips.{Clears, clears_left, clears_down, line_linear, clears_right, clears_up}
 use Rattle.winding_laws.proofs.Near.{linear, square, constant}
-
--- what has both ends of the wall on one side has x on it
-pub height_positive : (v z x : Point) (j : Segment) → IsAlong v z x → pos 0 ≤ℤ height j v → pos 0 <ℤ height j z → pos 0 <ℤ height j x
-height_positive v z x j h hv hz =
-    let m = mixed v z x j h.between.line in
-    let k = long v z x h in
-    let first = not_negative_product (dot_of (vector v z) (vector x z)) (height j v) (high x v z h.between) hv in
-    let second = positive_product (dot_of (vector v z) (vector v x)) (height j z) (low_apart x v z h.between h.apart) hz in
-    let turn = product_swapped (dot_of (vector v z) (vector v z)) (height j x) in
-    positive_factor (height j x) (dot_of (vector v z) (vector v z)) (omega (arith, ints, m, first, second, turn)) k
-
-pub height_none : (v z x : Point) (j : Segment) → IsAlong v z x → height j v ≡ pos 0 → height j z ≡ pos 0 → height j x ≡ pos 0
-height_none v z x j h hv hz =
-    let m = mixed v z x j h.between.line in
-    let k = long v z x h in
-    let first = ap (λ t. dot_of (vector v z) (vector x z) *ℤ t) hv ∙ times_zero (dot_of (vector v z) (vector x z)) in
-    let second = ap (λ t. dot_of (vector v z) (vector v x) *ℤ t) hz ∙ times_zero (dot_of (vector v z) (vector v x)) in
-    let turn = product_swapped (dot_of (vector v z) (vector v z)) (height j x) in
-    zero_factor (height j x) (dot_of (vector v z) (vector v z)) (omega (arith, ints, m, first, second, turn)) k
 
 -- the direction from v to x is that of the wall: signs of cross products with it
 pub way_positive : (v z x c : Point) → IsAlong v z x → pos 0 <ℤ cross_of (vector v z) c → pos 0 <ℤ cross_of (vector v x) c

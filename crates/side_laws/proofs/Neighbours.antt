@@ -4,7 +4,8 @@ use Rattle.std.specs.List.{enumerate_from}
 use Rattle.std.proofs.Common.{ℕ, inl, refl, ap, arith, inr, subst, ◌≡◌, ◌+◌, sym, ◌⊎◌}
 use Rattle.plane_spec.specs.declared.Point.{Point}
 use Rattle.plane_spec.specs.declared.Segment.{Segment}
-use Rattle.plane_spec.specs.Polygons.{edges_to}
+use Rattle.plane_spec.specs.Polygons.{edges_to, edges_of}
+use Rattle.plane_laws.proofs.Numbers.{number_of, without_number}
 use Rattle.plane_laws.proofs.Members.{IsIn}
 use Rattle.side_laws.proofs.Sides.{wall}
 
@@ -89,3 +90,21 @@ before_edge start points i e h = by_case (comes_from 0 start start points i e h)
     by_case (inr k) =
         let last = ends 0 start start points in
         (last.0, 0 + length points, subst (λ t. IsNumbered start points (0 + length points) (wall last.0 t)) (sym k.0) last.1, inr (omega arith, k.1))
+
+-- an edge begins where each one ends
+pub next_edge : (points : List Point) (e : Segment) → IsIn (edges_of points) e → (w : Point) × IsIn (edges_of points) (wall e.b w)
+next_edge [] e h = absurd h
+next_edge (start ∷ points) e h =
+    let edges = edges_of (start ∷ points) in
+    let i = number_of 0 edges e h in
+    let after = after_edge start points i.0 e i.1 in
+    (after.0, without_number 0 edges (after.1, wall e.b after.0) after.2)
+
+-- an edge ends where each one begins
+pub edge_before : (points : List Point) (e : Segment) → IsIn (edges_of points) e → (u : Point) × IsIn (edges_of points) (wall u e.a)
+edge_before [] e h = absurd h
+edge_before (start ∷ points) e h =
+    let edges = edges_of (start ∷ points) in
+    let i = number_of 0 edges e h in
+    let before = before_edge start points i.0 e i.1 in
+    (before.0, without_number 0 edges (before.1, wall before.0 e.a) before.2)

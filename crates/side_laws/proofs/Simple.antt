@@ -15,7 +15,7 @@ use Rattle.plane_laws.proofs.Members.{IsIn, each_passes, each_fails, in_left, in
 use Rattle.plane_laws.proofs.Numbers.{two_edges, one_edge, number_of, without_number}
 use Rattle.plane_laws.proofs.Tests.{clash, not_false}
 use Rattle.plane_laws.proofs.Between.{on_end, on_start}
-use Rattle.plane_laws.proofs.Apart.{touch_exchanged}
+use Rattle.plane_spec.proofs.Laws.{touching_is_symmetric}
 use Rattle.winding_laws.proofs.Closed.{polygon_closes}
 use Rattle.winding_laws.proofs.Settles.{some_winding}
 use Rattle.side_laws.proofs.Neighbours.{numbered, IsNumbered, ends, after_edge, before_edge, starts}
@@ -140,7 +140,7 @@ apart_from start points simple i j e g h k a_off b_off =
     absurd (clash a_off (subst (λ t. is_on_segment e.a t.a t.b ≡ true) (sym one) (on_start e.a e.b)))))
   where
     touch_exchanged' : (e g : Segment) → edges_touch e g ≡ false → do_touch g.a g.b e.a e.b ≡ false
-    touch_exchanged' e g t = touch_exchanged e.a e.b g.a g.b ∙ t
+    touch_exchanged' e g t = sym (touching_is_symmetric e.a e.b g.a g.b) ∙ t
 
     ends_there : (u : Point) (l : ℕ) → IsNumbered start points l (wall u e.a) → j ≡ l → ⊥
     ends_there u l there same =

@@ -11,7 +11,7 @@ use Rattle.plane_spec.specs.Vectors.{same_point, dot_of, vector, point, cross_of
 use Rattle.plane_spec.specs.Segments.{is_on_segment}
 use Rattle.exact_geom.proofs.Orientation.{orient_of_first_exchanged}
 use Rattle.plane_laws.proofs.Members.{IsIn}
-use Rattle.plane_laws.proofs.Between.{IsBetween, high, low, mixed, IsAlong, between, high_apart, long, on_again}
+use Rattle.plane_laws.proofs.Between.{IsBetween, high, low, mixed, IsAlong, between, high_apart, long, on_again, weak_mean}
 use Rattle.plane_laws.proofs.Heights.{height}
 use Rattle.plane_laws.proofs.Directions.{some_square, back_cross, cross_none, exchanged}
 use Rattle.plane_laws.proofs.Shared.{none_shared}
@@ -44,15 +44,6 @@ pub record IsSound (edges : List Segment) (k : ℤ) : Type 0 where
   pub some : (f : Segment) → IsIn edges f → same_point f.a f.b ≡ false
   pub distinct : Distinct edges
   pub sides : (f : Segment) → IsIn edges f → SidesOf edges f k
-
-weak_mean : (v z x : Point) (j : Segment) → same_point v z ≡ false → IsBetween x v z → pos 0 ≤ℤ height j v → pos 0 ≤ℤ height j z → pos 0 ≤ℤ height j x
-weak_mean v z x j apart on hv hz =
-    let m = mixed v z x j on.line in
-    let k = some_square v z apart in
-    let first = not_negative_product (dot_of (vector v z) (vector x z)) (height j v) (high x v z on) hv in
-    let second = not_negative_product (dot_of (vector v z) (vector v x)) (height j z) (low x v z on) hz in
-    let turn = product_swapped (dot_of (vector v z) (vector v z)) (height j x) in
-    not_negative_factor (height j x) (dot_of (vector v z) (vector v z)) (omega (arith, ints, m, first, second, turn)) k
 
 -- the line from v in a direction
 abbrev ray : Point → Point → Segment

@@ -12,7 +12,7 @@ use Rattle.plane_spec.specs.declared.Segment.{Segment}
 use Rattle.plane_spec.specs.Cones.{corner, is_in_cone}
 use Rattle.plane_spec.specs.Vectors.{cross_of, same_point, vector, point, dot_of}
 use Rattle.plane_spec.specs.Segments.{is_on_segment}
-use Rattle.plane_laws.proofs.Between.{IsAlong, IsBetween, between, high, on_again}
+use Rattle.plane_laws.proofs.Between.{IsAlong, IsBetween, between, high, on_again, same_from_test}
 use Rattle.plane_laws.proofs.Members.{IsIn}
 use Rattle.plane_laws.proofs.Tests.{clash}
 use Rattle.plane_laws.proofs.Directions.{cross_back, at_end, back_cross, exchanged, some_square}
@@ -35,14 +35,6 @@ pub record IsStepOff (edges : List Segment) (x y : Point) : Type 0 where
   pub off : (f : Segment) → IsIn edges f → is_on_segment y f.a f.b ≡ false
   pub a_at : (f : Segment) → IsIn edges f → is_on_segment f.a x y ≡ true → (f.a ≡ x) ⊎ (f.a ≡ y)
   pub b_at : (f : Segment) → IsIn edges f → is_on_segment f.b x y ≡ true → (f.b ≡ x) ⊎ (f.b ≡ y)
-
-pub same_from_test : (x v : Point) → same_point x v ≡ true → v ≡ x
-same_from_test x v h =
-    let parts = and_parts _ _ h in
-    both v.x v.y x.x x.y (sym (tested_equal x.x v.x parts.0)) (sym (tested_equal x.y v.y parts.1))
-  where
-    both : (p q r s : ℤ) → p ≡ r → q ≡ s → point p q ≡ point r s
-    both p q r s e f = rw (e, f) refl
 
 flip : (a b : Point) → same_point a b ≡ false → same_point b a ≡ false
 flip a b e = rw (swap a.x b.x, swap a.y b.y) e
