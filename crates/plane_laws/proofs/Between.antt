@@ -1,9 +1,10 @@
 -- Points between two others, and their heights.
+use Rattle.plane_laws.proofs.Tests.{clash}
 use Rattle.std.specs.Ordering.{int_eq}
 use Rattle.std.proofs.Common.{arith, true, ℤ, ◌≡◌, ◌⊎◌, ◌≤ℤ◌, inl, inr, pos, ◌-ℤ◌, ◌*ℤ◌, false, ◌<ℤ◌, ◌&&◌, ◌+ℤ◌, ap, ◌∙◌, sym, subst, refl}
 use Rattle.std.proofs.lemmas.Int.{ints}
 use Rattle.std.proofs.lemmas.Bool.Decides.{Decides-int_eq}
-use Rattle.std.proofs.lemmas.Bool.{and_parts, and_cases, and_from}
+use Rattle.std.proofs.lemmas.Bool.{false_from_ne_true, and_parts, and_cases, and_from}
 use Rattle.int_laws.proofs.Signs.{negative_factors, not_negative_product, negative_product_both, positive_product, none_times, positive_factor, zero_factor, not_negative_factor}
 use Rattle.int_laws.proofs.Ring.{sum_times, times_sum, product_swapped, times_zero}
 use Rattle.int_laws.proofs.Tests.{equal_tested, tested_equal}
@@ -212,3 +213,6 @@ same_from_test x v h =
   where
     both : (p q r s : ℤ) → p ≡ r → q ≡ s → point p q ≡ point r s
     both p q r s e f = rw (e, f) refl
+
+pub apart_back : (a b : Point) → same_point a b ≡ false → same_point b a ≡ false
+apart_back a b h = false_from_ne_true (same_point b a) (λ same. clash h (same_ends a b (same_from_test b a same)))

@@ -1,4 +1,6 @@
 -- The elements of a list, and what passes a test.
+use Rattle.std.specs.Prelude.{All, Contains}
+use Rattle.std.proofs.lemmas.List.Elements.{All-cons, All-head, All-tail, All-nil, All-contains_itself}
 use Rattle.std.specs.List.{list_all, list_any}
 use Rattle.std.specs.Prelude.{◌++◌}
 use Rattle.std.proofs.Common.{List, ◌≡◌, ◌⊎◌, [], ◌∷◌, Bool, true, inl, inr, subst, refl, ap, map, false, ◌||◌, ◌+◌, sym, ◌∙◌}
@@ -106,3 +108,24 @@ from_append (y ∷ xs) ys x (inr h) = later (from_append xs ys x h)
     later : IsIn xs x ⊎ IsIn ys x → IsIn (y ∷ xs) x ⊎ IsIn ys x
     later (inl k) = inl (inr k)
     later (inr k) = inr k
+
+-- ---- the words of std
+
+each_in : {X : Type 0} (xs : List X) → All (IsIn xs) xs
+each_in [] = All-nil (IsIn [])
+each_in {X = X} (x ∷ xs) = All-cons (IsIn (x ∷ xs)) x xs (inl refl) (weaker xs (each_in xs))
+  where
+    weaker : (ys : List X) → All (IsIn xs) ys → All (IsIn (x ∷ xs)) ys
+    weaker [] all = All-nil (IsIn (x ∷ xs))
+    weaker (y ∷ ys) all = All-cons (IsIn (x ∷ xs)) y ys (inr (All-head (IsIn xs) y ys all)) (weaker ys (All-tail (IsIn xs) y ys all))
+
+pub from_contains : {X : Type 0} (xs : List X) (x : X) → Contains xs x → IsIn xs x
+from_contains xs x h = subst (λ t. IsIn xs t) h.2 (each_in xs h.0 x h.1)
+
+pub to_contains : {X : Type 0} (xs : List X) (x : X) → IsIn xs x → Contains xs x
+to_contains {X = X} xs x h = each_of (Contains xs) xs x (All-contains_itself xs) h
+  where
+    each_of : (holds : X → Type 0) (ys : List X) (x : X) → All holds ys → IsIn ys x → holds x
+    each_of holds [] x all k = absurd k
+    each_of holds (y ∷ ys) x all (inl e) = subst holds e (All-head holds y ys all)
+    each_of holds (y ∷ ys) x all (inr k) = each_of holds ys x (All-tail holds y ys all) k

@@ -191,10 +191,10 @@ touching a b p q s =
 
 -- ---- touching, either way round
 
-opposite_swapped : (s t : ℤ) → are_opposite t s ≡ are_opposite s t
+pub opposite_swapped : (s t : ℤ) → are_opposite t s ≡ are_opposite s t
 opposite_swapped s t = grind (arith, ints)
 
-opposite_negated : (s t u v : ℤ) → u ≡ neg_ℤ s → v ≡ neg_ℤ t → are_opposite u v ≡ are_opposite s t
+pub opposite_negated : (s t u v : ℤ) → u ≡ neg_ℤ s → v ≡ neg_ℤ t → are_opposite u v ≡ are_opposite s t
 opposite_negated s t u v e f = grind (arith, ints)
 
 pub on_either : (x a b : Point) → is_on_segment x b a ≡ is_on_segment x a b

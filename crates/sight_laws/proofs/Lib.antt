@@ -1,5 +1,7 @@
 pub mod Walls
-pub mod Inside
-pub mod Outside
+pub mod LeftOfAll
+pub mod RightOfOne
 pub mod Polygons
 pub mod Outer
+pub mod Passing
+pub mod Past

@@ -14,7 +14,7 @@ use Rattle.plane_laws.proofs.Tests.{clash}
 use Rattle.plane_laws.proofs.Members.{IsIn, Found, found, each_fails, source, mapped}
 use Rattle.plane_laws.proofs.Numbers.{without_number}
 use Rattle.plane_laws.proofs.Heights.{height}
-use Rattle.plane_laws.proofs.Between.{between, weak_mean, same_ends, same_from_test}
+use Rattle.plane_laws.proofs.Between.{between, weak_mean, apart_back}
 use Rattle.plane_laws.proofs.Scaled.{large, scaled_wall, same_scaled}
 use Rattle.winding_laws.proofs.Parity.{is_odd, even_where_none, odd_where_once}
 use Rattle.winding_laws.proofs.Closed.{AreClosed, polygon_closes}
@@ -28,8 +28,8 @@ use Rattle.cone_laws.proofs.Rounds.{obstacle_round}
 use Rattle.polygon_laws.proofs.Insides.{is_on_any, by_walls, both_by_walls, inside_by_walls}
 use Rattle.sight_laws.specs.Convex.{is_convex, is_on_or_inside, is_strictly_inside}
 use Rattle.sight_laws.proofs.Walls.{AreConvex, convex_walls, convex_large, walls_enlarged, from_over_walls, left_of_walls, from_left_of_walls}
-use Rattle.sight_laws.proofs.Inside.{winding_inside}
-use Rattle.sight_laws.proofs.Outside.{winding_outside}
+use Rattle.sight_laws.proofs.LeftOfAll.{winding_inside}
+use Rattle.sight_laws.proofs.RightOfOne.{winding_outside}
 
 -- ---- by the walls
 
@@ -89,14 +89,11 @@ real_walls points h w there = by_turn (is_counterclockwise points) there
     real : (e : Segment) → IsIn (edges_of points) e → same_point e.a e.b ≡ false
     real e e_there = each_fails is_nothing (edges_of points) e h e_there
 
-    swapped : (a b : Point) → same_point a b ≡ false → same_point b a ≡ false
-    swapped a b e = false_from_ne_true (same_point b a) (λ h. clash e (same_ends a b (same_from_test b a h)))
-
     by_turn : (t : Bool) → IsIn (if t then edges_of points else map turned_edge (edges_of points)) w → same_point w.a w.b ≡ false
     by_turn true k = real w k
     by_turn false k =
         let o = source turned_edge (edges_of points) w k in
-        subst (λ t. same_point t.a t.b ≡ false) o.is (swapped o.it.a o.it.b (real o.it o.is_in))
+        subst (λ t. same_point t.a t.b ≡ false) o.is (apart_back o.it.a o.it.b (real o.it o.is_in))
 
 closed_walls : (points : List Point) → AreClosed (walls_round true points)
 unfolding walls_round
