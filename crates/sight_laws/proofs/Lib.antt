@@ -5,3 +5,4 @@ pub mod Polygons
 pub mod Outer
 pub mod Passing
 pub mod Past
+mod Examples
