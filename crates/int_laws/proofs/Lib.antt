@@ -2,3 +2,4 @@ pub mod Ring
 pub mod Signs
 pub mod Divisors
 pub mod Tests
+pub mod Multiples

@@ -1,9 +1,9 @@
 -- Signs of products and sums.
-use Rattle.std.proofs.Common.{◌≡◌, ℕ, ◌+◌, ◌-◌, ◌*◌, ◌≤◌, ℤ, pos, ◌+ℤ◌, ◌*ℤ◌, neg_ℤ, ◌<ℤ◌, ◌≤ℤ◌, arith}
-use Rattle.std.specs.Prelude.{true, false, int_lt}
+use Rattle.std.proofs.Common.{◌≡◌, ℕ, ◌+◌, ◌-◌, ◌*◌, ◌≤◌, ℤ, pos, ◌+ℤ◌, ◌*ℤ◌, neg_ℤ, ◌<ℤ◌, ◌≤ℤ◌, arith, ap, ◌∙◌, subst, ◌-ℤ◌}
+use Rattle.std.specs.Prelude.{true, false, int_lt, unsigned_abs}
 use Rattle.std.proofs.lemmas.Int.{ints, by_lt_z}
 use borrow.Author.Differences.{up, down}
-use Rattle.int_laws.proofs.Ring.{neg_times, times_neg, times_zero}
+use Rattle.int_laws.proofs.Ring.{neg_times, times_neg, times_zero, zero_times, neg_twice, times_minus, times_one}
 
 -- ---- products
 
@@ -110,3 +110,46 @@ not_positive_tested z h = grind (arith, ints)
 -- a number that doesn't pass the test isn't positive
 pub tested_not_positive : (z : ℤ) → int_lt (pos 0) z ≡ false → z ≤ℤ pos 0
 tested_not_positive z h = omega (arith, ints)
+
+-- ---- signs
+
+-- a number whose product with one that isn't negative is positive is positive
+pub up_factor : (a b : ℤ) → pos 0 <ℤ (a *ℤ b) → pos 0 ≤ℤ b → pos 0 <ℤ a
+up_factor a b h k =
+    by_lt_z (pos 0) b
+    (λ p. positive_factor a b h p)
+    (λ q. let none : b ≡ pos 0 = omega (arith, ints) in
+    let nothing : a *ℤ b ≡ pos 0 = ap (λ t. a *ℤ t) none ∙ times_zero a in
+    absurd (omega (arith, ints, h, nothing)))
+
+pub none_times : (x z : ℤ) → x ≡ pos 0 → x *ℤ z ≡ pos 0
+none_times x z h = ap (λ t. t *ℤ z) h ∙ zero_times z
+
+neg_product : (x y : ℤ) → neg_ℤ x *ℤ neg_ℤ y ≡ x *ℤ y
+neg_product x y = neg_times x (neg_ℤ y) ∙ ap neg_ℤ (times_neg x y) ∙ neg_twice (x *ℤ y)
+
+pub negative_factors : (x y : ℤ) → x ≤ℤ pos 0 → y ≤ℤ pos 0 → pos 0 ≤ℤ (x *ℤ y)
+negative_factors x y h k = subst (λ t. pos 0 ≤ℤ t) (neg_product x y) (not_negative_product (neg_ℤ x) (neg_ℤ y) (omega (arith, ints)) (omega (arith, ints)))
+
+pub negative_product_both : (x y : ℤ) → x <ℤ pos 0 → y <ℤ pos 0 → pos 0 <ℤ (x *ℤ y)
+negative_product_both x y h k = subst (λ t. pos 0 <ℤ t) (neg_product x y) (positive_product (neg_ℤ x) (neg_ℤ y) (omega (arith, ints)) (omega (arith, ints)))
+
+-- ---- one coordinate
+
+-- a number whose product with a positive one isn't negative isn't negative
+pub not_negative_factor : (a b : ℤ) → pos 0 ≤ℤ (a *ℤ b) → pos 0 <ℤ b → pos 0 ≤ℤ a
+not_negative_factor a b h k = by_lt_z a (pos 0) (λ p. let g = negative_product a b p k in absurd (omega (arith, ints, g, h))) (λ q. q)
+
+-- a number whose product with one that isn't negative is negative is negative
+pub negative_by : (x f : ℤ) → (x *ℤ f) <ℤ pos 0 → pos 0 ≤ℤ f → x <ℤ pos 0
+negative_by x f h up = by_lt_z x (pos 0) (λ p. p) (λ q. let g = not_negative_product x f q up in absurd (omega (arith, ints, g, h)))
+
+pub at_least_times : (m a : ℤ) → pos 0 ≤ℤ m → pos 1 ≤ℤ a → m ≤ℤ (m *ℤ a)
+at_least_times m a h k =
+    let more = not_negative_product m (a -ℤ pos 1) h (omega (arith, ints, k)) in
+    let e = times_minus m a (pos 1) in
+    let f = times_one m in
+    omega (arith, ints, more, e, f)
+
+pub below_size : (z : ℤ) → pos 0 ≤ℤ (pos (unsigned_abs z) +ℤ z)
+below_size z = omega (arith, ints)

@@ -51,3 +51,9 @@ same_test x y d up =
     agree (int_lt (x *ℤ d) (y *ℤ d)) (int_lt x y)
     (λ h. less_tested x y (smaller_factor x y d up (tested_less (x *ℤ d) (y *ℤ d) h)))
     (λ h. less_tested (x *ℤ d) (y *ℤ d) (smaller_product x y d up (tested_less x y h)))
+
+pub not_at_most : (x y : ℤ) → x <ℤ y → int_le y x ≡ false
+not_at_most x y h = grind (arith, ints)
+
+pub not_less : (x y : ℤ) → y ≤ℤ x → int_lt x y ≡ false
+not_less x y h = grind (arith, ints)

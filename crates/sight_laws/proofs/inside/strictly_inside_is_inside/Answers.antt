@@ -1,5 +1,5 @@
-use Rattle.sight_laws.proofs.InsideLaw.{inside_where_left_of_all}
+use Rattle.sight_laws.proofs.Polygons.{inside_where_left}
 use Rattle.sight_laws.proofs.inside.strictly_inside_is_inside.Goals as goal
 
 pub returns : goal.returns
-returns c = inside_where_left_of_all
+returns c = inside_where_left

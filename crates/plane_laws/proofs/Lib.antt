@@ -1,0 +1,11 @@
+pub mod Apart
+pub mod Between
+pub mod Directions
+pub mod Heights
+pub mod Members
+pub mod Numbers
+pub mod Scaled
+pub mod Shared
+pub mod Tests
+pub mod Touching
+pub mod Separated

@@ -1,0 +1,59 @@
+-- The law of sides, as the contract states it.
+use Rattle.std.specs.Prelude.{List, [], ◌∷◌, map, Bool, false, length, nat_le, not, true, ◌&&◌}
+use Rattle.std.proofs.Common.{inl, inr, ap, arith, pos, ℤ, ◌≡◌, ◌+ℤ◌, ◌-ℤ◌, ◌*ℤ◌, ◌<ℤ◌, ◌∙◌, refl, sym, ℕ, ◌≤◌}
+use Rattle.std.proofs.lemmas.Int.{ints}
+use Rattle.std.proofs.lemmas.Bool.{and_parts}
+use Rattle.int_laws.proofs.Ring.{sum_times}
+use Rattle.plane_spec.specs.declared.Segment.{Segment}
+use Rattle.plane_spec.specs.declared.Point.{Point}
+use Rattle.plane_spec.specs.Vectors.{cross_of, vector}
+use Rattle.plane_spec.specs.Polygons.{crosses_nowhere, has_repeat, is_simple}
+use Rattle.plane_laws.proofs.Members.{IsIn, mapped}
+use Rattle.plane_laws.proofs.Scaled.{scaled, scaled_wall}
+use Rattle.side_laws.specs.Beside.{IsAmong, GoesRoundOnLeft}
+use Rattle.side_laws.proofs.Sound.{IsSound}
+use Rattle.side_laws.proofs.Rights.{in_the_middle, middle, two_up}
+use Rattle.side_laws.proofs.Scaled.{scaled_sound}
+use Rattle.side_laws.proofs.Sides.{side_middle}
+use Rattle.side_laws.proofs.Simple.{IsSimple}
+
+among : (edges : List Segment) (e : Segment) → IsAmong edges e → IsIn edges e
+among [] e h = absurd h
+among (f ∷ edges) e (inl h) = inl h
+among (f ∷ edges) e (inr h) = inr (among edges e h)
+
+doubled_left : (a b d : Point) → pos 0 <ℤ cross_of (vector a b) d → pos 0 <ℤ cross_of (vector (scaled (pos 2) (pos 2) a) (scaled (pos 2) (pos 2) b)) d
+doubled_left a b d h = by_parts a.x a.y b.x b.y d.x d.y h
+  where
+    by_parts : (ax ay bx by dx dy : ℤ) → pos 0 <ℤ ((bx -ℤ ax) *ℤ dy -ℤ (by -ℤ ay) *ℤ dx) → pos 0 <ℤ ((pos 2 *ℤ bx -ℤ pos 2 *ℤ ax) *ℤ dy -ℤ (pos 2 *ℤ by -ℤ pos 2 *ℤ ay) *ℤ dx)
+    by_parts ax ay bx by dx dy h =
+        let w : pos 2 *ℤ bx -ℤ pos 2 *ℤ ax ≡ (bx -ℤ ax) +ℤ (bx -ℤ ax) = omega (arith, ints) in
+        let z : pos 2 *ℤ by -ℤ pos 2 *ℤ ay ≡ (by -ℤ ay) +ℤ (by -ℤ ay) = omega (arith, ints) in
+        let first = ap (λ t. t *ℤ dy) w ∙ sum_times (bx -ℤ ax) (bx -ℤ ax) dy in
+        let second = ap (λ t. t *ℤ dx) z ∙ sum_times (by -ℤ ay) (by -ℤ ay) dx in
+        omega (arith, ints, h, first, second)
+
+pub goes_round : (edges : List Segment) (k : ℤ) → IsSound edges k → GoesRoundOnLeft edges k
+unfolding middle
+goes_round edges k s e d there left =
+    let e_there = among edges e there in
+    let twice = scaled_sound (pos 2) (pos 2) edges k two_up two_up s in
+    let e2 = scaled_wall (pos 2) (pos 2) e in
+    let o = twice.sides e2 (mapped (scaled_wall (pos 2) (pos 2)) edges e e_there) in
+    let m = in_the_middle e (s.some e e_there) in
+    let w = side_middle (map (scaled_wall (pos 2) (pos 2)) edges) o.before e2.a e2.b o.after (middle e) d k twice.closed twice.some o.first o.second o.alone o.side m.0 m.1 (doubled_left e.a e.b d left) in
+    (w.after, λ n l. w.from_there n l)
+
+-- a simple polygon, as the definition tests it
+pub simple_from : (start : Point) (points : List Point) → is_simple (start ∷ points) ≡ true → IsSimple start points
+simple_from start points h =
+    let first = and_parts (nat_le 3 (length (start ∷ points))) (not (has_repeat (start ∷ points)) && crosses_nowhere (start ∷ points)) h in
+    let second = and_parts (not (has_repeat (start ∷ points))) (crosses_nowhere (start ∷ points)) first.1 in
+    record { many = many_from (length (start ∷ points)) first.0; some = not_false (has_repeat (start ∷ points)) second.0; stand = second.1 }
+  where
+    many_from : (n : ℕ) → nat_le 3 n ≡ true → 3 ≤ n
+    many_from n h = grind arith
+
+    not_false : (t : Bool) → not t ≡ true → t ≡ false
+    not_false true h = sym h
+    not_false false h = refl

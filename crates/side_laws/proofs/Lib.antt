@@ -1,0 +1,11 @@
+pub mod Corners
+pub mod Law
+pub mod Neighbours
+pub mod Rights
+pub mod Scaled
+pub mod Sides
+pub mod Simple
+pub mod Sound
+pub mod Stands
+pub mod Tall
+pub mod Turned

@@ -1,0 +1,5 @@
+mod Blocking
+mod Inside
+mod Notches
+mod Passing
+mod Plans

@@ -1,0 +1,65 @@
+-- Convex obstacles, and what is inside them, on small figures.
+use Rattle.std.specs.Prelude.{◌≡◌, refl, List, [], ◌∷◌, ℤ, pos, true, false}
+use Rattle.std.proofs.Common.{arith}
+use Rattle.plane_spec.specs.declared.Point.{Point}
+use Rattle.plane_spec.specs.Vectors.{point}
+use Rattle.plane_spec.specs.Polygons.{edges_to, is_counterclockwise}
+use Rattle.plan_spec.specs.Scene.{walls_round}
+use Rattle.sight_laws.specs.Convex.{is_convex, is_strictly_inside, PassesThrough}
+
+abbrev at : ℤ → ℤ → Point
+at x y = point x y
+
+-- the box from (0,0) to (3,3), counterclockwise
+abbrev box : List Point
+box = at (pos 0) (pos 0) ∷ at (pos 3) (pos 0) ∷ at (pos 3) (pos 3) ∷ at (pos 0) (pos 3) ∷ []
+
+-- the same box, clockwise
+abbrev clockwise_box : List Point
+clockwise_box = at (pos 0) (pos 0) ∷ at (pos 0) (pos 3) ∷ at (pos 3) (pos 3) ∷ at (pos 3) (pos 0) ∷ []
+
+-- the same box with a point more on its lower side
+abbrev box_with_a_straight_corner : List Point
+box_with_a_straight_corner = at (pos 0) (pos 0) ∷ at (pos 1) (pos 0) ∷ at (pos 3) (pos 0) ∷ at (pos 3) (pos 3) ∷ at (pos 0) (pos 3) ∷ []
+
+-- the same box with its upper side pushed in
+abbrev notched_box : List Point
+notched_box = at (pos 0) (pos 0) ∷ at (pos 3) (pos 0) ∷ at (pos 3) (pos 3) ∷ at (pos 1) (pos 2) ∷ at (pos 0) (pos 3) ∷ []
+
+-- ---- convex
+
+a_box_is_convex : is_convex box ≡ true
+unfolding walls_round is_counterclockwise edges_to
+a_box_is_convex = refl
+
+a_box_is_convex_either_way_round : is_convex clockwise_box ≡ true
+unfolding walls_round is_counterclockwise edges_to
+a_box_is_convex_either_way_round = refl
+
+straight_corners_are_convex : is_convex box_with_a_straight_corner ≡ true
+unfolding walls_round is_counterclockwise edges_to
+straight_corners_are_convex = refl
+
+a_notched_box_is_not_convex : is_convex notched_box ≡ false
+unfolding walls_round is_counterclockwise edges_to
+a_notched_box_is_not_convex = refl
+
+-- ---- inside
+
+off_the_border_is_inside : is_strictly_inside (at (pos 1) (pos 2)) clockwise_box ≡ true
+unfolding walls_round is_counterclockwise edges_to
+off_the_border_is_inside = refl
+
+the_border_is_not_inside : is_strictly_inside (at (pos 3) (pos 2)) box ≡ false
+unfolding walls_round is_counterclockwise edges_to
+the_border_is_not_inside = refl
+
+-- ---- passing through
+
+a_diagonal_passes_through : PassesThrough box (at (pos 0) (pos 0)) (at (pos 3) (pos 3))
+unfolding walls_round is_counterclockwise edges_to
+a_diagonal_passes_through = (1, 2, omega arith, omega arith, refl)
+
+past_a_cut_corner_without_a_whole_point_inside : PassesThrough box (at (pos 2) (pos 0)) (at (pos 3) (pos 1))
+unfolding walls_round is_counterclockwise edges_to
+past_a_cut_corner_without_a_whole_point_inside = (1, 2, omega arith, omega arith, refl)

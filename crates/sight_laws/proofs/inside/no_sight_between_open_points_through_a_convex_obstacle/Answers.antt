@@ -1,5 +1,0 @@
-use Rattle.sight_laws.proofs.InsideLaw.{unseen_between_open}
-use Rattle.sight_laws.proofs.inside.no_sight_between_open_points_through_a_convex_obstacle.Goals as goal
-
-pub returns : goal.returns
-returns c = unseen_between_open

@@ -1,0 +1,9 @@
+pub mod Closed
+pub mod Crossed
+pub mod Near
+pub mod OneEdge
+pub mod Parity
+pub mod Scaled
+pub mod Settles
+pub mod Strips
+pub mod Turned
