@@ -16,6 +16,7 @@ use Rattle.plane_spec.specs.declared.Point.{Point}
 use Rattle.plane_spec.specs.declared.PlanBox.{PlanBox}
 use Rattle.plane_spec.specs.declared.Segment.{Segment}
 use Rattle.plane_spec.specs.declared.Corner.{Corner}
+use Rattle.plane_spec.specs.declared.Orientation.TheVariants.{Counterclockwise, Clockwise}
 use Rattle.plane_spec.specs.Vectors.{same_point}
 use Rattle.plane_spec.specs.Boxes.{box_of_points}
 use Rattle.plane_spec.specs.Polygons.{edges_to, edges_of, has_repeat, is_nothing}
@@ -211,7 +212,7 @@ obstacle_is_dirty : (boxes : Changed) (box : PlanBox) → boxes.second ≡ Some 
     → new.obstacles ≡ before ++ o ∷ after → All (IsIn box) o.points
     → (p : Point) → is_dirty_corner boxes old lines (scene_of new) p ≡ true
 obstacle_is_dirty boxes box b old lines new sound before o after e all =
-    let outer = corners_round false new.outer in
+    let outer = corners_round Clockwise new.outer in
     let ends = flat_map ends_of_screen new.screens in
     part_is_dirty boxes box b old (scene_of new) lines (places (outer ++ flat_map corners_of_obstacle before))
     o.points
@@ -219,7 +220,7 @@ obstacle_is_dirty boxes box b old lines new sound before o after e all =
     (ap (λ os. places (outer ++ (flat_map corners_of_obstacle os ++ ends))) e
     ∙ part_in_middle corners_of_obstacle outer ends before o after
     ∙ ap (λ r. places (outer ++ flat_map corners_of_obstacle before)
-    ++ (r ++ places (flat_map corners_of_obstacle after ++ ends))) (places_round true o.points))
+    ++ (r ++ places (flat_map corners_of_obstacle after ++ ends))) (places_round Counterclockwise o.points))
     (two_of_polygon o.points polygon) all
   where
     sound_by_itself : Obstacle → Bool
@@ -238,7 +239,7 @@ screen_is_dirty : (boxes : Changed) (box : PlanBox) → boxes.second ≡ Some bo
     (new : Plan) → is_sound new ≡ true → (before : List Screen) (s : Screen) → new.screens ≡ before ++ s ∷ []
     → All (IsIn box) (s.from ∷ s.to ∷ []) → (p : Point) → is_dirty_corner boxes old lines (scene_of new) p ≡ true
 screen_is_dirty boxes box b old lines new sound before s e all =
-    let outer = corners_round false new.outer in
+    let outer = corners_round Clockwise new.outer in
     let others = flat_map corners_of_obstacle new.obstacles in
     part_is_dirty boxes box b old (scene_of new) lines (places ((outer ++ others) ++ flat_map ends_of_screen before))
     (s.from ∷ s.to ∷ []) []

@@ -19,6 +19,7 @@ use Rattle.std.proofs.lemmas.List.Elements.{All-nil, All-cons, All-head, All-tai
 use Rattle.plane_spec.specs.declared.Point.{Point}
 use Rattle.plane_spec.specs.declared.PlanBox.{PlanBox}
 use Rattle.plane_spec.specs.declared.Corner.{Corner}
+use Rattle.plane_spec.specs.declared.Orientation.TheVariants.{Counterclockwise, Clockwise}
 use Rattle.plane_spec.specs.Segments.{do_touch}
 use Rattle.plane_spec.specs.Boxes.{box_of_points, does_meet_box, do_overlap, reaches_line}
 use Rattle.plan_spec.specs.declared.kinds.Screen.{Screen}
@@ -165,7 +166,7 @@ closes_obstacle : (box : PlanBox) (plan : Plan) (name : List ℕ)
     → Single (is_obstacle_named name) plan.obstacles
     → ClosesUp box (scene_of plan) (scene_of (with_obstacles plan (without_obstacle name plan.obstacles)))
 closes_obstacle box plan name held s =
-    let outer = corners_round false plan.outer in
+    let outer = corners_round Clockwise plan.outer in
     let ends = flat_map ends_of_screen plan.screens in
     let all : List Obstacle → List Point = λ os. places (outer ++ (flat_map corners_of_obstacle os ++ ends)) in
     let in_box = only_one_has (PointsIn box) (is_obstacle_named name) plan.obstacles s held in
@@ -177,7 +178,7 @@ closes_obstacle box plan name held s =
       new_is = ap all (all_but_single (is_obstacle_named name) plan.obstacles s)
           ∙ part_left_out corners_of_obstacle outer ends s.before s.after;
       gone_in = all_meet box (places (corners_of_obstacle s.it))
-          (places_in box (corners_of_obstacle s.it) (corners_held (IsIn box) true s.it.points in_box));
+          (places_in box (corners_of_obstacle s.it) (corners_held (IsIn box) Counterclockwise s.it.points in_box));
     }
 
 -- the ends of a screen that is removed
@@ -186,7 +187,7 @@ closes_screen : (box : PlanBox) (plan : Plan) (name : List ℕ)
     → ClosesUp box (scene_of plan)
     (scene_of (with_screens plan (filter (λ s. not (is_screen_named name s)) plan.screens)))
 closes_screen box plan name held s =
-    let outer = corners_round false plan.outer in
+    let outer = corners_round Clockwise plan.outer in
     let others = flat_map corners_of_obstacle plan.obstacles in
     let all : List Screen → List Point = λ ss. places ((outer ++ others) ++ (flat_map ends_of_screen ss ++ [])) in
     let in_box = only_one_has (EndsIn box) (is_screen_named name) plan.screens s held in

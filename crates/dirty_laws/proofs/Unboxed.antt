@@ -10,6 +10,7 @@ use Rattle.std.specs.List.{flat_map}
 use Rattle.std.proofs.lemmas.List.Elements.{All-nil, All-cons, All-head, All-tail, All-weaker}
 use Rattle.plane_spec.specs.declared.Point.{Point}
 use Rattle.plane_spec.specs.declared.PlanBox.{PlanBox}
+use Rattle.plane_spec.specs.declared.Orientation.TheVariants.{Counterclockwise}
 use Rattle.plane_spec.specs.Boxes.{box_of_points}
 use Rattle.plane_spec.specs.Polygons.{edges_of}
 use Rattle.plan_spec.specs.declared.kinds.Screen.{Screen}
@@ -41,7 +42,7 @@ no_points (p ∷ points) h = cc
 no_walls : (o : Obstacle) → o.points ≡ [] → walls_of_obstacle o ≡ []
 unfolding walls_round
 no_walls o e =
-    ap (λ ps. cond (goes_round true ps) (edges_of ps) (map turned_edge (edges_of ps))) e ∙ either (goes_round true [])
+    ap (λ ps. cond (goes_round Counterclockwise ps) (edges_of ps) (map turned_edge (edges_of ps))) e ∙ either (goes_round Counterclockwise [])
   where
     either : (t : Bool) → cond t (edges_of []) (map turned_edge (edges_of [])) ≡ []
     either true = refl
@@ -51,9 +52,9 @@ no_walls o e =
 no_corners : (o : Obstacle) → o.points ≡ [] → corners_of_obstacle o ≡ []
 unfolding corners_round
 no_corners o e =
-    ap (λ ps. cond (goes_round true ps) (corners_along (edges_of ps))
+    ap (λ ps. cond (goes_round Counterclockwise ps) (corners_along (edges_of ps))
     (map turned_corner (corners_along (edges_of ps)))) e
-    ∙ either (goes_round true [])
+    ∙ either (goes_round Counterclockwise [])
   where
     either : (t : Bool) → cond t (corners_along (edges_of [])) (map turned_corner (corners_along (edges_of []))) ≡ []
     either true = refl
