@@ -2,6 +2,7 @@
 use Rattle.std.specs.Prelude.{Bool, true, false, cond, List, [], ◌∷◌, map}
 use Rattle.std.specs.List.{All}
 use Rattle.std.proofs.lemmas.List.Elements.{All-nil, All-cons, All-head, All-tail, All-map, All-weaker}
+use Rattle.plane_spec.specs.declared.Orientation.{Orientation}
 use Rattle.plane_spec.specs.declared.Point.{Point}
 use Rattle.plane_spec.specs.declared.Segment.{Segment}
 use Rattle.plane_spec.specs.Polygons.{edges_to, edges_of}
@@ -39,10 +40,10 @@ turned_held P edges all =
     (All-weaker (OfEnds P) (λ e. OfEnds P (turned_edge e)) (λ e h. record { a = h.b; b = h.a }) edges all)
 
 -- what holds of all points holds of the ends of all walls round them
-pub walls_held : (P : Point → Type 0) (counterclockwise : Bool) (points : List Point) → All P points
-    → All (OfEnds P) (walls_round counterclockwise points)
+pub walls_held : (P : Point → Type 0) (way : Orientation) (points : List Point) → All P points
+    → All (OfEnds P) (walls_round way points)
 unfolding walls_round
-walls_held P counterclockwise points all = by_way (goes_round counterclockwise points)
+walls_held P way points all = by_way (goes_round way points)
   where
     by_way : (t : Bool) → All (OfEnds P) (cond t (edges_of points) (map turned_edge (edges_of points)))
     by_way true = edges_held P points all
@@ -65,10 +66,10 @@ corners_along_held P [] all = All-nil (OfCorner P)
 corners_along_held P (e ∷ edges) all = corners_after_held P (last_edge e edges) (e ∷ edges) all
 
 -- what holds of all points holds of all corners at them
-pub corners_held : (P : Point → Type 0) (counterclockwise : Bool) (points : List Point) → All P points
-    → All (OfCorner P) (corners_round counterclockwise points)
+pub corners_held : (P : Point → Type 0) (way : Orientation) (points : List Point) → All P points
+    → All (OfCorner P) (corners_round way points)
 unfolding corners_round
-corners_held P counterclockwise points all = by_way (goes_round counterclockwise points)
+corners_held P way points all = by_way (goes_round way points)
   where
     held : All (OfCorner P) (corners_along (edges_of points))
     held = corners_along_held P (edges_of points) (edges_held P points all)

@@ -12,6 +12,7 @@ use Rattle.std.proofs.lemmas.Int.{ints}
 use Rattle.std.proofs.lemmas.Bool.{and_parts}
 use Rattle.std.proofs.lemmas.List.Elements.{All-head, All-tail, Contains-get_or}
 use Rattle.std.proofs.lemmas.List.Elements.{Contains-append_left, Contains-append_right}
+use Rattle.plane_spec.specs.declared.Orientation.{Orientation}
 use Rattle.plane_spec.specs.declared.Point.{Point}
 use Rattle.plane_spec.specs.declared.PlanBox.{PlanBox}
 use Rattle.plane_spec.specs.declared.Segment.{Segment}
@@ -156,10 +157,10 @@ places_along (p ∷ q ∷ points) =
     ∙ starts_are p (p ∷ q ∷ points)
 
 -- whichever way round they go
-places_round : (counterclockwise : Bool) (points : List Point)
-    → places (corners_round counterclockwise points) ≡ points
+places_round : (way : Orientation) (points : List Point)
+    → places (corners_round way points) ≡ points
 unfolding corners_round
-places_round counterclockwise points = by (goes_round counterclockwise points)
+places_round way points = by (goes_round way points)
   where
     by : (t : Bool) → places (cond t (corners_along (edges_of points))
         (map turned_corner (corners_along (edges_of points))))
