@@ -7,11 +7,11 @@ use Rattle.report_spec.specs.declared.replies.Reason.{Reason}
 use Rattle.report_spec.specs.PlanFile.{PlanFound, plan_in_file}
 use Rattle.report_spec.specs.Records.{records_bytes}
 use Rattle.report_spec.specs.Replies.{plan_after, replies}
-use Rattle.report_spec.specs.Tables.{edges_table}
+use Rattle.report_spec.specs.Tables.{edges_table_of}
 
 -- the replies to the lines of the script, and then the edges of the plan that they leave
 unfoldable pub edges_output_of : Plan → List (List ℕ) → List ℕ
-edges_output_of plan lines = records_bytes Text (replies plan 1 lines ++ edges_table (plan_after plan 1 lines))
+edges_output_of plan lines = records_bytes Text (replies plan 1 lines ++ edges_table_of (plan_after plan 1 lines))
 
 -- ---- the bytes of a plan file
 

@@ -3,7 +3,8 @@
 ghost use Rattle.std.specs.Prelude.{◌≡◌, ◌≢◌, ◌^◌, pos, ◌*ℤ◌, int_le};
 ghost use Rattle.plane_spec.specs.Vectors.{InRange, IsWithin};
 ghost use Rattle.plane_spec.specs.Fractions.{is_at_least, is_at_most};
-ghost use Rattle.plane_spec.specs.Boxes.{fractions_overlap, does_extent_meet_box};
+ghost use Rattle.plane_spec.specs.Boxes.{does_extent_meet_box};
+ghost use Rattle.plane_spec.specs.Places.{fractions_overlap};
 ghost use Rattle.exact_geom.specs.Parts.{HasPartsWithin, HasCoordinatesWithin};
 
 use crate::boxes::line_reaches_box;

@@ -4,7 +4,8 @@ use Rattle.std.specs.Int.{int_max, int_min}
 use Rattle.plane_spec.specs.declared.Point.{Point}
 use Rattle.plane_spec.specs.declared.PlanBox.{PlanBox}
 use Rattle.plane_spec.specs.Vectors.{point, lies_left}
-use Rattle.plane_spec.specs.Fractions.{Fraction, Place, is_at_least, is_at_most}
+use Rattle.plane_spec.specs.Fractions.{Place}
+use Rattle.plane_spec.specs.Places.{fractions_overlap}
 
 -- the least box that has a box and a point in it
 abbrev pub with_point : PlanBox → Point → PlanBox
@@ -39,10 +40,6 @@ do_overlap m n low high = (int_le low m || int_le low n) && (int_le m high || in
 unfoldable pub does_meet_box : Point → Point → PlanBox → Bool
 does_meet_box p q area =
     (do_overlap p.x q.x area.low.x area.high.x && do_overlap p.y q.y area.low.y area.high.y) && reaches_line p q area
-
--- the same of a stretch between fractions
-abbrev pub fractions_overlap : Fraction → Fraction → ℤ → ℤ → Bool
-fractions_overlap m n low high = (is_at_least m low || is_at_least n low) && (is_at_most m high || is_at_most n high)
 
 -- the part between two points of the line through a and b meets the box
 unfoldable pub does_extent_meet_box : Point → Point → Place → Place → PlanBox → Bool

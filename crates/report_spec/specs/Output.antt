@@ -2,13 +2,14 @@
 use Rattle.std.specs.Prelude.{ℕ, nat_le, Bool, false, ◌&&◌, ◌||◌, List, [], ◌∷◌, ◌++◌, codes, bytes_eq, Option, Some, None, if◌then◌else◌}
 use Rattle.text_spec.specs.Numbers.{natural_of}
 use Rattle.plan_spec.specs.Plan.{Plan}
+use Rattle.plan_spec.specs.Scene.{scene_of}
 use Rattle.report_spec.specs.declared.replies.Form.{Form}
 use Rattle.report_spec.specs.declared.replies.Form.TheVariants.{Text, Csv}
 use Rattle.report_spec.specs.declared.replies.Reason.TheVariants.{Lines as LinesReason}
 use Rattle.report_spec.specs.Records.{records_bytes}
-use Rattle.report_spec.specs.Tables.{edges_table, points_table, isovists_table, axial_table, lines_table, segments_table, plan_table}
+use Rattle.report_spec.specs.Tables.{edges_table_of, points_table_of, isovists_table_of, axial_table_of, lines_table_of, segments_table_of, plan_table_of}
 use Rattle.report_spec.specs.Replies.{has_too_many_lines, refused_record, replies, plan_after, has_refusal}
-use Rattle.report_spec.specs.Trial.{trial_plan, trial_record}
+use Rattle.report_spec.specs.Trial.{trial_plan, trial_record_of}
 
 -- ---- options
 
@@ -95,16 +96,18 @@ options_of given = options_by (job_of given.mode given.file given.number) (worke
 
 -- the tables of the mode, or the refusal of too many axial lines
 unfoldable pub mode_records : Mode → Plan → List (List (List ℕ))
-mode_records Vga plan = edges_table plan ++ points_table plan
-mode_records Isovists plan = isovists_table plan
-mode_records AxialMap plan = if has_too_many_lines plan then refused_record 0 LinesReason ∷ [] else (axial_table plan ++ lines_table plan)
-mode_records Segments plan = segments_table plan
-mode_records Check plan = plan_table plan
+mode_records Vga plan = edges_table_of plan ++ points_table_of plan
+mode_records Isovists plan = isovists_table_of plan
+mode_records AxialMap plan =
+    if has_too_many_lines (scene_of plan) then refused_record 0 LinesReason ∷ []
+    else (axial_table_of plan ++ lines_table_of plan)
+mode_records Segments plan = segments_table_of plan
+mode_records Check plan = plan_table_of plan
 
 abbrev pub mode_is_refused : Mode → Plan → Bool
 mode_is_refused Vga plan = false
 mode_is_refused Isovists plan = false
-mode_is_refused AxialMap plan = has_too_many_lines plan
+mode_is_refused AxialMap plan = has_too_many_lines (scene_of plan)
 mode_is_refused Segments plan = false
 mode_is_refused Check plan = false
 
@@ -118,4 +121,4 @@ output_is_refused mode plan lines = has_refusal plan 1 lines || mode_is_refused 
 
 -- the output of a trial: one record
 unfoldable pub trial_output : Form → ℕ → List ℕ
-trial_output form n = records_bytes form (trial_record n (trial_plan n) ∷ [])
+trial_output form n = records_bytes form (trial_record_of n (trial_plan n) ∷ [])
