@@ -11,7 +11,8 @@
 //! |---|---|---|
 //! | [`depth_is_least`] | the computed depth of a node is the least number of edges of a walk to it, or none where there is no walk | `Graphs` |
 //! | [`depth_is_unique`] | a node has one depth | `Graphs` |
-//! | [`depths_are_bounded`] | a depth is less than the number of nodes, and a total at most the square of one less | `Graphs` |
+//! | [`measures_are_bounded`] | depths, connectivity and reach are at most the number of nodes, and a total the square of one less | `Graphs` |
+//! | [`measures_stand_at_their_nodes`] | the list of measures has those of each node, at its number | `Graphs` |
 //! | [`same_graphs_measure_the_same`] | graphs that are the same below their count have the same depths, measures and edges | `Graphs` |
 //! | [`same_simple_graphs_are_equal`] | where graphs join nodes alone, that makes them equal | `Graphs` |
 //! | [`grid_points_are_numbered_by_rows`] | number `row * cols + col` is the point in that row and column, and each point has its number alone | `Grid` |
@@ -29,7 +30,7 @@ ghost use Rattle.std.specs.List.{Contains, enumerate_from};
 ghost use Rattle.plane_spec.specs.declared.Point.{Point};
 ghost use Rattle.plan_spec.specs.declared.kinds.GridSpec.{GridSpec};
 ghost use Rattle.plan_spec.specs.Plan.{Plan};
-ghost use Rattle.plan_spec.specs.Graphs.{Graph, IsDepth, IsSameGraph, IsSimpleGraph, depth_of, depths_of, edges_of, measures_of, measures_of_nodes};
+ghost use Rattle.plan_spec.specs.Graphs.{Graph, IsDepth, IsSameGraph, IsSimpleGraph, depth_of, depths_of, edges_of, measures_of, measures_of_nodes, no_measures};
 ghost use Rattle.plan_spec.specs.Grid.{grid_points, number_of_point, point_at, point_of_number, visibility_edges, visibility_graph};
 ghost use Rattle.plan_spec.specs.Axial.{AxialLine, crossing_graph};
 ghost use Rattle.plan_spec.specs.Routes.{IsTurnDepth, Piece, turn_depths_of};
@@ -51,11 +52,22 @@ pub fn depth_is_unique()
     ensures { (graph : Graph) (i j : ℕ) (a b : Option ℕ) → IsDepth graph i j a → IsDepth graph i j b → a ≡ b }
 {}
 
-/// A depth is less than the number of nodes. Each of the other nodes adds a depth to a total, so this is at most the
-/// square of one less than the number of nodes.
-pub fn depths_are_bounded()
+/// A depth is less than the number of nodes. A node has at most as many neighbours as there are nodes, and reaches at
+/// most as many. Each of the other nodes adds a depth to a total, so this is at most the square of one less than the
+/// number of nodes.
+pub fn measures_are_bounded()
     ensures depth { (graph : Graph) (i j depth : ℕ) → depth_of graph i j ≡ Some depth → depth < graph.count }
+    ensures connectivity { (graph : Graph) (i : ℕ) → (measures_of graph i).connectivity ≤ graph.count }
+    ensures reached { (graph : Graph) (i : ℕ) → (measures_of graph i).reached ≤ graph.count }
     ensures total { (graph : Graph) (i : ℕ) → (measures_of graph i).total ≤ (graph.count - 1) * (graph.count - 1) }
+{}
+
+/// The list of measures has those of each node, at its number. So a row of a table that reads them there has the
+/// measures of its own node.
+pub fn measures_stand_at_their_nodes()
+    ensures one_each { (graph : Graph) → length (measures_of_nodes graph) ≡ graph.count }
+    ensures listed { (graph : Graph) (i : ℕ) → i < graph.count
+        → get_or (measures_of_nodes graph) i no_measures ≡ measures_of graph i }
 {}
 
 /// Graphs with as many nodes, of which the same are joined, have the same depths, measures and edges, whatever they
