@@ -6,7 +6,7 @@ use Rattle.report_spec.specs.declared.replies.Form.TheVariants.{Text}
 use Rattle.report_spec.specs.declared.replies.Reason.{Reason}
 use Rattle.report_spec.specs.PlanFile.{PlanFound, plan_in_file}
 use Rattle.report_spec.specs.Records.{records_bytes}
-use Rattle.report_spec.specs.Tables.{edges_table}
+use Rattle.report_spec.specs.Tables.{edges_table_of}
 use Rattle.depthmap_app.specs.declared.plan_file.TheConstants.{MOST_PLAN_BYTES}
 
 -- ---- the bytes of a plan file
@@ -25,7 +25,7 @@ pub record IsRefused (bytes : List ℕ) (line : ℕ) (reason : Reason) : Type 0 
 
 -- the output for a plan: the table of its edges, as it is printed
 unfoldable pub output_of : Plan → List ℕ
-output_of plan = records_bytes Text (edges_table plan)
+output_of plan = records_bytes Text (edges_table_of plan)
 
 -- the bytes hold a plan, and its whole output was written
 abbrev pub IsAnswered : List ℕ → Option (List ℕ) → Option (List ℕ) → Type 0

@@ -3,8 +3,9 @@
 ghost use Rattle.std.specs.Prelude.{◌≡◌, ◌≢◌, pos};
 ghost use Rattle.plane_spec.specs.Vectors.{InRange, IsWithin};
 ghost use Rattle.plane_spec.specs.Fractions.{is_at_least, is_at_most};
-ghost use Rattle.plane_spec.specs.Boxes as boxes;
-ghost use Rattle.plane_spec.specs.Boxes.{fractions_overlap, does_extent_meet_box, is_on_extent};
+ghost use Rattle.plane_spec.specs.Boxes.{does_extent_meet_box, is_on_extent};
+ghost use Rattle.plane_spec.specs.Places.{fractions_overlap, is_between_fractions};
+ghost use Rattle.plane_spec.specs.Fractions.{whole};
 ghost use Rattle.plane_spec.specs.declared.TheConstants.{MAX_COORDINATE};
 ghost use Rattle.exact_geom.specs.Parts.{HasCoordinateParts, HasPlaceParts};
 ghost use Rattle.exact_geom.specs.declared.limits.TheConstants.{MAX_STOP_PART};
@@ -69,7 +70,7 @@ fn lies_between(z: i64, f: &Frac, g: &Frac) -> bool
     requires z_in { IsWithin MAX_COORDINATE z }
     requires f_in { HasCoordinateParts f.now }
     requires g_in { HasCoordinateParts g.now }
-    ensures { result ≡ boxes.lies_between z f.now g.now }
+    ensures { result ≡ is_between_fractions (whole z) f.now g.now }
 {
     (ends_by(f, z) && begins_by(g, z)) || (ends_by(g, z) && begins_by(f, z))
 }

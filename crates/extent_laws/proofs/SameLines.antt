@@ -18,7 +18,7 @@ use Rattle.plan_spec.specs.Stops.{stop_of}
 use Rattle.plan_spec.specs.Edits.{changed}
 use Rattle.plan_spec.specs.Axial.{AxialLine, end_beyond, line_through, same_ends}
 use Rattle.plan_spec.specs.Dirty.{corner_point, meets_if_there, extent_meets_if_there, is_dirty_pair, is_dirty_line}
-use Rattle.plan_spec.specs.Dirty.{is_on_extent}
+use Rattle.plan_spec.specs.Dirty.{is_on_axial_line}
 use Rattle.box_laws.proofs.Blocking.{or_cases}
 use Rattle.extent_laws.specs.Corners.{Pair, IsPairOfCorners}
 use Rattle.spot_laws.proofs.Spans.{extent_of_meeting}
@@ -166,7 +166,7 @@ module _ (scene : Scene) where
 
   -- a point lies on its extent between places as on the one between spots
   pub extent_as_on : (x : Point) (l : AxialLine) (e : Pair) → IsLineOf l e → same_point e.0.1 e.1.1 ≡ false
-      → is_on_extent scene x l ≡ on_line e.0.1 e.1.1 x
+      → is_on_axial_line scene x l ≡ on_line e.0.1 e.1.1 x
   unfolding on_line
   extent_as_on x l e i differ =
       rw (i.first, i.second, i.from, i.to)
@@ -221,18 +221,18 @@ module _ (scene : Scene) where
   -- and the same points lie on them
   pub on_extents_alike : (x : Point) (e f : Pair) → IsPairOfCorners scene e → IsPairOfCorners scene f
       → same_ends (line_through scene e) (line_through scene f) ≡ true
-      → is_on_extent scene x (line_through scene f) ≡ is_on_extent scene x (line_through scene e)
+      → is_on_axial_line scene x (line_through scene f) ≡ is_on_axial_line scene x (line_through scene e)
   on_extents_alike x e f c d h =
       extent_as_on x (line_through scene f) f (line_of_corners f d) d.differ
       ∙ on_alike e f c.differ d.differ x h
       ∙ sym (extent_as_on x (line_through scene e) e (line_of_corners e c) c.differ)
 
   -- the first corner lies on its line
-  pub first_on_extent : (e : Pair) → IsPairOfCorners scene e → is_on_extent scene e.0.1 (line_through scene e) ≡ true
+  pub first_on_extent : (e : Pair) → IsPairOfCorners scene e → is_on_axial_line scene e.0.1 (line_through scene e) ≡ true
   first_on_extent e c =
       extent_as_on e.0.1 (line_through scene e) e (line_of_corners e c) c.differ ∙ first_on_line e.0.1 e.1.1 c.differ
 
   -- and the second
-  pub second_on_extent : (e : Pair) → IsPairOfCorners scene e → is_on_extent scene e.1.1 (line_through scene e) ≡ true
+  pub second_on_extent : (e : Pair) → IsPairOfCorners scene e → is_on_axial_line scene e.1.1 (line_through scene e) ≡ true
   second_on_extent e c =
       extent_as_on e.1.1 (line_through scene e) e (line_of_corners e c) c.differ ∙ second_on_line e.0.1 e.1.1 c.differ

@@ -25,7 +25,7 @@ ghost use Rattle.std.specs.Prelude.{◌≡◌, true};
 ghost use Rattle.plane_spec.specs.declared.Point.{Point};
 ghost use Rattle.plan_spec.specs.declared.changes.Changed.{Changed};
 ghost use Rattle.plan_spec.specs.Axial.{line_through, same_ends};
-ghost use Rattle.plan_spec.specs.Dirty.{is_dirty_line, is_dirty_pair, is_on_extent};
+ghost use Rattle.plan_spec.specs.Dirty.{is_dirty_line, is_dirty_pair, is_on_axial_line};
 ghost use Rattle.plan_spec.specs.Scene.{Scene};
 ghost use Rattle.extent_laws.specs.Corners.{IsPairOfCorners, Pair};
 
@@ -47,13 +47,13 @@ pub fn lines_with_the_same_ends_are_dirty_alike()
 pub fn lines_with_the_same_ends_have_the_same_points()
     ensures { (scene : Scene) (x : Point) (e f : Pair) → IsPairOfCorners scene e → IsPairOfCorners scene f
         → same_ends (line_through scene e) (line_through scene f) ≡ true
-        → is_on_extent scene x (line_through scene f) ≡ is_on_extent scene x (line_through scene e) }
+        → is_on_axial_line scene x (line_through scene f) ≡ is_on_axial_line scene x (line_through scene e) }
 {}
 
 /// Both corners of a pair lie on the extent of its line.
 pub fn both_corners_lie_on_their_line()
     ensures first { (scene : Scene) (e : Pair) → IsPairOfCorners scene e
-        → is_on_extent scene e.0.1 (line_through scene e) ≡ true }
+        → is_on_axial_line scene e.0.1 (line_through scene e) ≡ true }
     ensures second { (scene : Scene) (e : Pair) → IsPairOfCorners scene e
-        → is_on_extent scene e.1.1 (line_through scene e) ≡ true }
+        → is_on_axial_line scene e.1.1 (line_through scene e) ≡ true }
 {}

@@ -1,13 +1,14 @@
--- Bounds of depths and totals in a graph of so many nodes.
-use Rattle.std.specs.Prelude.{◌≡◌, ℕ, zero, suc, ◌+◌, ◌-◌, ◌*◌, ◌<◌, ◌≤◌, Option, Some, None, unwrap_or}
+-- Bounds of depths and measures in a graph of so many nodes, and where they are listed.
+use Rattle.std.specs.Prelude.{◌≡◌, ℕ, zero, suc, ◌+◌, ◌-◌, ◌*◌, ◌<◌, ◌≤◌, Option, Some, None, unwrap_or, length, get_or, is_some}
 use Rattle.std.specs.List.{range_with_len, sum_by}
 use Rattle.std.proofs.Common.{refl, ap, ◌∙◌, inl, inr, arith, subst}
 use Rattle.std.proofs.lemmas.Bool.{cases_eq, cases_lt}
 use Rattle.std.proofs.lemmas.List.Folds.{fold-map}
-use Rattle.std.proofs.lemmas.List.Sums.{sum_by-cons}
-use Rattle.plan_spec.specs.Graphs.{Graph, IsDepth, nodes, depth_of, measures_of}
+use Rattle.std.proofs.lemmas.List.Sums.{count_by-le-length, sum_by-cons}
+use Rattle.std.proofs.lemmas.List.FromFn.{get_or-map-range_with_len, length-map-range_with_len, length-range_with_len}
+use Rattle.plan_spec.specs.Graphs.{Graph, IsDepth, nodes, depth_of, depths_of, measures_of, measures_of_nodes, no_measures}
 use Rattle.graph_laws.proofs.Walks.{begin_is_node, shorter_walk}
-use Rattle.graph_laws.proofs.Depths.{least_depth, same_depth}
+use Rattle.graph_laws.proofs.Depths.{least_depth, one_depth_each, same_depth}
 
 -- ---- depths
 
@@ -88,3 +89,25 @@ total_at_most graph i = elim (cases_lt i graph.count) [
       let sum = sum_at_most (λ j. added (depth_of graph i j)) 0 0 graph.count (λ j. none_added graph i j past) in
       omega (arith, total_is graph i, sum)
 ]
+
+-- ---- counts
+
+pub connectivity_at_most : (graph : Graph) (i : ℕ) → (measures_of graph i).connectivity ≤ graph.count
+unfolding measures_of
+connectivity_at_most graph i =
+    omega (arith, count_by-le-length (graph.joins i) (nodes graph), length-range_with_len 0 graph.count)
+
+pub reached_at_most : (graph : Graph) (i : ℕ) → (measures_of graph i).reached ≤ graph.count
+unfolding measures_of
+reached_at_most graph i = omega (arith, count_by-le-length is_some (depths_of graph i), one_depth_each graph i)
+
+-- ---- lists
+
+pub one_measure_each : (graph : Graph) → length (measures_of_nodes graph) ≡ graph.count
+one_measure_each graph = length-map-range_with_len (measures_of graph) 0 graph.count
+
+-- the measures of a node stand at its number
+pub measures_are_listed : (graph : Graph) (i : ℕ) → i < graph.count
+    → get_or (measures_of_nodes graph) i no_measures ≡ measures_of graph i
+measures_are_listed graph i node =
+    get_or-map-range_with_len (measures_of graph) 0 graph.count i i no_measures node (omega arith)

@@ -11,3 +11,4 @@ pub mod SimpleGraphs
 pub mod Visibility
 pub mod SameGraphs
 pub mod Bounds
+pub mod GridPoints

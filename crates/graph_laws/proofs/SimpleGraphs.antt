@@ -9,9 +9,10 @@ use Rattle.plan_spec.specs.Scene.{Scene, scene_of}
 use Rattle.plan_spec.specs.Sight.{is_open}
 use Rattle.plan_spec.specs.Graphs.{IsSimpleGraph, graph_where}
 use Rattle.plan_spec.specs.Grid.{grid_points, point_of_number, are_visible, visibility_graph}
-use Rattle.plan_spec.specs.Axial.{AxialLine, orient_of_places, places_cross, is_place_on, do_places_touch, do_meet, line_of_number, crossing_graph}
+use Rattle.plan_spec.specs.Axial.{AxialLine, do_meet, line_of_number, crossing_graph}
 use Rattle.plane_spec.specs.Segments.{are_opposite}
 use Rattle.plane_spec.specs.Fractions.{Place}
+use Rattle.plane_spec.specs.Places.{orient_of_places, is_place_on, places_cross, do_places_touch}
 use Rattle.plan_laws.proofs.MutualSight.{sight_turned}
 
 -- both numbers are below the count and differ

@@ -1,26 +1,22 @@
 -- The turn depth that is computed is the least cost of a walk to the piece, and there is no other.
-use Rattle.std.specs.Prelude.{◌≡◌, ℕ, ◌*◌, ◌<◌, ◌≤◌, ◌==◌, Bool, if◌then◌else◌, List, map, length, get_or, Option, Some, None}
+use Rattle.std.specs.Prelude.{◌≡◌, ℕ, ◌*◌, ◌<◌, ◌≤◌, ◌==◌, Bool, List, map, length, get_or, Option, Some, None}
 use Rattle.std.specs.List.{Contains, enumerate_from}
 use Rattle.std.proofs.Common.{refl, sym, ap, ◌∙◌, arith, subst}
 use Rattle.std.proofs.lemmas.Bool.{cond-true, eqb-true, eq-eqb}
 use Rattle.std.proofs.lemmas.List.{get_or-map, length-map}
 use Rattle.std.proofs.lemmas.List.FromFn.{length-enumerate_from}
-use Rattle.plan_spec.specs.Routes.{Piece, Step, TurnWalk, IsTurnDepth, least_of, costs_within, turn_depths_of}
+use Rattle.plan_spec.specs.Routes.{Piece, DirectedPiece, TurnWalk, IsTurnDepth, least_of, costs_within, cost_on, turn_depths_of}
 use Rattle.graph_laws.proofs.Members.{contains_mapped, mapped_from, number_is_place, same_numbered}
 use Rattle.graph_laws.proofs.Least.{IsAtMost, least_at_most, least_is_one, none_unless}
 use Rattle.graph_laws.proofs.Steps.{piece_of_step, shorter_walk}
 use Rattle.graph_laws.proofs.Rounds.{HasCost, cost_at_most, cost_is_of_step, cost_is_of_walk}
 
--- the costs of all steps after the last round
-abbrev last_costs : List Piece → ℕ → List (Step × Option ℕ)
+-- the costs of all directed pieces after the last round
+abbrev last_costs : List Piece → ℕ → List (DirectedPiece × Option ℕ)
 last_costs pieces source = costs_within pieces source (2 * length pieces)
 
--- the cost of a step, where it is on the piece
-abbrev cost_at : ℕ × Piece → Step × Option ℕ → Option ℕ
-cost_at e t = if t.0.0.0 == e.0 then t.1 else None
-
-abbrev least_at : List (Step × Option ℕ) → ℕ × Piece → Option ℕ
-least_at known e = least_of (map (cost_at e) known)
+abbrev least_at : List (DirectedPiece × Option ℕ) → ℕ × Piece → Option ℕ
+least_at known e = least_of (map (cost_on e) known)
 
 depths_are : (pieces : List Piece) (source : ℕ) → turn_depths_of pieces source ≡ map (least_at (last_costs pieces source)) (enumerate_from 0 pieces)
 unfolding turn_depths_of
@@ -44,10 +40,10 @@ module _ (pieces : List Piece) (source : ℕ) (e : ℕ × Piece) (numbered : Con
   depth_at_most more cost forward walk =
       let short = shorter_walk pieces source more (e, forward) cost walk in
       let best = cost_at_most pieces source (2 * length pieces) short.0 (e, forward) short.1 (omega (arith, short.2)) short.4 in
-      let here : cost_at e ((e, forward), best.0) ≡ best.0 = cond-true (e.0 == e.0) best.0 None (eq-eqb e.0 e.0 refl) in
-      let met = contains_mapped (cost_at e) (last_costs pieces source) ((e, forward), best.0) best.1 in
-      least_at_most (map (cost_at e) (last_costs pieces source)) best.0 cost
-      (subst (Contains (map (cost_at e) (last_costs pieces source))) here met)
+      let here : cost_on e ((e, forward), best.0) ≡ best.0 = cond-true (e.0 == e.0) best.0 None (eq-eqb e.0 e.0 refl) in
+      let met = contains_mapped (cost_on e) (last_costs pieces source) ((e, forward), best.0) best.1 in
+      least_at_most (map (cost_on e) (last_costs pieces source)) best.0 cost
+      (subst (Contains (map (cost_on e) (last_costs pieces source))) here met)
       (lower best.0 short.1 cost best.2 short.3)
     where
       lower : (best : Option ℕ) (less cost : ℕ) → IsAtMost best less → less ≤ cost → IsAtMost best cost
@@ -59,7 +55,7 @@ module _ (pieces : List Piece) (source : ℕ) (e : ℕ × Piece) (numbered : Con
       → (more : ℕ) × (forward : Bool) × TurnWalk pieces source more (e, forward) depth
   depth_is_of_walk depth is =
       let known = last_costs pieces source in
-      let found = mapped_from (cost_at e) known (Some depth) (least_is_one (map (cost_at e) known) depth is) in
+      let found = mapped_from (cost_on e) known (Some depth) (least_is_one (map (cost_on e) known) depth is) in
       let t = found.0.0 in
       let here = none_unless (t.0.0 == e.0) found.0.1 depth found.2 in
       let piece = piece_of_step pieces t (cost_is_of_step pieces source (2 * length pieces) t found.0.1 found.1) in

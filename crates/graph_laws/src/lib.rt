@@ -11,23 +11,27 @@
 //! |---|---|---|
 //! | [`depth_is_least`] | the computed depth of a node is the least number of edges of a walk to it, or none where there is no walk | `Graphs` |
 //! | [`depth_is_unique`] | a node has one depth | `Graphs` |
-//! | [`depths_are_bounded`] | a depth is less than the number of nodes, and a total at most the square of one less | `Graphs` |
+//! | [`measures_are_bounded`] | depths, connectivity and reach are at most the number of nodes, and a total the square of one less | `Graphs` |
+//! | [`measures_stand_at_their_nodes`] | the list of measures has those of each node, at its number | `Graphs` |
 //! | [`same_graphs_measure_the_same`] | graphs that are the same below their count have the same depths, measures and edges | `Graphs` |
 //! | [`same_simple_graphs_are_equal`] | where graphs join nodes alone, that makes them equal | `Graphs` |
+//! | [`grid_points_are_numbered_by_rows`] | number `row * cols + col` is the point in that row and column, and each point has its number alone | `Grid` |
 //! | [`the_visibility_graph_is_simple`] | what sees is seen, and the graph's edges are the listed pairs that see each other | `Grid`, `Sight` |
 //! | [`the_crossing_graph_is_simple`] | what meets is met | `Axial` |
 //! | [`turn_depth_is_least`] | the computed turn depth of a piece is the least cost of a walk to it, or none where there is no walk | `Routes` |
 //! | [`turn_depth_is_unique`] | a piece has one turn depth | `Routes` |
 //!
-//! Proofs of code cite the laws by the lemmas in `proofs/`: `Depths`, `Bounds`, `SameGraphs`, `SimpleGraphs`,
-//! `Visibility` and `Turns`.
+//! Proofs of code cite the laws by the lemmas in `proofs/`: `Depths`, `Bounds`, `SameGraphs`, `GridPoints`,
+//! `SimpleGraphs`, `Visibility` and `Turns`.
 #![tactic(auto)]
 
-ghost use Rattle.std.specs.Prelude.{◌≡◌, ◌<◌, ◌≤◌, ◌-◌, ◌*◌, ℕ, List, Option, None, Some, length, get_or};
+ghost use Rattle.std.specs.Prelude.{◌≡◌, ◌<◌, ◌≤◌, ◌+◌, ◌-◌, ◌*◌, ◌≤ℤ◌, pos, unsigned_abs, ℕ, List, Option, None, Some, length, get_or};
 ghost use Rattle.std.specs.List.{Contains, enumerate_from};
+ghost use Rattle.plane_spec.specs.declared.Point.{Point};
+ghost use Rattle.plan_spec.specs.declared.kinds.GridSpec.{GridSpec};
 ghost use Rattle.plan_spec.specs.Plan.{Plan};
-ghost use Rattle.plan_spec.specs.Graphs.{Graph, IsDepth, IsSameGraph, IsSimpleGraph, depth_of, depths_of, edges_of, measures_of, measures_of_nodes};
-ghost use Rattle.plan_spec.specs.Grid.{visibility_edges, visibility_graph};
+ghost use Rattle.plan_spec.specs.Graphs.{Graph, IsDepth, IsSameGraph, IsSimpleGraph, depth_of, depths_of, edges_of, measures_of, measures_of_nodes, no_measures};
+ghost use Rattle.plan_spec.specs.Grid.{grid_points, number_of_point, point_at, point_of_number, visibility_edges, visibility_graph};
 ghost use Rattle.plan_spec.specs.Axial.{AxialLine, crossing_graph};
 ghost use Rattle.plan_spec.specs.Routes.{IsTurnDepth, Piece, turn_depths_of};
 
@@ -48,15 +52,26 @@ pub fn depth_is_unique()
     ensures { (graph : Graph) (i j : ℕ) (a b : Option ℕ) → IsDepth graph i j a → IsDepth graph i j b → a ≡ b }
 {}
 
-/// A depth is less than the number of nodes. Each of the other nodes adds a depth to a total, so this is at most the
-/// square of one less than the number of nodes.
-pub fn depths_are_bounded()
+/// A depth is less than the number of nodes. A node has at most as many neighbours as there are nodes, and reaches at
+/// most as many. Each of the other nodes adds a depth to a total, so this is at most the square of one less than the
+/// number of nodes.
+pub fn measures_are_bounded()
     ensures depth { (graph : Graph) (i j depth : ℕ) → depth_of graph i j ≡ Some depth → depth < graph.count }
+    ensures connectivity { (graph : Graph) (i : ℕ) → (measures_of graph i).connectivity ≤ graph.count }
+    ensures reached { (graph : Graph) (i : ℕ) → (measures_of graph i).reached ≤ graph.count }
     ensures total { (graph : Graph) (i : ℕ) → (measures_of graph i).total ≤ (graph.count - 1) * (graph.count - 1) }
 {}
 
-/// Graphs with as many nodes, of which the same are joined, have the same depths, measures and edges, whatever they say
-/// of numbers that are no nodes.
+/// The list of measures has those of each node, at its number. So a row of a table that reads them there has the
+/// measures of its own node.
+pub fn measures_stand_at_their_nodes()
+    ensures one_each { (graph : Graph) → length (measures_of_nodes graph) ≡ graph.count }
+    ensures listed { (graph : Graph) (i : ℕ) → i < graph.count
+        → get_or (measures_of_nodes graph) i no_measures ≡ measures_of graph i }
+{}
+
+/// Graphs with as many nodes, of which the same are joined, have the same depths, measures and edges, whatever they
+/// say of numbers that are no nodes.
 pub fn same_graphs_measure_the_same()
     ensures depth { (g h : Graph) → IsSameGraph g h → (i j : ℕ) → depth_of g i j ≡ depth_of h i j }
     ensures depths { (g h : Graph) → IsSameGraph g h → (i : ℕ) → depths_of g i ≡ depths_of h i }
@@ -71,8 +86,22 @@ pub fn same_simple_graphs_are_equal()
     ensures joins { (g h : Graph) → g.count ≡ h.count → ((i j : ℕ) → g.joins i j ≡ h.joins i j) → g ≡ h }
 {}
 
-/// The visibility graph of any plan has no direction and no loops and joins numbers of grid points alone. Its edges are
-/// the pairs of open points that see each other, in the order in which the table of edges has them.
+/// The points of a grid are numbered row by row. So the point in a row and a column has the number of those before it:
+/// the columns of each row below, and the earlier ones of its own. Where columns and rows are at least a unit apart,
+/// as in a sound plan, no two numbers have one point: a point's number is the one that is found for it.
+pub fn grid_points_are_numbered_by_rows()
+    ensures point { (g : GridSpec) (row col : ℕ) → row < unsigned_abs g.rows → col < unsigned_abs g.cols
+        → point_of_number (Some g) (row * unsigned_abs g.cols + col) ≡ point_at g row col }
+    ensures below { (g : GridSpec) (row col : ℕ) → row < unsigned_abs g.rows → col < unsigned_abs g.cols
+        → row * unsigned_abs g.cols + col < length (grid_points (Some g)) }
+    ensures number { (g : GridSpec) → pos 1 ≤ℤ g.step → (k : ℕ) → k < length (grid_points (Some g))
+        → number_of_point (Some g) (point_of_number (Some g) k) ≡ Some k }
+    ensures found { (g : GridSpec) (x : Point) (k : ℕ) → number_of_point (Some g) x ≡ Some k
+        → (k < length (grid_points (Some g))) × (point_of_number (Some g) k ≡ x) }
+{}
+
+/// The visibility graph of any plan has no direction and no loops and joins numbers of grid points alone. Its edges
+/// are the pairs of open points that see each other, in the order in which the table of edges has them.
 pub fn the_visibility_graph_is_simple()
     ensures simple { (plan : Plan) → IsSimpleGraph (visibility_graph plan) }
     ensures edges { (plan : Plan) → edges_of (visibility_graph plan) ≡ visibility_edges plan }
@@ -98,5 +127,6 @@ pub fn turn_depth_is_least()
 /// Two turn depths of one piece from one source are the same. So whoever finds a cheapest walk has found the turn
 /// depth that is computed.
 pub fn turn_depth_is_unique()
-    ensures { (pieces : List Piece) (source : ℕ) (e : ℕ × Piece) (a b : Option ℕ) → IsTurnDepth pieces source e a → IsTurnDepth pieces source e b → a ≡ b }
+    ensures { (pieces : List Piece) (source : ℕ) (e : ℕ × Piece) (a b : Option ℕ)
+        → IsTurnDepth pieces source e a → IsTurnDepth pieces source e b → a ≡ b }
 {}

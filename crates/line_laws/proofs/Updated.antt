@@ -40,7 +40,7 @@ use Rattle.plan_spec.specs.Sight.{is_blocked, are_in_sight}
 use Rattle.plan_spec.specs.Stops.{stop_of}
 use Rattle.plan_spec.specs.Axial.{AxialLine, here_of, line_through, is_seen_pair, same_ends}
 use Rattle.plan_spec.specs.Axial.{axial_lines}
-use Rattle.plan_spec.specs.Dirty.{corner_point, is_dirty_pair, is_dirty_line, is_on_extent, stood}
+use Rattle.plan_spec.specs.Dirty.{corner_point, is_dirty_pair, is_dirty_line, is_on_axial_line, stood}
 use Rattle.plan_spec.specs.Dirty.{is_dirty_to_another, is_dirty_corner}
 use Rattle.list_laws.proofs.Tests.{list_any_map}
 use Rattle.list_laws.specs.Merged.{merged}
@@ -266,7 +266,7 @@ module _ (box : PlanBox) (old new : Scene) (less : IsWithout box old new) (front
   module _ (x : Point) where
     -- the line is dirty, and x lies on it
     abbrev is_dirty_through : AxialLine → Bool
-    is_dirty_through l = is_dirty_line boxes old l && is_on_extent old x l
+    is_dirty_through l = is_dirty_line boxes old l && is_on_axial_line old x l
 
     -- by the spots of its ends
     through_is : (e : Pair) → SeenOld e

@@ -5,11 +5,12 @@ use Rattle.plane_spec.specs.Segments.{is_on_segment, cross_properly}
 use Rattle.plane_spec.specs.Polygons.{edges_to, passes_right, is_inside, is_counterclockwise}
 use Rattle.plane_spec.specs.Cones.{is_in_cone}
 use Rattle.plane_spec.specs.Fractions.{Place, whole, common_divisor, reduced, along, at_point}
+use Rattle.plane_spec.specs.Places.{do_places_touch}
 use Rattle.plan_spec.specs.Scene.{walls_round, corners_round, scene_of}
 use Rattle.plan_spec.specs.Sight.{leaves_wall, corner_stops, is_blocked, are_in_sight, is_open}
 use Rattle.plan_spec.specs.Stops.{line_hit, corner_hit, start_hit, stop_of, near_wall_of}
 use Rattle.plan_spec.specs.Isovist.{corner_directions, wall_between, runs_of, triangle_of, isovist_in, isovist_of}
-use Rattle.plan_spec.specs.Axial.{AxialLine, axial_lines, do_places_touch, do_meet}
+use Rattle.plan_spec.specs.Axial.{AxialLine, axial_lines, do_meet}
 use Rattle.plan_spec.proofs.Figures.{at, room, room_with, middle}
 
 -- ---- isovists
@@ -19,10 +20,10 @@ the_middle_of_the_room_sees_four_walls :
     isovist_of room (at 5 5)
     ≡ Some (record {
       triangles =
-          record { from = at_point (at 10 10); to = at_point (at 0 10); area = whole (pos 50); wall = 2 }
-          ∷ record { from = at_point (at 0 10); to = at_point (at 0 0); area = whole (pos 50); wall = 3 }
-          ∷ record { from = at_point (at 0 0); to = at_point (at 10 0); area = whole (pos 50); wall = 0 }
-          ∷ record { from = at_point (at 10 0); to = at_point (at 10 10); area = whole (pos 50); wall = 1 }
+          record { from = at_point (at 10 10); to = at_point (at 0 10); doubled_area = whole (pos 50); wall = 2 }
+          ∷ record { from = at_point (at 0 10); to = at_point (at 0 0); doubled_area = whole (pos 50); wall = 3 }
+          ∷ record { from = at_point (at 0 0); to = at_point (at 10 0); doubled_area = whole (pos 50); wall = 0 }
+          ∷ record { from = at_point (at 10 0); to = at_point (at 10 10); doubled_area = whole (pos 50); wall = 1 }
           ∷ [];
       floor = pos 200;
       ceil = pos 200;

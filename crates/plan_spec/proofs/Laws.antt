@@ -1,5 +1,5 @@
 -- What the definitions mean, where it is short to show.
-use Rattle.std.proofs.Common.{◌≡◌, ℕ, ◌+◌, ◌<◌, Bool, true, false, not, ◌&&◌, nat_le, List, [], ◌∷◌, length, map, filter, refl, arith}
+use Rattle.std.proofs.Common.{◌≡◌, ℕ, ◌+◌, ◌<◌, Bool, true, false, not, ◌&&◌, nat_le, List, [], ◌∷◌, length, map, filter, refl, ap, arith}
 use Rattle.std.specs.List.{All, enumerate_from, list_all}
 use Rattle.std.proofs.lemmas.List.Elements.{All-append, All-map, All-filter, All-nil, All-cons}
 use Rattle.plane_spec.specs.declared.Point.{Point}
@@ -8,7 +8,8 @@ use Rattle.plane_spec.specs.Vectors.{is_in_range}
 use Rattle.plane_spec.specs.Polygons.{has_repeat, crosses_nowhere, is_simple}
 use Rattle.plan_spec.specs.Plan.{Plan}
 use Rattle.plan_spec.specs.Accepted.{is_polygon}
-use Rattle.plan_spec.specs.Scene.{scene_of}
+use Rattle.plan_spec.specs.Scene.{Scene, scene_of}
+use Rattle.plan_spec.specs.Isovist.{sum_of, ray_hit, wall_between, sector_in, sectors_by}
 use Rattle.plan_spec.specs.Grid.{grid_points, is_visible_pair, numbers_of_pair, visibility_edges}
 
 abbrev IsAbove : ℕ → ℕ × Point → Type 0
@@ -49,3 +50,11 @@ a_polygon_is_simple points = exchanged (nat_le 3 (length points)) (list_all is_i
     exchanged true false c = refl
     exchanged false true c = refl
     exchanged false false c = refl
+
+-- the sectors round a point are those made of what the rays in the directions of the gaps' sums meet, so one sweep in
+-- these directions serves them all
+pub sectors_by_hits : (scene : Scene) (p : Point) (gaps : List (Point × Point))
+    → sectors_by gaps (map (λ gap. ray_hit scene p (sum_of gap.0 gap.1)) gaps) ≡ map (sector_in scene p) gaps
+unfolding sectors_by wall_between
+sectors_by_hits scene p [] = refl
+sectors_by_hits scene p (gap ∷ gaps) = ap (λ sectors. sector_in scene p gap ∷ sectors) (sectors_by_hits scene p gaps)

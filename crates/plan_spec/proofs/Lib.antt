@@ -5,3 +5,4 @@ mod IsovistExamples
 mod GraphExamples
 mod RouteExamples
 pub mod Laws
+pub mod Runs

@@ -77,21 +77,29 @@ pub record Measures : Type 0 where
   pub mean : Option Fraction
   pub asymmetry : Option Fraction
 
+-- what stands for measures where there are none
+abbrev pub no_measures : Measures
+no_measures = record { connectivity = 0; reached = 0; total = 0; mean = None; asymmetry = None }
+
 -- the sum of the depths that there are
 abbrev pub total_depth : List (Option ℕ) → ℕ
 total_depth depths = sum_by (λ d. unwrap_or d 0) depths
 
 -- mean depth over the other nodes reached: total / (reached - 1), or none where no other is reached
 abbrev pub mean_depth : ℕ → ℕ → Option Fraction
-mean_depth reached total = if nat_le 2 reached then Some (reduced (record { num = pos total; den = pos (reached - 1) })) else None
+mean_depth reached total =
+    if nat_le 2 reached then Some (reduced (record { num = pos total; den = pos (reached - 1) })) else None
+
+-- 2 (mean - 1) / (reached - 2), where the mean is total / (reached - 1)
+abbrev pub asymmetry_by : ℕ → ℕ → Fraction
+asymmetry_by reached total =
+    record { num = pos 2 *ℤ (pos total -ℤ pos (reached - 1)); den = pos ((reached - 1) * (reached - 2)) }
 
 -- relative asymmetry 2 (mean - 1) / (reached - 2), or none where fewer than three nodes are reached
 abbrev pub relative_asymmetry : ℕ → ℕ → Option Fraction
-relative_asymmetry reached total =
-    if nat_le 3 reached
-    then Some (reduced (record { num = pos 2 *ℤ (pos total -ℤ pos (reached - 1)); den = pos ((reached - 1) * (reached - 2)) }))
-    else None
+relative_asymmetry reached total = if nat_le 3 reached then Some (reduced (asymmetry_by reached total)) else None
 
+-- the measures of a node by its connectivity and the depths of all nodes from it
 abbrev pub measures_by : ℕ → List (Option ℕ) → Measures
 measures_by connectivity depths =
     record {

@@ -3,13 +3,13 @@ use Rattle.std.specs.Prelude.{Contains, ◌≡◌, ℕ, zero, suc, ◌+◌, ◌*
 use Rattle.std.specs.Ordering.{int_eq}
 use Rattle.std.specs.List.{flat_map, filter_map, enumerate_from}
 use Rattle.plane_spec.specs.declared.Point.{Point}
-use Rattle.plane_spec.specs.Lists.{firsts}
+use Rattle.plane_spec.specs.Lists.{firsts, in_order}
 use Rattle.plane_spec.specs.Vectors.{point, vector, cross_of, dot_of}
 use Rattle.plane_spec.specs.Segments.{do_touch}
 use Rattle.plane_spec.specs.Fractions.{Fraction, Place, fraction, is_before, same_value, at_point, along, same_place}
 use Rattle.plan_spec.specs.declared.kinds.Route.{Route}
 use Rattle.plan_spec.specs.Plan.{Plan}
-use Rattle.plan_spec.specs.Isovist.{in_order}
+use Rattle.plan_spec.specs.Accepted.{is_sound}
 
 -- ---- pieces
 
@@ -20,22 +20,25 @@ pub record Piece : Type 0 where
   pub to : Place
   pub direction : Point
 
+-- from a route's first end to its second
 abbrev pub vector_of_route : Route → Point
 vector_of_route r = vector r.from r.to
 
 -- the t at which the point from + t (to - from) of the first route is on the line of the second
 abbrev pub crossing_at : Route → Route → Fraction
-crossing_at r q = fraction (cross_of (vector r.from q.from) (vector_of_route q)) (cross_of (vector_of_route r) (vector_of_route q))
+crossing_at r q =
+    fraction (cross_of (vector r.from q.from) (vector_of_route q)) (cross_of (vector_of_route r) (vector_of_route q))
 
--- strictly between 0 and 1
-abbrev pub is_strictly_inside : Fraction → Bool
-is_strictly_inside t = int_lt (pos 0) t.num && int_lt t.num t.den
+-- t is strictly between 0 and 1, so the point from + t (to - from) strictly between a segment's ends
+abbrev pub is_between_ends : Fraction → Bool
+is_between_ends t = int_lt (pos 0) t.num && int_lt t.num t.den
 
--- where the second route cuts the first: at a point that they share, not at the first one's ends; routes in line share an end at most
+-- where the second route cuts the first: at a point that they share, not at the first one's ends; routes in line share
+-- an end at most
 abbrev pub cut_of : Route → Route → Option Fraction
 cut_of r q =
     if not (int_eq (cross_of (vector_of_route r) (vector_of_route q)) (pos 0))
-    && (do_touch r.from r.to q.from q.to && is_strictly_inside (crossing_at r q))
+    && (do_touch r.from r.to q.from q.to && is_between_ends (crossing_at r q))
     then Some (crossing_at r q)
     else None
 
@@ -43,6 +46,7 @@ cut_of r q =
 unfoldable pub cuts_of : List Route → Route → List Fraction
 cuts_of routes r = in_order is_before (firsts same_value (filter_map (cut_of r) routes))
 
+-- the pieces of a route that goes from `from` through the other points
 abbrev pub pieces_between : ℕ → Point → Place → List Place → List Piece
 pieces_between number direction from [] = []
 pieces_between number direction from (to ∷ places) =
@@ -58,28 +62,41 @@ pieces_of_route routes e =
 unfoldable pub pieces_of : Plan → List Piece
 pieces_of plan = flat_map (pieces_of_route plan.routes) (enumerate_from 0 plan.routes)
 
+-- the pieces of some sound plan
+pub record ArePiecesOfPlan (pieces : List Piece) : Type 0 where
+  pub plan : Plan
+  pub sound : is_sound plan ≡ true
+  pub all : pieces ≡ pieces_of plan
+
 -- two pieces share an end
 abbrev pub share_end : Piece → Piece → Bool
-share_end r q = (same_place r.from q.from || same_place r.from q.to) || (same_place r.to q.from || same_place r.to q.to)
+share_end r q =
+    (same_place r.from q.from || same_place r.from q.to) || (same_place r.to q.from || same_place r.to q.to)
 
 -- the number of other pieces that share an end with the piece of a number
 abbrev pub neighbours_of : List Piece → ℕ × Piece → ℕ
 neighbours_of pieces e = count_by (λ other. not (other.0 == e.0) && share_end e.1 other.1) (enumerate_from 0 pieces)
 
+-- how many neighbours each piece has
+abbrev pub neighbour_counts : List Piece → List ℕ
+neighbour_counts pieces = map (neighbours_of pieces) (enumerate_from 0 pieces)
+
 -- ---- turns
 
--- directions of sixteen steps of a half turn, from straight on to straight back, but for the first and the last
+-- the fifteen directions that part a half turn into sixteen, from just after straight on to just before straight back
 abbrev pub turn_table : List Point
 turn_table =
-    point (pos 981) (pos 195) ∷ point (pos 924) (pos 383) ∷ point (pos 831) (pos 556) ∷ point (pos 707) (pos 707) ∷ point (pos 556) (pos 831)
-    ∷ point (pos 383) (pos 924) ∷ point (pos 195) (pos 981) ∷ point (pos 0) (pos 1000) ∷ point (neg_ℤ (pos 195)) (pos 981)
-    ∷ point (neg_ℤ (pos 383)) (pos 924) ∷ point (neg_ℤ (pos 556)) (pos 831) ∷ point (neg_ℤ (pos 707)) (pos 707)
-    ∷ point (neg_ℤ (pos 831)) (pos 556) ∷ point (neg_ℤ (pos 924)) (pos 383) ∷ point (neg_ℤ (pos 981)) (pos 195) ∷ []
+    point (pos 981) (pos 195) ∷ point (pos 924) (pos 383) ∷ point (pos 831) (pos 556) ∷ point (pos 707) (pos 707)
+    ∷ point (pos 556) (pos 831) ∷ point (pos 383) (pos 924) ∷ point (pos 195) (pos 981) ∷ point (pos 0) (pos 1000)
+    ∷ point (neg_ℤ (pos 195)) (pos 981) ∷ point (neg_ℤ (pos 383)) (pos 924) ∷ point (neg_ℤ (pos 556)) (pos 831)
+    ∷ point (neg_ℤ (pos 707)) (pos 707) ∷ point (neg_ℤ (pos 831)) (pos 556) ∷ point (neg_ℤ (pos 924)) (pos 383)
+    ∷ point (neg_ℤ (pos 981)) (pos 195) ∷ []
 
 -- the second direction as it is seen along the first, turned to the upper half
 abbrev pub relative_direction : Point → Point → Point
 relative_direction d e = point (dot_of d e) (pos (unsigned_abs (cross_of d e)))
 
+-- it leads straight back
 abbrev pub is_straight_back : Point → Bool
 is_straight_back r = int_lt r.x (pos 0) && int_eq r.y (pos 0)
 
@@ -93,13 +110,15 @@ turn_of d e = turn_by (relative_direction d e)
 
 -- ---- walks along pieces
 
--- the end towards which a piece is walked, and the end from which
+-- the end towards which a piece is walked
 abbrev pub head_of : Piece → Bool → Place
 head_of r forward = if forward then r.to else r.from
 
+-- the end from which it is walked
 abbrev pub tail_of : Piece → Bool → Place
 tail_of r forward = if forward then r.from else r.to
 
+-- the opposite direction
 abbrev pub reversed_direction : Point → Point
 reversed_direction d = point (neg_ℤ d.x) (neg_ℤ d.y)
 
@@ -108,63 +127,87 @@ abbrev pub heading_direction : Piece → Bool → Point
 heading_direction r forward = if forward then r.direction else reversed_direction r.direction
 
 -- a numbered piece, walked along its route or against it
-abbrev pub Step : Type 0
-Step = (ℕ × Piece) × Bool
+abbrev pub DirectedPiece : Type 0
+DirectedPiece = (ℕ × Piece) × Bool
 
--- the turn from one step to the next
-abbrev pub turn_between : Step → Step → ℕ
+-- the turn from one directed piece to the next
+abbrev pub turn_between : DirectedPiece → DirectedPiece → ℕ
 turn_between s t = turn_of (heading_direction s.0.1 s.1) (heading_direction t.0.1 t.1)
 
--- the next step is on another piece, which has the head of this one as an end, and leads away from it
-abbrev pub can_follow : Step → Step → Bool
+-- the next is on another piece, which has the head of this one as an end, and leads away from it
+abbrev pub can_follow : DirectedPiece → DirectedPiece → Bool
 can_follow s t = not (s.0.0 == t.0.0) && same_place (head_of s.0.1 s.1) (tail_of t.0.1 t.1)
 
-abbrev pub both_ways : ℕ × Piece → List Step
+-- a piece along its route, and against it
+abbrev pub both_ways : ℕ × Piece → List DirectedPiece
 both_ways e = (e, true) ∷ (e, false) ∷ []
 
 -- each piece in both headings
-abbrev pub steps_of : List Piece → List Step
-steps_of pieces = flat_map both_ways (enumerate_from 0 pieces)
+abbrev pub directed_pieces : List Piece → List DirectedPiece
+directed_pieces pieces = flat_map both_ways (enumerate_from 0 pieces)
 
--- a walk of so many further pieces from the source, in either heading, to a step, at a cost
-abbrev pub TurnWalk : List Piece → ℕ → ℕ → Step → ℕ → Type 0
-TurnWalk pieces source zero t cost = Contains (steps_of pieces) t × (t.0.0 ≡ source) × (cost ≡ 0)
+-- a walk of so many further pieces from the source, in either heading, to a directed piece, at a cost: the sum of its
+-- turns
+abbrev pub TurnWalk : List Piece → ℕ → ℕ → DirectedPiece → ℕ → Type 0
+TurnWalk pieces source zero t cost = Contains (directed_pieces pieces) t × (t.0.0 ≡ source) × (cost ≡ 0)
 TurnWalk pieces source (suc more) t cost =
-    Contains (steps_of pieces) t
-    × ((s : Step) × (before : ℕ) × TurnWalk pieces source more s before × (can_follow s t ≡ true) × (cost ≡ before + turn_between s t))
+    Contains (directed_pieces pieces) t
+    × ((s : DirectedPiece) × (before : ℕ) × TurnWalk pieces source more s before × (can_follow s t ≡ true)
+    × (cost ≡ before + turn_between s t))
 
--- the turn depth of a step's piece: the least cost of a walk to it in either heading, or none where there is no walk
+-- the turn depth of a numbered piece from the source: the least cost of a walk that ends on it, in whichever heading,
+-- or none where no walk does
 abbrev pub IsTurnDepth : List Piece → ℕ → ℕ × Piece → Option ℕ → Type 0
-IsTurnDepth pieces source e None = (more cost : ℕ) → (forward : Bool) → TurnWalk pieces source more (e, forward) cost → ⊥
+IsTurnDepth pieces source e None =
+    (more cost : ℕ) → (forward : Bool) → TurnWalk pieces source more (e, forward) cost → ⊥
 IsTurnDepth pieces source e (Some depth) =
     ((more : ℕ) × (forward : Bool) × TurnWalk pieces source more (e, forward) depth)
     × ((more cost : ℕ) → (forward : Bool) → TurnWalk pieces source more (e, forward) cost → depth ≤ cost)
 
 -- ---- turn depths as values
 
+-- the lesser of two costs, where there are any
 abbrev pub lesser : Option ℕ → Option ℕ → Option ℕ
 lesser None b = b
 lesser (Some a) None = Some a
 lesser (Some a) (Some b) = if nat_lt b a then Some b else Some a
 
+-- the least of the costs that there are
 abbrev pub least_of : List (Option ℕ) → Option ℕ
 least_of [] = None
 least_of (a ∷ costs) = lesser a (least_of costs)
 
+-- a cost with a turn more
 abbrev pub raised : ℕ → Option ℕ → Option ℕ
 raised turn None = None
 raised turn (Some cost) = Some (cost + turn)
 
--- the least cost of a walk of at most so many further pieces to each step
-unfoldable pub costs_within : List Piece → ℕ → ℕ → List (Step × Option ℕ)
-costs_within pieces source zero = map (λ t. (t, if t.0.0 == source then Some 0 else None)) (steps_of pieces)
-costs_within pieces source (suc more) = improved (costs_within pieces source more)
-  where
-    improved : List (Step × Option ℕ) → List (Step × Option ℕ)
-    improved known =
-        map (λ t. (t.0, lesser t.1 (least_of (map (λ s. if can_follow s.0 t.0 then raised (turn_between s.0 t.0) s.1 else None) known)))) known
+-- the cost of a directed piece by way of one before it, where it can follow that
+abbrev pub cost_by_way : DirectedPiece → DirectedPiece × Option ℕ → Option ℕ
+cost_by_way t s = if can_follow s.0 t then raised (turn_between s.0 t) s.1 else None
 
--- the turn depth of each piece from the source: a cheapest walk takes no step twice
+-- a directed piece with the lesser of its cost and the least by way of another
+abbrev pub improved : List (DirectedPiece × Option ℕ) → DirectedPiece × Option ℕ → DirectedPiece × Option ℕ
+improved known t = (t.0, lesser t.1 (least_of (map (cost_by_way t.0) known)))
+
+-- the source, in both headings, costs nothing
+abbrev pub at_source : ℕ → DirectedPiece → DirectedPiece × Option ℕ
+at_source source t = (t, if t.0.0 == source then Some 0 else None)
+
+-- each directed piece with the least cost of a walk of at most so many further pieces to it
+unfoldable pub costs_within : List Piece → ℕ → ℕ → List (DirectedPiece × Option ℕ)
+costs_within pieces source zero = map (at_source source) (directed_pieces pieces)
+costs_within pieces source (suc more) = all_improved (costs_within pieces source more)
+  where
+    all_improved : List (DirectedPiece × Option ℕ) → List (DirectedPiece × Option ℕ)
+    all_improved known = map (improved known) known
+
+-- the cost of a directed piece, where it is on the numbered piece
+abbrev pub cost_on : ℕ × Piece → DirectedPiece × Option ℕ → Option ℕ
+cost_on e t = if t.0.0.0 == e.0 then t.1 else None
+
+-- the turn depth of each piece from the source: for each walk there is one that costs no more and takes no directed
+-- piece twice, so walks of more further pieces than there are of these needn't be tried
 unfoldable pub turn_depths_of : List Piece → ℕ → List (Option ℕ)
 turn_depths_of pieces source =
-    map (λ e. least_of (map (λ t. if t.0.0.0 == e.0 then t.1 else None) (costs_within pieces source (2 * length pieces)))) (enumerate_from 0 pieces)
+    map (λ e. least_of (map (cost_on e) (costs_within pieces source (2 * length pieces)))) (enumerate_from 0 pieces)

@@ -5,7 +5,8 @@ use Rattle.std.specs.Ordering.{int_eq}
 use Rattle.plane_spec.specs.declared.Point.{Point}
 use Rattle.plane_spec.specs.declared.PlanBox.{PlanBox}
 use Rattle.plane_spec.specs.Vectors.{point, lies_left, orient_of}
-use Rattle.plane_spec.specs.Fractions.{Fraction, Place, whole, is_before, is_at_least, is_at_most}
+use Rattle.plane_spec.specs.Fractions.{Place, whole}
+use Rattle.plane_spec.specs.Places.{fractions_overlap, is_between_fractions}
 
 -- the least box that has a box and a point in it
 abbrev pub with_point : PlanBox → Point → PlanBox
@@ -41,21 +42,12 @@ unfoldable pub does_meet_box : Point → Point → PlanBox → Bool
 does_meet_box p q area =
     (do_overlap p.x q.x area.low.x area.high.x && do_overlap p.y q.y area.low.y area.high.y) && reaches_line p q area
 
--- the same of a stretch between fractions
-abbrev pub fractions_overlap : Fraction → Fraction → ℤ → ℤ → Bool
-fractions_overlap m n low high = (is_at_least m low || is_at_least n low) && (is_at_most m high || is_at_most n high)
-
 -- the part between two points of the line through a and b meets the box
 unfoldable pub does_extent_meet_box : Point → Point → Place → Place → PlanBox → Bool
 does_extent_meet_box a b from to area =
     (fractions_overlap from.x to.x area.low.x area.high.x && fractions_overlap from.y to.y area.low.y area.high.y) && reaches_line a b area
 
--- the whole number is from the smaller of two fractions to the greater
-abbrev pub lies_between : ℤ → Fraction → Fraction → Bool
-lies_between z f g =
-    (not (is_before (whole z) f) && not (is_before g (whole z))) || (not (is_before (whole z) g) && not (is_before f (whole z)))
-
 -- x lies on the part between two points of the line through a and b: on the line, and in the extents of the part
-unfoldable pub is_on_extent : Point → Point → Point → Place → Place → Bool
+abbrev pub is_on_extent : Point → Point → Point → Place → Place → Bool
 is_on_extent x a b from to =
-    int_eq (orient_of a b x) (pos 0) && (lies_between x.x from.x to.x && lies_between x.y from.y to.y)
+    int_eq (orient_of a b x) (pos 0) && (is_between_fractions (whole x.x) from.x to.x && is_between_fractions (whole x.y) from.y to.y)

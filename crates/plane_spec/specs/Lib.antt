@@ -4,4 +4,5 @@ pub mod Segments
 pub mod Polygons
 pub mod Cones
 pub mod Fractions
+pub mod Places
 pub mod Boxes

@@ -1,4 +1,4 @@
--- Lists: pairs of elements, elements that are like none before them, the first of the least.
+-- Lists: pairs of elements, elements that are like none before them, the first of the least, elements in order.
 use Rattle.std.specs.Prelude.{ℕ, List, [], ◌∷◌, ◌++◌, map, Bool, if◌then◌else◌, Option, Some, None}
 use Rattle.std.specs.List.{list_any, enumerate_from, best_of}
 
@@ -28,3 +28,13 @@ firsts alike xs = firsts_after alike [] xs
 abbrev pub least : {X : Type 0} → (X → X → Bool) → List X → Option X
 least comes_before [] = None
 least comes_before (x ∷ xs) = Some (best_of comes_before x xs)
+
+-- the element before the first that it doesn't come after
+abbrev pub placed : {X : Type 0} → (X → X → Bool) → X → List X → List X
+placed comes_before x [] = x ∷ []
+placed comes_before x (y ∷ ys) = if comes_before y x then y ∷ placed comes_before x ys else x ∷ y ∷ ys
+
+-- the elements in order, equal ones as they stood
+abbrev pub in_order : {X : Type 0} → (X → X → Bool) → List X → List X
+in_order comes_before [] = []
+in_order comes_before (x ∷ xs) = placed comes_before x (in_order comes_before xs)

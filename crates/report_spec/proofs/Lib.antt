@@ -3,3 +3,4 @@ mod ScriptExamples
 mod TableExamples
 mod OutputExamples
 pub mod Laws
+pub mod RepliesInParts

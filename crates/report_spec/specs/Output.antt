@@ -1,6 +1,7 @@
 -- The whole output: of a plan by its mode, of a trial, and by the options.
 use Rattle.std.specs.Prelude.{ℕ, Bool, false, ◌||◌, List, [], ◌∷◌, ◌++◌, Option, Some, None, if◌then◌else◌}
 use Rattle.plan_spec.specs.Plan.{Plan}
+use Rattle.plan_spec.specs.Scene.{scene_of}
 use Rattle.report_spec.specs.declared.replies.Form.{Form}
 use Rattle.report_spec.specs.declared.replies.Mode.{Mode}
 use Rattle.report_spec.specs.declared.replies.Mode.TheVariants.{Vga, Isovists, AxialMap, Segments, Check}
@@ -9,25 +10,26 @@ use Rattle.report_spec.specs.declared.options.Job.{Job}
 use Rattle.report_spec.specs.declared.options.Job.TheVariants.{Analyse, Trial}
 use Rattle.report_spec.specs.declared.options.Options.{Options}
 use Rattle.report_spec.specs.Records.{records_bytes}
-use Rattle.report_spec.specs.Tables.{edges_table, points_table, isovists_table, axial_table, lines_table}
-use Rattle.report_spec.specs.Tables.{segments_table, plan_table}
+use Rattle.report_spec.specs.Tables.{edges_table_of, points_table_of, isovists_table_of, axial_table_of, lines_table_of}
+use Rattle.report_spec.specs.Tables.{segments_table_of, plan_table_of}
 use Rattle.report_spec.specs.Replies.{has_too_many_lines, refused_record, replies, plan_after, has_refusal}
-use Rattle.report_spec.specs.Trial.{trial_plan, trial_record}
+use Rattle.report_spec.specs.Trial.{trial_plan, trial_record_of}
 
 -- ---- of a plan
 
 -- the tables of the mode, or the refusal of too many axial lines
 unfoldable pub mode_records : Mode → Plan → List (List (List ℕ))
-mode_records Vga plan = edges_table plan ++ points_table plan
-mode_records Isovists plan = isovists_table plan
+mode_records Vga plan = edges_table_of plan ++ points_table_of plan
+mode_records Isovists plan = isovists_table_of plan
 mode_records AxialMap plan =
-    if has_too_many_lines plan then refused_record 0 LinesReason ∷ [] else (axial_table plan ++ lines_table plan)
-mode_records Segments plan = segments_table plan
-mode_records Check plan = plan_table plan
+    if has_too_many_lines (scene_of plan) then refused_record 0 LinesReason ∷ []
+    else (axial_table_of plan ++ lines_table_of plan)
+mode_records Segments plan = segments_table_of plan
+mode_records Check plan = plan_table_of plan
 
 -- the mode's tables are refused: there are too many axial lines, and the mode asks for them
 abbrev pub mode_is_refused : Mode → Plan → Bool
-mode_is_refused AxialMap plan = has_too_many_lines plan
+mode_is_refused AxialMap plan = has_too_many_lines (scene_of plan)
 mode_is_refused _ plan = false
 
 -- the replies to the lines of a script, as bytes
@@ -47,7 +49,7 @@ output_is_refused mode plan lines = has_refusal plan 1 lines || mode_is_refused 
 
 -- one record
 unfoldable pub trial_output : Form → ℕ → List ℕ
-trial_output form n = records_bytes form (trial_record n (trial_plan n) ∷ [])
+trial_output form n = records_bytes form (trial_record_of n (trial_plan n) ∷ [])
 
 -- ---- by the options
 

@@ -12,11 +12,12 @@ use Rattle.report_spec.specs.declared.replies.Form.TheVariants.{Text, Csv}
 abbrev pub fraction_field : Fraction → List ℕ
 fraction_field f = signed_decimal f.num ++ codes "/" ++ signed_decimal f.den
 
--- a value that may be missing: `-` where it is
+-- a number, or `-` where there is none
 abbrev pub number_or_dash : Option ℕ → List ℕ
 number_or_dash None = codes "-"
 number_or_dash (Some n) = decimal n
 
+-- a fraction, or `-` where there is none
 abbrev pub fraction_or_dash : Option Fraction → List ℕ
 fraction_or_dash None = codes "-"
 fraction_or_dash (Some f) = fraction_field f

@@ -11,7 +11,7 @@ use Rattle.plan_spec.specs.declared.refusals.Limit.{Limit}
 use Rattle.plan_spec.specs.declared.refusals.Limit.TheVariants.{Obstacles, Corners, Screens, Routes, Points as GridPoints}
 use Rattle.plan_spec.specs.Plan.{Plan, is_route_named}
 use Rattle.plan_spec.specs.Edits.{why_not_edit, edited}
-use Rattle.plan_spec.specs.Scene.{scene_of}
+use Rattle.plan_spec.specs.Scene.{Scene, scene_of}
 use Rattle.plan_spec.specs.Sight.{is_open}
 use Rattle.plan_spec.specs.Grid.{number_of_point}
 use Rattle.plan_spec.specs.Axial.{axial_lines}
@@ -25,10 +25,11 @@ use Rattle.report_spec.specs.declared.script_line.Line.TheVariants.{Blank, Edit 
 use Rattle.report_spec.specs.declared.replies.Reason.{Reason}
 use Rattle.report_spec.specs.declared.replies.Reason.TheVariants.{Text as TextReason, Edit as EditReason, NoPoint, Closed, Lines as LinesReason}
 use Rattle.report_spec.specs.ScriptText.{read_line_of_script}
-use Rattle.report_spec.specs.Tables.{edges_table, points_table, depth_table, isovist_table, axial_table, lines_table, segments_table, turns_table, plan_table}
+use Rattle.report_spec.specs.Tables.{edges_table_of, points_table_of, depth_table_of, isovist_table_of, axial_table_of, lines_table_of, segments_table_of, turns_table_of, plan_table_of}
 
 -- ---- causes as they are printed
 
+-- why a line is outside the grammar
 abbrev pub text_why_word : TextWhy → List ℕ
 text_why_word Long = codes "long"
 text_why_word Kind = codes "kind"
@@ -36,6 +37,7 @@ text_why_word Words = codes "words"
 text_why_word Name = codes "name"
 text_why_word Number = codes "number"
 
+-- which limit is reached
 abbrev pub limit_word : Limit → List ℕ
 limit_word Obstacles = codes "obstacles"
 limit_word Corners = codes "corners"
@@ -43,6 +45,7 @@ limit_word Screens = codes "screens"
 limit_word Routes = codes "routes"
 limit_word GridPoints = codes "points"
 
+-- why an item or an edit is refused: a word, and the name or the limit that it is about
 abbrev pub why_words : Why → List (List ℕ)
 why_words Order = codes "order" ∷ []
 why_words Count = codes "count" ∷ []
@@ -57,6 +60,7 @@ why_words Missing = codes "missing" ∷ []
 why_words (Full limit) = codes "full" ∷ limit_word limit ∷ []
 why_words (Overlap name) = codes "overlap" ∷ name ∷ []
 
+-- why a line of a script is refused
 abbrev pub reason_words : Reason → List (List ℕ)
 reason_words (TextReason why) = text_why_word why ∷ []
 reason_words (EditReason why) = why_words why
@@ -79,56 +83,64 @@ abbrev pub Answer : Type 0
 Answer = Result (List (List (List ℕ))) Reason
 
 -- more than 16384 axial lines are too many
-abbrev pub has_too_many_lines : Plan → Bool
-has_too_many_lines plan = nat_lt 16384 (length (axial_lines (scene_of plan)))
+abbrev pub has_too_many_lines : Scene → Bool
+has_too_many_lines scene = nat_lt 16384 (length (axial_lines scene))
 
--- no grid point stands there, or it isn't open
+-- the depths from the grid point at p, of this number: refused where no grid point stands there, or it isn't open
 abbrev pub answer_depth : Plan → Point → Option ℕ → Answer
 answer_depth plan p None = Err NoPoint
-answer_depth plan p (Some source) = if is_open plan p then Ok (depth_table plan source) else Err Closed
+answer_depth plan p (Some source) = if is_open plan p then Ok (depth_table_of plan source) else Err Closed
 
+-- the isovist from p: refused where p is out of range, or isn't open
 abbrev pub answer_isovist : Plan → Point → Answer
-answer_isovist plan p = if not (is_in_range p) then Err (EditReason Range) else (if is_open plan p then Ok (isovist_table plan p) else Err Closed)
+answer_isovist plan p =
+    if not (is_in_range p) then Err (EditReason Range)
+    else (if is_open plan p then Ok (isovist_table_of plan p) else Err Closed)
 
 -- the first piece of the route of this number
 abbrev pub first_piece : Plan → ℕ → Option ℕ
 first_piece plan route = position (λ piece. piece.route == route) (pieces_of plan)
 
+-- the turn depths from a piece; that a route has none doesn't occur, and would be told as a route that isn't there
 abbrev pub turns_from : Plan → Option ℕ → Answer
 turns_from plan None = Err (EditReason Missing)
-turns_from plan (Some source) = Ok (turns_table plan source)
+turns_from plan (Some source) = Ok (turns_table_of plan source)
 
+-- the turn depths from the first piece of the route of this number: refused where there is no such route
 abbrev pub answer_turns : Plan → Option ℕ → Answer
 answer_turns plan None = Err (EditReason Missing)
 answer_turns plan (Some route) = turns_from plan (first_piece plan route)
 
 -- the answer to a question, afresh from the plan
 unfoldable pub answer : Plan → Query → Answer
-answer plan Edges = Ok (edges_table plan)
-answer plan Points = Ok (points_table plan)
-answer plan Axial = if has_too_many_lines plan then Err LinesReason else Ok (axial_table plan)
-answer plan Lines = if has_too_many_lines plan then Err LinesReason else Ok (lines_table plan)
-answer plan Segments = Ok (segments_table plan)
-answer plan PlanQuery = Ok (plan_table plan)
+answer plan Edges = Ok (edges_table_of plan)
+answer plan Points = Ok (points_table_of plan)
+answer plan Axial = if has_too_many_lines (scene_of plan) then Err LinesReason else Ok (axial_table_of plan)
+answer plan Lines = if has_too_many_lines (scene_of plan) then Err LinesReason else Ok (lines_table_of plan)
+answer plan Segments = Ok (segments_table_of plan)
+answer plan PlanQuery = Ok (plan_table_of plan)
 answer plan (Depth p) = answer_depth plan p (number_of_point plan.grid p)
 answer plan (Isovist p) = answer_isovist plan p
 answer plan (Turns name) = answer_turns plan (position (is_route_named name) plan.routes)
 
 -- ---- one line
 
--- the plan after a line, the records of its reply, and whether it is refused
+-- the plan after a line, the records of its reply, and whether the line is refused
 pub record Step : Type 0 where
   pub plan : Plan
   pub records : List (List (List ℕ))
   pub refused : Bool
 
+-- a refused line: the plan stays, and its reply is one record
 abbrev pub refusal : Plan → ℕ → Reason → Step
 refusal plan number reason = record { plan = plan; records = refused_record number reason ∷ []; refused = true }
 
+-- what a line with an edit does: where nothing refuses the edit, the plan is changed, and the reply is `ok`
 abbrev pub edit_step : Plan → ℕ → Edit → Option Why → Step
 edit_step plan number edit None = record { plan = edited plan edit; records = ok_record number ∷ []; refused = false }
 edit_step plan number edit (Some why) = refusal plan number (EditReason why)
 
+-- what a line with a question does: the plan stays, and the reply is `ok` and the table, or the refusal
 abbrev pub query_step : Plan → ℕ → Answer → Step
 query_step plan number (Ok rows) = record { plan = plan; records = ok_record number ∷ rows; refused = false }
 query_step plan number (Err reason) = refusal plan number reason
@@ -149,7 +161,8 @@ step plan number line = step_by plan number (read_line_of_script line)
 -- the records of the replies, the lines numbered from `number` on
 unfoldable pub replies : Plan → ℕ → List (List ℕ) → List (List (List ℕ))
 replies plan number [] = []
-replies plan number (line ∷ lines) = (step plan number line).records ++ replies (step plan number line).plan (number + 1) lines
+replies plan number (line ∷ lines) =
+    (step plan number line).records ++ replies (step plan number line).plan (number + 1) lines
 
 -- the plan that is left
 unfoldable pub plan_after : Plan → ℕ → List (List ℕ) → Plan
@@ -159,4 +172,5 @@ plan_after plan number (line ∷ lines) = plan_after (step plan number line).pla
 -- a line is refused
 unfoldable pub has_refusal : Plan → ℕ → List (List ℕ) → Bool
 has_refusal plan number [] = false
-has_refusal plan number (line ∷ lines) = (step plan number line).refused || has_refusal (step plan number line).plan (number + 1) lines
+has_refusal plan number (line ∷ lines) =
+    (step plan number line).refused || has_refusal (step plan number line).plan (number + 1) lines

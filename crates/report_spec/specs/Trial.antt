@@ -22,12 +22,16 @@ root_above n = root_from n 0 n
 -- the box with sides of so many, from its lower left corner, counterclockwise
 abbrev pub square_at : ℕ → ℕ → ℕ → List Point
 square_at x y side =
-    point (pos x) (pos y) ∷ point (pos (x + side)) (pos y) ∷ point (pos (x + side)) (pos (y + side)) ∷ point (pos x) (pos (y + side)) ∷ []
+    point (pos x) (pos y) ∷ point (pos (x + side)) (pos y)
+    ∷ point (pos (x + side)) (pos (y + side)) ∷ point (pos x) (pos (y + side)) ∷ []
 
 -- box i of a plan of c by c cells of 100 by 100: its place in the cell varies with i
 abbrev pub trial_box : ℕ → ℕ → Item
-trial_box c i = Obstacle (codes "b" ++ decimal i) (square_at (100 * (i % c) + 10 + (17 * i) % 41) (100 * (i / c) + 10 + (29 * i) % 41) 40)
+trial_box c i =
+    Obstacle (codes "b" ++ decimal i)
+    (square_at (100 * (i % c) + 10 + (17 * i) % 41) (100 * (i / c) + 10 + (29 * i) % 41) 40)
 
+-- the items of a plan of n boxes in c by c cells: a square room, a grid of four points a cell, and the boxes
 abbrev pub trial_items_by : ℕ → ℕ → List Item
 trial_items_by n c =
     Outer (square_at 0 0 (100 * c))
@@ -38,18 +42,30 @@ trial_items_by n c =
 unfoldable pub trial_items : ℕ → List Item
 trial_items n = trial_items_by n (root_above n)
 
+-- the trial plan of n boxes
 unfoldable pub trial_plan : ℕ → Plan
 trial_plan n = with_items empty_plan (trial_items n)
 
+-- the sum of the depths from a numbered point
 abbrev pub total_from : Graph → ℕ × Point → ℕ
 total_from graph e = total_depth (depths_of graph e.0)
 
--- trial N points P open O edges E depth D
-unfoldable pub trial_record : ℕ → Plan → List (List ℕ)
-trial_record n plan =
-    codes "trial" ∷ decimal n
-    ∷ codes "points" ∷ decimal (length (grid_points plan.grid))
-    ∷ codes "open" ∷ decimal (length (open_points plan))
-    ∷ codes "edges" ∷ decimal (length (visibility_edges plan))
-    ∷ codes "depth" ∷ decimal (sum_by (total_from (visibility_graph plan)) (open_points plan))
+-- the sum of the depths between each two open points, both ways
+abbrev pub total_of_depths : Plan → ℕ
+total_of_depths plan = sum_by (total_from (visibility_graph plan)) (open_points plan)
+
+-- the record of a trial: how many boxes, grid points, open ones and edges, and the sum of the depths
+unfoldable pub trial_record : ℕ → ℕ → ℕ → ℕ → ℕ → List (List ℕ)
+trial_record boxes points open_ones edges depth =
+    codes "trial" ∷ decimal boxes
+    ∷ codes "points" ∷ decimal points
+    ∷ codes "open" ∷ decimal open_ones
+    ∷ codes "edges" ∷ decimal edges
+    ∷ codes "depth" ∷ decimal depth
     ∷ []
+
+-- the record of the trial of n boxes on a plan
+abbrev pub trial_record_of : ℕ → Plan → List (List ℕ)
+trial_record_of n plan =
+    trial_record n (length (grid_points plan.grid)) (length (open_points plan)) (length (visibility_edges plan))
+    (total_of_depths plan)
