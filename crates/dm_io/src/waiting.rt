@@ -4,7 +4,7 @@ ghost use Rattle.dm_io.specs.Streams.{PutsFront, Rose, with_end};
 ghost use Rattle.dm_io.specs.Waiting.{PutsAndKeeps};
 
 use crate::streams::Sink;
-use crate::whole::{PutFailed, put_all};
+use crate::read_write_all::{PutFailed, put_all};
 use arrayvec::ArrayVec;
 use std::marker::Model;
 
