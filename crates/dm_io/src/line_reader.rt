@@ -5,7 +5,7 @@ ghost use Rattle.text_spec.specs.Lines.{without_return};
 ghost use Rattle.dm_io.specs.Lines.{next_at_end, BeginsLine, has_newline, number_after};
 ghost use Rattle.dm_io.specs.Streams.{Rose};
 
-use crate::lines::{Next, next_of, newline_after, shown_length};
+use crate::lines::{Next, newline_after, next_of, shown_length};
 use crate::streams::{Source, Take};
 use arrayvec::ArrayVec;
 
