@@ -17,21 +17,21 @@ or-right true b e = absurd (false≢true (sym e))
 or-right false b e = e
 
 -- the first part ends at the first newline
-split-cut : (line rest : List ℕ) → list_any is_newline line ≡ false → slice_split is_newline (line ++ 10 ∷ rest) ≡ line ∷ slice_split is_newline rest
+pub split-cut : (line rest : List ℕ) → list_any is_newline line ≡ false → slice_split is_newline (line ++ 10 ∷ rest) ≡ line ∷ slice_split is_newline rest
 split-cut [] rest plain = refl
 split-cut (b ∷ line) rest plain =
     split-other b (line ++ 10 ∷ rest) (or-left (is_newline b) (list_any is_newline line) plain)
     ∙ ap (onto_first b) (split-cut line rest (or-right (is_newline b) (list_any is_newline line) plain))
 
 -- with no newline there is one part
-split-plain : (line : List ℕ) → list_any is_newline line ≡ false → slice_split is_newline line ≡ line ∷ []
+pub split-plain : (line : List ℕ) → list_any is_newline line ≡ false → slice_split is_newline line ≡ line ∷ []
 split-plain [] plain = refl
 split-plain (b ∷ line) plain =
     split-other b line (or-left (is_newline b) (list_any is_newline line) plain)
     ∙ ap (onto_first b) (split-plain line (or-right (is_newline b) (list_any is_newline line) plain))
 
 -- there is a first part
-split-some : (bytes : List ℕ) → (first : List ℕ) × (rest : List (List ℕ)) × (slice_split is_newline bytes ≡ first ∷ rest)
+pub split-some : (bytes : List ℕ) → (first : List ℕ) × (rest : List (List ℕ)) × (slice_split is_newline bytes ≡ first ∷ rest)
 split-some [] = ([], [], refl)
 split-some (b ∷ bytes) =
     let more = split-some bytes in

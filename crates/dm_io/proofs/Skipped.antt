@@ -5,8 +5,8 @@ use Rattle.std.proofs.lemmas.Grind.{common_steps}
 use Rattle.std.proofs.lemmas.List.{drop_more, length-take-le, nil_from_length, take-append-drop}
 use Rattle.std.proofs.lemmas.List.Folds.{list_any-append}
 use Rattle.text_spec.specs.Lines.{is_newline, lines_of, without_return}
-use Rattle.dm_io.specs.Lines.{answer_of, answer_at_end, has_newline, BeginsLine}
-use Rattle.dm_io.specs.Reader.{ahead, answered, line_in, saw_end, waiting, Answered, NothingAhead, Reads, Skips, Stopped}
+use Rattle.dm_io.specs.Lines.{next_of, next_at_end, has_newline, BeginsLine}
+use Rattle.dm_io.specs.Reader.{ahead, bytes_read, line_in, saw_end, waiting, LineRead, NothingAhead, Reads, Skips, Stopped}
 use Rattle.dm_io.specs.Streams.{IsFront, IsIfTold, with_front}
 use Rattle.dm_io.specs.declared.line_reader.LineReader.{LineReader}
 use Rattle.dm_io.specs.declared.lines.Next.{Next}
@@ -20,7 +20,7 @@ pub record Skipped (old new : LineReader) (before after : Option (List ℕ)) (lo
   pub held : waiting old ++ taken ≡ gone ++ waiting new
   pub left : IsFront before taken after
   pub plain : has_newline gone ≡ false
-  pub counted : answered new ≡ answered old + length gone
+  pub counted : bytes_read new ≡ bytes_read old + length gone
   pub when_long : long ≡ true → 20000 < length gone
   pub when_short : long ≡ false → gone ≡ []
   pub waits : (taken ≡ []) ⊎ (has_newline (waiting old) ≡ false)
@@ -86,7 +86,7 @@ skips-plain {cur} {new} {full} {more} k none = plain-right more (waiting new) (a
 
 -- no whole line waited, and a piece came
 pub skipped-came : {old cur new : LineReader} {before middle after : Option (List ℕ)} {long : Bool} {gone : List ℕ} (piece : List ℕ)
-    → Skipped old cur before middle long gone → has_newline (waiting cur) ≡ false → waiting new ≡ waiting cur ++ piece → IsFront middle piece after → answered new ≡ answered cur
+    → Skipped old cur before middle long gone → has_newline (waiting cur) ≡ false → waiting new ≡ waiting cur ++ piece → IsFront middle piece after → bytes_read new ≡ bytes_read cur
     → Skipped old new before after long gone
 skipped-came {old} {cur} {new} {before} {middle} {after} {long} {gone} piece s none grown came counted = record {
   taken = s.taken ++ piece;
@@ -101,7 +101,7 @@ skipped-came {old} {cur} {new} {before} {middle} {after} {long} {gone} piece s n
 
 -- no whole line waited, and nothing came
 pub skipped-same : {old cur : LineReader} {before middle after : Option (List ℕ)} {long : Bool} {gone : List ℕ} (new : LineReader)
-    → Skipped old cur before middle long gone → has_newline (waiting cur) ≡ false → waiting new ≡ waiting cur → after ≡ middle → answered new ≡ answered cur
+    → Skipped old cur before middle long gone → has_newline (waiting cur) ≡ false → waiting new ≡ waiting cur → after ≡ middle → bytes_read new ≡ bytes_read cur
     → Skipped old new before after long gone
 skipped-same {old} {cur} {before} {middle} {after} {long} {gone} new s none same left counted =
     skipped-came [] s none (same ∙ sym (append-nil (waiting cur))) (sym left ∙ with_front-nothing after) counted
@@ -121,21 +121,21 @@ first-last line nothing (Some rest) some plain told none =
 line-split : (bytes : List ℕ) (count : ℕ) → BeginsLine bytes count → bytes ≡ take count bytes ++ 10 ∷ drop (count + 1) bytes
 line-split bytes count b = sym (take-append-drop count bytes) ∙ ap (λ r. take count bytes ++ r) (drop_more bytes count 0 b.within ∙ ap (λ x. x ∷ drop (count + 1) bytes) b.ends)
 
-answered-as : {old new : LineReader} {before after : Option (List ℕ)} (long : Bool) (gone line : List ℕ) → Answered old new before after (gone ++ line)
+bytes_read-as : {old new : LineReader} {before after : Option (List ℕ)} (long : Bool) (gone line : List ℕ) → LineRead old new before after (gone ++ line)
     → (long ≡ true → 20000 < length gone) → (long ≡ false → gone ≡ []) → length line ≤ 20000 → (long ≡ false → line_in new ≡ without_return line)
-    → Reads old new before after (answer_of long)
-answered-as true gone line a too_long short len shown = (gone ++ line, a, grind (arith, common_steps, too_long refl))
-answered-as false gone line a too_long short len shown =
+    → Reads old new before after (next_of long)
+bytes_read-as true gone line a too_long short len shown = (gone ++ line, a, grind (arith, common_steps, too_long refl))
+bytes_read-as false gone line a too_long short len shown =
     let same : length (gone ++ line) ≡ length line = ap (λ g. length (g ++ line)) (short refl) in
     (gone ++ line, a, grind (arith, common_steps), shown refl ∙ ap (λ g. without_return (g ++ line)) (sym (short refl)))
 
 regroup : (gone line rest : List ℕ) → gone ++ (line ++ 10 ∷ rest) ≡ ((gone ++ line) ++ 10 ∷ []) ++ rest
 regroup gone line rest = sym (append_assoc (gone ++ line) (10 ∷ []) rest ∙ append_assoc gone line (10 ∷ rest))
 
--- a whole line is answered
+-- a whole line is read
 pub reads-line : {old cur : LineReader} {before after : Option (List ℕ)} {long : Bool} {gone : List ℕ} (new : LineReader) (count : ℕ) (next : Next)
     → Skipped old cur before after long gone → saw_end old ≡ false → saw_end new ≡ false → BeginsLine (waiting cur) count
-    → waiting new ≡ drop (count + 1) (waiting cur) → answered new ≡ answered cur + count + 1 → line_in new ≡ without_return (take count (waiting cur)) → next ≡ answer_of long
+    → waiting new ≡ drop (count + 1) (waiting cur) → bytes_read new ≡ bytes_read cur + count + 1 → line_in new ≡ without_return (take count (waiting cur)) → next ≡ next_of long
     → Reads old new before after next
 reads-line {old} {cur} {before} {after} {long} {gone} new count next s was_open goes_on b rest counted shown e =
     let line : List ℕ = take count (waiting cur) in
@@ -147,18 +147,18 @@ reads-line {old} {cur} {before} {after} {long} {gone} new count next s was_open 
     ∙ ap (λ w. with_front (gone ++ w) after) split
     ∙ ap (λ w. with_front w after) (regroup gone line (waiting new))
     ∙ sym (with_front-more ((gone ++ line) ++ 10 ∷ []) (waiting new) after) in
-    let cut : Answered old new before after (gone ++ line) = record {
+    let cut : LineRead old new before after (gone ++ line) = record {
       was_open = was_open;
       first = ap (option_map lines_of) bytes ∙ first-cut (gone ++ line) (ahead new after) plain;
       plain = plain;
       ends = inl (record { goes_on = goes_on; bytes = bytes; counted = omega (arith, s.counted, counted, length-append gone line, len) });
     } in
-    rw e (answered-as long gone line cut s.when_long s.when_short (omega (arith, len, b.short)) (λ f. shown))
+    rw e (bytes_read-as long gone line cut s.when_long s.when_short (omega (arith, len, b.short)) (λ f. shown))
 
 -- what waits at the end is the last line
 last-line : {old mid : LineReader} {before after : Option (List ℕ)} {long : Bool} {gone : List ℕ} (new : LineReader)
     → Skipped old mid before after long gone → saw_end old ≡ false → saw_end new ≡ true → has_newline (waiting mid) ≡ false → IsIfTold [] after
-    → waiting new ≡ [] → answered new ≡ answered mid + length (waiting mid) → 0 < length (gone ++ waiting mid) → Answered old new before after (gone ++ waiting mid)
+    → waiting new ≡ [] → bytes_read new ≡ bytes_read mid + length (waiting mid) → 0 < length (gone ++ waiting mid) → LineRead old new before after (gone ++ waiting mid)
 last-line {old} {mid} {before} {after} {long} {gone} new s was_open ended none told nothing counted some =
     let line : List ℕ = gone ++ waiting mid in
     let plain : has_newline line ≡ false = plain-both gone (waiting mid) s.plain none in
@@ -193,28 +193,28 @@ nothing-ahead {old} {mid} {before} {after} {gone} new s ended told nothing none 
 
 ends-as : {old mid : LineReader} {before after : Option (List ℕ)} {gone : List ℕ} (new : LineReader) (long : Bool)
     → Skipped old mid before after long gone → saw_end old ≡ false → saw_end new ≡ true → has_newline (waiting mid) ≡ false → length (waiting mid) ≤ 20000 → IsIfTold [] after
-    → waiting new ≡ [] → answered new ≡ answered mid + length (waiting mid) → (long ≡ false → (length (waiting mid) == 0) ≡ false → line_in new ≡ without_return (waiting mid))
-    → Reads old new before after (answer_at_end long (length (waiting mid)))
+    → waiting new ≡ [] → bytes_read new ≡ bytes_read mid + length (waiting mid) → (long ≡ false → (length (waiting mid) == 0) ≡ false → line_in new ≡ without_return (waiting mid))
+    → Reads old new before after (next_at_end long (length (waiting mid)))
 ends-as {old} {mid} {before} {after} {gone} new true s was_open ended none short told nothing counted shown =
     let many = s.when_long refl in
     let some : 0 < length (gone ++ waiting mid) = omega (arith, many, length-append gone (waiting mid)) in
-    answered-as true gone (waiting mid) (last-line new s was_open ended none told nothing counted some) s.when_long s.when_short short (λ f. absurd (true≢false f))
+    bytes_read-as true gone (waiting mid) (last-line new s was_open ended none told nothing counted some) s.when_long s.when_short short (λ f. absurd (true≢false f))
 ends-as {old} {mid} {before} {after} {gone} new false s was_open ended none short told nothing counted shown = by (length (waiting mid) == 0) refl
   where
     by : (t : Bool) → (length (waiting mid) == 0) ≡ t → Reads old new before after (if t then End else Line)
     by true e = nothing-ahead new s ended told nothing (eqb-true (length (waiting mid)) 0 e)
     by false e =
         let some : 0 < length (gone ++ waiting mid) = grind (arith, common_steps) in
-        answered-as false gone (waiting mid) (last-line new s was_open ended none told nothing counted some) s.when_long s.when_short short (λ f. shown f e)
+        bytes_read-as false gone (waiting mid) (last-line new s was_open ended none told nothing counted some) s.when_long s.when_short short (λ f. shown f e)
 
--- what waits is answered at the end
+-- what waits is read at the end
 pub reads-end : {old mid : LineReader} {before after : Option (List ℕ)} {long : Bool} {gone : List ℕ} (new : LineReader) (next : Next)
     → Skipped old mid before after long gone → saw_end old ≡ false → saw_end new ≡ true → has_newline (waiting mid) ≡ false → length (waiting mid) ≤ 20000 → IsIfTold [] after
-    → waiting new ≡ [] → answered new ≡ answered mid + length (waiting mid) → (next ≡ Line → line_in new ≡ without_return (waiting mid)) → next ≡ answer_at_end long (length (waiting mid))
+    → waiting new ≡ [] → bytes_read new ≡ bytes_read mid + length (waiting mid) → (next ≡ Line → line_in new ≡ without_return (waiting mid)) → next ≡ next_at_end long (length (waiting mid))
     → Reads old new before after next
 reads-end {old} {mid} {before} {after} {long} {gone} new next s was_open ended none short told nothing counted shown e =
     let as_line : long ≡ false → (length (waiting mid) == 0) ≡ false → next ≡ Line =
-    λ f g. e ∙ ap (λ l. answer_at_end l (length (waiting mid))) f ∙ ap (λ t. if t then End else Line) g in
+    λ f g. e ∙ ap (λ l. next_at_end l (length (waiting mid))) f ∙ ap (λ t. if t then End else Line) g in
     rw e (ends-as new long s was_open ended none short told nothing counted (λ f g. shown (as_line f g)))
 
 none-or-many : (long : Bool) (gone : List ℕ) → (long ≡ true → 20000 < length gone) → (long ≡ false → gone ≡ []) → (gone ≡ []) ⊎ (20000 < length gone)
@@ -223,7 +223,7 @@ none-or-many false gone many none = inl (none refl)
 
 -- no whole line came: what was dropped and what waits is a part of one
 pub reads-part : {old mid : LineReader} {before after : Option (List ℕ)} {long : Bool} {gone : List ℕ} (new : LineReader)
-    → Skipped old mid before after long gone → saw_end old ≡ false → saw_end new ≡ false → has_newline (waiting mid) ≡ false → waiting new ≡ waiting mid → answered new ≡ answered mid
+    → Skipped old mid before after long gone → saw_end old ≡ false → saw_end new ≡ false → has_newline (waiting mid) ≡ false → waiting new ≡ waiting mid → bytes_read new ≡ bytes_read mid
     → Stopped old new before after (gone ++ waiting mid)
 reads-part {old} {mid} {before} {after} {long} {gone} new s was_open goes_on none same counted = record {
   was_open = was_open;

@@ -2,6 +2,7 @@ pub mod Calls
 pub mod Contents
 pub mod Files
 pub mod Lines
+pub mod LinesRead
 pub mod Memory
 pub mod Reader
 pub mod Streams

@@ -1,4 +1,4 @@
--- Newlines among bytes, and what is answered of lines.
+-- Newlines among bytes, and what a reader tells of lines.
 use Rattle.std.specs.Prelude.{◌≡◌, ◌<◌, ◌≤◌, ◌+◌, ◌-◌, ◌^◌, ℕ, List, Bool, false, length, take, min, slice_index, if◌then◌else◌, ◌==◌}
 use Rattle.std.specs.List.{list_any}
 use Rattle.text_spec.specs.Lines.{is_newline}
@@ -9,13 +9,13 @@ use Rattle.dm_io.specs.declared.lines.Next.TheVariants.{Line, Long, End, Failed,
 abbrev pub has_newline : List ℕ → Bool
 has_newline bytes = list_any is_newline bytes
 
--- a line was answered
-abbrev pub IsAnswer : Next → Type 0
-IsAnswer Line = Unit {0}
-IsAnswer Long = Unit {0}
-IsAnswer _ = ⊥
+-- a line was read
+abbrev pub IsLine : Next → Type 0
+IsLine Line = Unit {0}
+IsLine Long = Unit {0}
+IsLine _ = ⊥
 
--- how many lines were answered after an answer; the number stands still at its last value
+-- how many lines were read after this; the number stands still at its last value
 abbrev pub number_after : ℕ → Next → ℕ
 number_after n Line = min (n + 1) (2 ^ 64 - 1)
 number_after n Long = min (n + 1) (2 ^ 64 - 1)
@@ -30,10 +30,10 @@ pub record BeginsLine (bytes : List ℕ) (count : ℕ) : Type 0 where
   pub ends : slice_index bytes count ≡ 10
   pub short : count ≤ 20000
 
--- a line is answered as what it is
-abbrev pub answer_of : Bool → Next
-answer_of long = if long then Long else Line
+-- a line is told as what it is
+abbrev pub next_of : Bool → Next
+next_of long = if long then Long else Line
 
 -- at the end of the source so many bytes wait, or the front of a line that is too long was dropped
-abbrev pub answer_at_end : Bool → ℕ → Next
-answer_at_end long count = if long then Long else (if count == 0 then End else Line)
+abbrev pub next_at_end : Bool → ℕ → Next
+next_at_end long count = if long then Long else (if count == 0 then End else Line)

@@ -1,7 +1,7 @@
--- What a reader of lines holds, takes and answers.
+-- What a reader of lines holds, takes and tells.
 use Rattle.std.specs.Prelude.{◌≡◌, ◌⊎◌, ◌<◌, ◌≤◌, ◌+◌, ℕ, List, [], ◌∷◌, ◌++◌, Bool, true, false, length, take, drop, option_map, Option}
 use Rattle.text_spec.specs.Lines.{is_long, lines_of, without_return}
-use Rattle.dm_io.specs.Lines.{has_newline, IsAnswer}
+use Rattle.dm_io.specs.Lines.{has_newline, IsLine}
 use Rattle.dm_io.specs.Streams.{IsFront, IsIfTold, with_front}
 use Rattle.dm_io.specs.declared.line_reader.LineReader.{LineReader}
 use Rattle.dm_io.specs.declared.line_reader.More.{More}
@@ -9,21 +9,21 @@ use Rattle.dm_io.specs.declared.line_reader.More.TheVariants.{Came, Nothing, Bro
 use Rattle.dm_io.specs.declared.lines.Next.{Next}
 use Rattle.dm_io.specs.declared.lines.Next.TheVariants.{Line, Long, End, Failed, Over}
 
--- the bytes that were taken of the source and belong to no answered line
+-- the bytes that were taken of the source and belong to no line that was read
 abbrev pub waiting : LineReader → List ℕ
 waiting r = drop r.start r.held.items
 
--- the line that was answered last, as it is shown
+-- the line that was read last, as it is shown
 abbrev pub line_in : LineReader → List ℕ
 line_in r = take r.line_length (drop r.line_start r.held.items)
 
--- how many bytes the answered lines had, with their newlines
-abbrev pub answered : LineReader → ℕ
-answered r = r.answered
+-- how many bytes the lines that were read had, with their newlines
+abbrev pub bytes_read : LineReader → ℕ
+bytes_read r = r.bytes_read
 
--- how many lines were answered
-abbrev pub lines_answered : LineReader → ℕ
-lines_answered r = r.number
+-- how many lines were read
+abbrev pub lines_read : LineReader → ℕ
+lines_read r = r.number
 
 -- how many bytes may be taken of the source
 abbrev pub limit_of : LineReader → ℕ
@@ -33,7 +33,7 @@ limit_of r = r.limit
 abbrev pub saw_end : LineReader → Bool
 saw_end r = r.ended
 
--- what is still to be answered: the bytes that wait, and then what the source has left
+-- what is still to be read: the bytes that wait, and then what the source has left
 abbrev pub ahead : LineReader → Option (List ℕ) → Option (List ℕ)
 ahead r left = with_front (waiting r) left
 
@@ -41,7 +41,7 @@ ahead r left = with_front (waiting r) left
 pub record Cut (old new : LineReader) (before after : Option (List ℕ)) (line : List ℕ) : Type 0 where
   pub goes_on : saw_end new ≡ false
   pub bytes : IsFront (ahead old before) (line ++ 10 ∷ []) (ahead new after)
-  pub counted : answered new ≡ answered old + length line + 1
+  pub counted : bytes_read new ≡ bytes_read old + length line + 1
 
 -- all that was ahead is one last line without a newline; it isn't empty
 pub record Last (old new : LineReader) (before after : Option (List ℕ)) (line : List ℕ) : Type 0 where
@@ -50,10 +50,10 @@ pub record Last (old new : LineReader) (before after : Option (List ℕ)) (line 
   pub bytes : IsFront (ahead old before) line after
   pub nothing_left : IsIfTold [] after
   pub nothing_waits : waiting new ≡ []
-  pub counted : answered new ≡ answered old + length line
+  pub counted : bytes_read new ≡ bytes_read old + length line
 
--- the first of the lines that were ahead was answered, and the others are ahead still
-pub record Answered (old new : LineReader) (before after : Option (List ℕ)) (line : List ℕ) : Type 0 where
+-- the first of the lines that were ahead was read, and the others are ahead still
+pub record LineRead (old new : LineReader) (before after : Option (List ℕ)) (line : List ℕ) : Type 0 where
   pub was_open : saw_end old ≡ false
   pub first : option_map lines_of (ahead old before) ≡ option_map (λ rest. line ∷ lines_of rest) (ahead new after)
   pub plain : has_newline line ≡ false
@@ -75,25 +75,25 @@ pub record Stopped (old new : LineReader) (before after : Option (List ℕ)) (pa
   pub taken : IsFront (ahead old before) part after
   pub gone : List ℕ
   pub waits : part ≡ gone ++ waiting new
-  pub counted : answered new ≡ answered old + length gone
+  pub counted : bytes_read new ≡ bytes_read old + length gone
   pub dropped : (gone ≡ []) ⊎ (20000 < length gone)
 
--- what each answer says of the bytes
+-- what each `Next` says of the bytes
 abbrev pub Reads : LineReader → LineReader → Option (List ℕ) → Option (List ℕ) → Next → Type 0
-Reads old new before after Line = (line : List ℕ) × Answered old new before after line × (is_long line ≡ false) × (line_in new ≡ without_return line)
-Reads old new before after Long = (line : List ℕ) × Answered old new before after line × (is_long line ≡ true)
+Reads old new before after Line = (line : List ℕ) × LineRead old new before after line × (is_long line ≡ false) × (line_in new ≡ without_return line)
+Reads old new before after Long = (line : List ℕ) × LineRead old new before after line × (is_long line ≡ true)
 Reads old new before after End = NothingAhead old new before after
-Reads old new before after Failed = (part : List ℕ) × Stopped old new before after part × (answered old + length part ≤ limit_of old)
-Reads old new before after Over = (part extra : List ℕ) × (rest : Option (List ℕ)) × Stopped old new before rest part × (answered old + length part ≡ limit_of old) × (length extra ≡ 1) × IsFront rest extra after
+Reads old new before after Failed = (part : List ℕ) × Stopped old new before after part × (bytes_read old + length part ≤ limit_of old)
+Reads old new before after Over = (part extra : List ℕ) × (rest : Option (List ℕ)) × Stopped old new before rest part × (bytes_read old + length part ≡ limit_of old) × (length extra ≡ 1) × IsFront rest extra after
 
--- while a whole line waits, it is answered and nothing is taken
+-- while a whole line waits, it is read and nothing is taken
 abbrev pub Waits : LineReader → Option (List ℕ) → Option (List ℕ) → Next → Type 0
-Waits old before after next = has_newline (waiting old) ≡ true → (after ≡ before) × IsAnswer next
+Waits old before after next = has_newline (waiting old) ≡ true → (after ≡ before) × IsLine next
 
 -- these bytes were dropped from the front of those that wait, which leaves room for more: all that waited where they were too many for a line, and else none
 pub record Skips (old new : LineReader) (full : Bool) (gone : List ℕ) : Type 0 where
   pub bytes : waiting old ≡ gone ++ waiting new
-  pub counted : answered new ≡ answered old + length gone
+  pub counted : bytes_read new ≡ bytes_read old + length gone
   pub when_full : full ≡ true → 20000 < length gone
   pub when_not : full ≡ false → gone ≡ []
   pub room : length (waiting new) ≤ 20000
@@ -103,4 +103,4 @@ abbrev pub Gets : LineReader → LineReader → Option (List ℕ) → Option (Li
 Gets old new before after Came = (piece : List ℕ) × (0 < length piece) × (waiting new ≡ waiting old ++ piece) × IsFront before piece after
 Gets old new before after Nothing = (waiting new ≡ waiting old) × (after ≡ before) × IsIfTold [] after
 Gets old new before after Broken = (waiting new ≡ waiting old) × (after ≡ before)
-Gets old new before after Beyond = (waiting new ≡ waiting old) × (extra : List ℕ) × (length extra ≡ 1) × IsFront before extra after × (answered old + length (waiting old) ≡ limit_of old)
+Gets old new before after Beyond = (waiting new ≡ waiting old) × (extra : List ℕ) × (length extra ≡ 1) × IsFront before extra after × (bytes_read old + length (waiting old) ≡ limit_of old)

@@ -1,5 +1,5 @@
 //! Bytes in and out. Sources, sinks and files answer by values, count their faults, and say in contracts which bytes
-//! were taken and put; over them stand reads and writes of all bytes, and lines that are answered as they come.
+//! were taken and put; over them stand reads and writes of all bytes, and lines that are read as they come.
 //!
 //! | item | what it is |
 //! |---|---|
@@ -13,7 +13,7 @@
 //! | [`Gate`], [`NoGate`] | what is told of each row that a worker claims |
 //! | [`MemSource`], [`MemFiles`], [`MemSink`] | the same in memory, where chosen calls fail |
 //! | [`StdSource`], [`StdSink`], [`DirFiles`] | standard input, output and error, and the files of the working folder |
-//! | [`NoMemory`] | the answer for want of memory |
+//! | [`NoMemory`] | the memory ran out |
 #![tactic(auto)]
 
 mod calls;
@@ -23,12 +23,12 @@ mod lines;
 mod mem_files;
 mod mem_sink;
 mod mem_source;
+mod read_write_all;
 mod streams;
 mod system;
 #[cfg(test)]
 mod tests;
 mod waiting;
-mod whole;
 
 pub use gate::{Gate, NoGate};
 pub use line_reader::LineReader;
@@ -36,8 +36,8 @@ pub use lines::Next;
 pub use mem_files::MemFiles;
 pub use mem_sink::MemSink;
 pub use mem_source::MemSource;
+pub use read_write_all::{AllFault, PutFailed, put_all, read_all};
 pub use streams::{Files, OpenFailed, Put, Sink, Source, Take};
 pub use system::{DirFiles, StdSink, StdSource};
 pub use text_spec::NoMemory;
 pub use waiting::Waiting;
-pub use whole::{AllFault, PutFailed, put_all, read_all};

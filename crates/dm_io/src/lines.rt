@@ -1,22 +1,22 @@
-//! Lines in bytes, and what is answered of them.
+//! Lines in bytes, and what a reader tells of them.
 ghost use Rattle.std.specs.Prelude.{◌≡◌, ◌≤◌, ◌<◌, ℕ, length, false, take, IfSome, IfNone, slice_index};
 ghost use Rattle.text_spec.specs.Lines.{without_return};
-ghost use Rattle.dm_io.specs.Lines.{answer_of, has_newline};
+ghost use Rattle.dm_io.specs.Lines.{next_of, has_newline};
 
 use text_spec::without_return;
 
-/// What a reader of lines answers.
+/// What a reader of lines tells.
 #[derive(Clone, Copy, Debug, PartialEq, Eq)]
 pub enum Next {
     /// The next line stands in `bytes`. It has at most 20000 bytes before its newline, a carriage return counted.
     Line,
     /// The next line has more than 20000 bytes before its newline and was skipped to its end.
     Long,
-    /// All was read, and every line was answered.
+    /// All was taken, and every line was read.
     End,
-    /// The source failed. Every line whose newline was taken is answered.
+    /// The source failed. Every line whose newline was taken was read.
     Failed,
-    /// The source gave one byte more than the limit. Every line whose newline is within the limit is answered.
+    /// The source gave one byte more than the limit. Every line whose newline is within the limit was read.
     Over,
 }
 
@@ -45,9 +45,9 @@ pub fn shown_length(line: &[u8]) -> usize
     without_return(line).len()
 }
 
-/// How a line is answered.
-pub fn answer_of(long: bool) -> Next
-    ensures { result ≡ answer_of long }
+/// How a line is told: as what it is.
+pub fn next_of(long: bool) -> Next
+    ensures { result ≡ next_of long }
 {
     if long { Next::Long } else { Next::Line }
 }

@@ -1,6 +1,12 @@
 //! The system's own streams and files. No bytes are told of them: what they give and take is up to the system. Each
 //! failed call of the system is counted as a fault, whatever its cause.
-ghost use Rattle.std.specs.Prelude.{◌≡◌, ◌<◌, ◌≤◌, ◌^◌, ℕ, List, Option, None, true, IfSome, length};
+//!
+//! The clauses of the two streams speak of the reader or the writer that they stand on, in std's own terms: what it will
+//! give and what it holds, where std knows it, as it does of a slice of bytes. Of a file std knows nothing, so that no
+//! clause of [`DirFiles`] says that a failed call of the system is told as one. Tests do: with a name that isn't there,
+//! and with a folder in place of a file.
+ghost use Rattle.std.specs.Prelude.{◌≡◌, ◌<◌, ◌≤◌, ◌^◌, ℕ, List, Option, None, true, IfNone, IfSome, length, take};
+ghost use Rattle.std.specs.Io.KnownBytes.{Appends};
 
 use crate::streams::{Files, OpenFailed, Put, Sink, Source, Take};
 use std::io::{Read, Write};
@@ -15,24 +21,31 @@ pub struct StdSource<R: Read + Drop> {
 }
 
 impl<R: Read + Drop> StdSource<R> {
-    ghost use Rattle.dm_io.specs.System.{source_faults};
+    ghost use Rattle.dm_io.specs.System.{source_faults, source_remaining};
 
     /// The reader as a source, without a fault so far.
     pub fn new(input: R) -> StdSource<R>
-        ensures { source_faults result ≡ 0 }
+        ensures faults { source_faults result ≡ 0 }
+        ensures reader { source_remaining result ≡ R.remaining input }
     {
         StdSource { input, faults: 0 }
     }
 }
 
 impl<R: Read + Drop> Source for StdSource<R> {
-    ghost use Rattle.dm_io.specs.System.{source_faults};
+    ghost use Rattle.dm_io.specs.Streams.{TakeCounts, Takes};
+    ghost use Rattle.dm_io.specs.System.{TakesFromReader, source_faults, source_remaining};
 
     ghost left = { λ _. None };
 
     ghost faults = { λ s. source_faults s };
 
-    fn take(&mut self, into: &mut [u8]) -> Take {
+    fn take(&mut self, into: &mut [u8]) -> Take
+        requires { 0 < length into.old }
+        ensures bytes { Takes None None into.new result }
+        ensures count { TakeCounts (source_faults self.old) (source_faults self.new) result }
+        ensures reader { TakesFromReader (source_remaining self.old) (source_remaining self.new) into.new result }
+    {
         match self.input.read(into) {
             Ok(0) => Take::End,
             Ok(count) => Take::Got(count),
@@ -55,19 +68,23 @@ pub struct StdSink<W: Write + Drop> {
 }
 
 impl<W: Write + Drop> StdSink<W> {
-    ghost use Rattle.dm_io.specs.System.{sink_faults};
+    ghost use Rattle.dm_io.specs.System.{sink_contents, sink_faults};
 
     /// The writer as a sink, without a fault so far.
     pub fn new(output: W) -> StdSink<W>
-        ensures { sink_faults result ≡ 0 }
+        ensures faults { sink_faults result ≡ 0 }
+        ensures writer { sink_contents result ≡ W.contents output }
     {
         StdSink { output, faults: 0 }
     }
 
-    /// Writes some of the piece and flushes it. None where a call failed or nothing was written.
+    /// Writes some of the piece and flushes it. None where a call failed or nothing was written; where the writing did its
+    /// work and the flushing failed, a front of the piece was written all the same.
     fn write_some(&mut self, piece: &[u8]) -> Option<usize>
         ensures same { sink_faults self.new ≡ sink_faults self.old }
         ensures within { IfSome result (λ n. (1 ≤ n) × (n ≤ length piece.now)) }
+        ensures written { IfSome result (λ n. Appends (sink_contents self.old) (sink_contents self.new) (take n piece.now)) }
+        ensures failed { IfNone result ((n : ℕ) × (n ≤ length piece.now) × Appends (sink_contents self.old) (sink_contents self.new) (take n piece.now)) }
     {
         let count = self.output.write(piece).ok()?;
         self.output.flush().ok()?;
@@ -76,13 +93,19 @@ impl<W: Write + Drop> StdSink<W> {
 }
 
 impl<W: Write + Drop> Sink for StdSink<W> {
-    ghost use Rattle.dm_io.specs.System.{sink_faults};
+    ghost use Rattle.dm_io.specs.Streams.{PutCounts, Puts};
+    ghost use Rattle.dm_io.specs.System.{PutsIntoWriter, sink_contents, sink_faults};
 
     ghost written = { λ _. None };
 
     ghost faults = { λ s. sink_faults s };
 
-    fn put(&mut self, piece: &[u8]) -> Put {
+    fn put(&mut self, piece: &[u8]) -> Put
+        requires { 0 < length piece.now }
+        ensures bytes { Puts None None piece.now result }
+        ensures count { PutCounts (sink_faults self.old) (sink_faults self.new) result }
+        ensures writer { PutsIntoWriter (sink_contents self.old) (sink_contents self.new) piece.now result }
+    {
         match self.write_some(piece) {
             Some(count) => Put::Took(count),
             None => {

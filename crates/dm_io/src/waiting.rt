@@ -3,8 +3,8 @@ ghost use Rattle.std.specs.Prelude.{◌≡◌, ◌++◌, [], OnOk, OnErr};
 ghost use Rattle.dm_io.specs.Streams.{PutsFront, Rose, with_end};
 ghost use Rattle.dm_io.specs.Waiting.{PutsAndKeeps};
 
+use crate::read_write_all::{PutFailed, put_all};
 use crate::streams::Sink;
-use crate::whole::{PutFailed, put_all};
 use arrayvec::ArrayVec;
 use std::marker::Model;
 

@@ -9,9 +9,9 @@ use Rattle.dm_io.proofs.line_reader.LineReader.next.Goals.{then-long, else-long}
 
 pub returns-in-Some-clause-reads : goal.returns-in-Some-clause-reads
 returns-in-Some-clause-reads g c =
-    reads-line c.answer.new.self c.in-Some.count c.answer_of.result
+    reads-line c.show.new.self c.in-Some.count c.next_of.result
     c.pieces.invariant.skipped.1 c.pieces.invariant.was_open (grind (arith, common_steps)) c.in-Some.ensures.some
-    c.answer.ensures.rest c.answer.ensures.counted c.answer.ensures.line c.answer_of.ensures
+    c.show.ensures.rest c.show.ensures.counted c.show.ensures.line c.next_of.ensures
 
 pub pieces-preserved : goal.pieces-preserved
 pieces-preserved g c =
@@ -26,7 +26,7 @@ pieces-preserved g c =
     let seen : c.len.result - mid.start ≡ length (waiting mid) = ap (λ n. n - mid.start) c.len.ensures.value ∙ sym (length-drop mid.start mid.held.items) in
     let new = c.more.new.self in
     record {
-      skipped = (c.pieces.invariant.skipped.0 ++ skips.0, skipped-came gets.0 skipped plain gets.2 gets.3 c.more.ensures.answered);
+      skipped = (c.pieces.invariant.skipped.0 ++ skips.0, skipped-came gets.0 skipped plain gets.2 gets.3 c.more.ensures.bytes_read);
       within = omega (arith, seen, ap length gets.2, length-append (waiting mid) gets.0);
       plain = ap (λ w. has_newline (take (c.len.result - mid.start) w)) gets.2 ∙ ap has_newline (take_at (waiting mid) gets.0 (c.len.result - mid.start) (sym seen)) ∙ plain;
       goes_on = c.more.ensures.goes_on;
@@ -45,10 +45,10 @@ returns-in-Nothing-clause-reads g c =
     let skipped = skipped-more c.if-long.long c.pieces.invariant.skipped.1 none skips.1 long in
     let plain = skips-plain skips.1 none in
     let gets = c.in-Nothing.ensures.gets in
-    let same = skipped-same c.more.new.self skipped plain gets.0 gets.1 c.more.ensures.answered in
-    reads-end c.answer_at_end.new.self c.answer_at_end.result same c.pieces.invariant.was_open c.answer_at_end.ensures.ended
+    let same = skipped-same c.more.new.self skipped plain gets.0 gets.1 c.more.ensures.bytes_read in
+    reads-end c.next_at_end.new.self c.next_at_end.result same c.pieces.invariant.was_open c.next_at_end.ensures.ended
     (ap has_newline gets.0 ∙ plain) (omega (arith, ap length gets.0, skips.1.room)) gets.2
-    c.answer_at_end.ensures.rest c.answer_at_end.ensures.counted c.answer_at_end.ensures.line c.answer_at_end.ensures.answer
+    c.next_at_end.ensures.rest c.next_at_end.ensures.counted c.next_at_end.ensures.line c.next_at_end.ensures.next
 
 pub returns-in-Broken-clause-reads : goal.returns-in-Broken-clause-reads
 returns-in-Broken-clause-reads g c =
@@ -60,7 +60,7 @@ returns-in-Broken-clause-reads g c =
     let plain = skips-plain skips.1 none in
     let gets = c.in-Broken.ensures.gets in
     let new = c.more.new.self in
-    let same = skipped-same new skipped plain gets.0 gets.1 c.more.ensures.answered in
+    let same = skipped-same new skipped plain gets.0 gets.1 c.more.ensures.bytes_read in
     let gone : List ℕ = c.pieces.invariant.skipped.0 ++ skips.0 in (
       gone ++ waiting new,
       reads-part new same c.pieces.invariant.was_open c.more.ensures.goes_on (ap has_newline gets.0 ∙ plain) refl refl,
@@ -81,7 +81,7 @@ returns-in-Beyond-clause-reads g c =
       gone ++ waiting mid,
       gets.1,
       g.S.Source.left c.pieces.source,
-      reads-part c.more.new.self skipped c.pieces.invariant.was_open c.more.ensures.goes_on plain gets.0 c.more.ensures.answered,
+      reads-part c.more.new.self skipped c.pieces.invariant.was_open c.more.ensures.goes_on plain gets.0 c.more.ensures.bytes_read,
       omega (arith, skipped.counted, length-append gone (waiting mid), gets.4, c.skip_full-full.ensures.limit, c.pieces.invariant.limit),
       gets.2,
       gets.3,

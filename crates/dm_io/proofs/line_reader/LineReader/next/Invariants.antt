@@ -1,6 +1,6 @@
 use Rattle.std.proofs.Common.{◌≡◌, ◌≤◌, ◌-◌, ◌+◌, ℕ, List, false, length, take}
 use Rattle.dm_io.specs.Lines.{has_newline}
-use Rattle.dm_io.specs.Reader.{answered, limit_of, lines_answered, saw_end, waiting}
+use Rattle.dm_io.specs.Reader.{bytes_read, limit_of, lines_read, saw_end, waiting}
 use Rattle.dm_io.proofs.Skipped.{Skipped}
 use Rattle.dm_io.proofs.line_reader.LineReader.next.Given as goal
 
@@ -14,9 +14,9 @@ invariant-pieces g l =
       goes_on : saw_end l.self ≡ false;
       was_open : saw_end l.fn.self ≡ false;
       limit : limit_of l.self ≡ limit_of l.fn.self;
-      number : lines_answered l.self ≡ lines_answered l.fn.self;
+      number : lines_read l.self ≡ lines_read l.fn.self;
       quiet : source.faults l.source ≡ source.faults l.fn.source;
     }
 
 abbrev pub decreases-pieces : goal.decreases-pieces
-decreases-pieces g l = limit_of l.self - (answered l.self + length (waiting l.self))
+decreases-pieces g l = limit_of l.self - (bytes_read l.self + length (waiting l.self))

@@ -1,7 +1,7 @@
 use Rattle.std.proofs.Common.{◌++◌, take, arith}
 use Rattle.std.proofs.lemmas.Grind.{common_steps}
 use Rattle.dm_io.proofs.Told.{with_front-more}
-use Rattle.dm_io.proofs.whole.read_all.Goals as goal
+use Rattle.dm_io.proofs.read_write_all.read_all.Goals as goal
 
 pub returns-then-is_err-clause-no_memory : goal.returns-then-is_err-clause-no_memory
 returns-then-is_err-clause-no_memory g c = (

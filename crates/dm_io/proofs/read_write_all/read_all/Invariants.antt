@@ -1,6 +1,6 @@
 use Rattle.std.proofs.Common.{◌≡◌, ◌≤◌, ◌-◌, ◌+◌, length}
 use Rattle.dm_io.specs.Streams.{with_front}
-use Rattle.dm_io.proofs.whole.read_all.Given as goal
+use Rattle.dm_io.proofs.read_write_all.read_all.Given as goal
 
 abbrev pub invariant-chunks : goal.invariant-chunks
 invariant-chunks g l =

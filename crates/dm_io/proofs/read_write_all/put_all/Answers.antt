@@ -1,7 +1,7 @@
 use Rattle.std.proofs.Common.{arith}
 use Rattle.std.proofs.lemmas.Grind.{common_steps}
 use Rattle.dm_io.proofs.Told.{with_end-more}
-use Rattle.dm_io.proofs.whole.put_all.Goals as goal
+use Rattle.dm_io.proofs.read_write_all.put_all.Goals as goal
 
 pub loop-done-preserved : goal.loop-done-preserved
 loop-done-preserved g c = record {

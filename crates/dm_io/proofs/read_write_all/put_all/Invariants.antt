@@ -1,6 +1,6 @@
 use Rattle.std.proofs.Common.{◌≡◌, ◌≤◌, ◌-◌, length, take}
 use Rattle.dm_io.specs.Streams.{with_end}
-use Rattle.dm_io.proofs.whole.put_all.Given as goal
+use Rattle.dm_io.proofs.read_write_all.put_all.Given as goal
 
 abbrev pub invariant-loop-done : goal.invariant-loop-done
 invariant-loop-done g l =

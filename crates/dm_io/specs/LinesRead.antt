@@ -1,0 +1,32 @@
+-- What a reader of lines has read so far: these bytes of the source, as these lines.
+use Rattle.std.specs.Prelude.{◌≡◌, ◌≤◌, ℕ, List, [], ◌∷◌, ◌++◌, true, false, length, Option}
+use Rattle.std.specs.List.{slice_split}
+use Rattle.text_spec.specs.Lines.{is_newline, lines_of}
+use Rattle.dm_io.specs.Reader.{ahead, bytes_read, lines_read, saw_end, waiting}
+use Rattle.dm_io.specs.Streams.{IsFront, IsIfTold}
+use Rattle.dm_io.specs.declared.line_reader.LineReader.{LineReader}
+
+-- the parts but for the last
+unfoldable pub without_last : List (List ℕ) → List (List ℕ)
+without_last [] = []
+without_last (part ∷ []) = []
+without_last (part ∷ next ∷ parts) = part ∷ without_last (next ∷ parts)
+
+-- the lines whose newline is among the bytes, each as it stands before its newline
+abbrev pub whole_lines_of : List ℕ → List (List ℕ)
+whole_lines_of bytes = without_last (slice_split is_newline bytes)
+
+-- the bytes are these lines, each with its newline: whatever follows, they come first among its lines and its whole lines
+pub record AreLines (bytes : List ℕ) (lines : List (List ℕ)) : Type 0 where
+  pub all : (rest : List ℕ) → lines_of (bytes ++ rest) ≡ lines ++ lines_of rest
+  pub whole : (rest : List ℕ) → whole_lines_of (bytes ++ rest) ≡ lines ++ whole_lines_of rest
+
+-- the bytes were read as these lines, and what is ahead of the reader follows them in the source; a loop that reads line
+-- after line carries this
+pub record HasRead (reader : LineReader) (source left : Option (List ℕ)) (bytes : List ℕ) (lines : List (List ℕ)) : Type 0 where
+  pub taken : IsFront source bytes (ahead reader left)
+  pub number : lines_read reader ≡ length lines
+  pub count : bytes_read reader ≡ length bytes
+  pub few : length lines ≤ length bytes
+  pub goes_on : saw_end reader ≡ false → AreLines bytes lines
+  pub ended : saw_end reader ≡ true → (lines_of bytes ≡ lines) × (waiting reader ≡ []) × IsIfTold [] left
