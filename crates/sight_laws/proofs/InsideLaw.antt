@@ -19,7 +19,6 @@ use Rattle.plan_spec.specs.Scene.{walls_round, scene_of}
 use Rattle.plan_spec.specs.Plan.{Obstacle, Plan}
 use Rattle.plan_spec.specs.Accepted.{is_polygon, lies_within, is_sound}
 use Rattle.plan_spec.specs.Sight.{are_in_sight, has_inside, is_open}
-use Rattle.plan_spec.proofs.Laws.{a_polygon_is_simple}
 use Rattle.plan_laws.proofs.Parts.{first_of_both, second_of_both, parts_of_sound, parts_of_obstacles}
 use Rattle.plan_laws.proofs.Ranges.{each_is}
 use Rattle.exact_geom.proofs.Orientation.{orient_of_cycled, orient_of_first_exchanged}
@@ -266,7 +265,7 @@ not_inside_where_open plan o p sound there convex is_free =
     let polygons = each_is (λ w. is_polygon w.points && lies_within plan.outer w.points) (λ w. is_polygon w.points ≡ true)
     (λ w. first_of_both (is_polygon w.points) (lies_within plan.outer w.points)) plan.obstacles (parts_of_obstacles plan (parts_of_sound plan sound).obstacles).polygons in
     let polygon = of_member (λ w. is_polygon w.points ≡ true) plan.obstacles o polygons there in
-    let simple = second_of_both (list_all is_in_range o.points) (is_simple o.points) (sym (a_polygon_is_simple o.points) ∙ polygon) in
+    let simple = second_of_both (list_all is_in_range o.points) (is_simple o.points) polygon in
     let none = not-true (list_any (has_inside p) plan.obstacles) (second_of_both (is_on_border p plan.outer || is_inside p plan.outer) (not (list_any (has_inside p) plan.obstacles)) is_free) in
     let outside = of_member (λ w. has_inside p w ≡ false) plan.obstacles o (none_passes (has_inside p) plan.obstacles none) there in
     false_from_ne_true (is_strictly_inside (walls_round true o.points) p)

@@ -15,7 +15,6 @@ use Rattle.plan_spec.specs.Accepted.{is_polygon, lies_within, is_sound}
 use Rattle.plan_spec.specs.Plan.{Plan}
 use Rattle.plan_spec.specs.Scene.{scene_of, walls_round, walls_of_obstacle}
 use Rattle.plan_spec.specs.Sight.{has_inside, is_open, are_in_sight}
-use Rattle.plan_spec.proofs.Laws.{a_polygon_is_simple}
 use Rattle.sight_laws.specs.Convex.{is_convex, is_strictly_inside, is_on_or_inside, is_convex_obstacle, has_both_inside, has_convex_polygons, SeesPast}
 use Rattle.sight_laws.proofs.ThroughRings.{weaker, both}
 use Rattle.sight_laws.proofs.InsideLaw.{not_inside_where_open}
@@ -25,7 +24,7 @@ use Rattle.sight_laws.proofs.PlansLaw.{seen_among_convex_polygons}
 -- ---- polygons
 
 simple_polygon : (points : List Point) → is_polygon points ≡ true → is_simple points ≡ true
-simple_polygon points h = (and_parts (list_all is_in_range points) (is_simple points) (sym (a_polygon_is_simple points) ∙ h)).1
+simple_polygon points h = (and_parts (list_all is_in_range points) (is_simple points) h).1
 
 has_no_repeat : (points : List Point) → is_simple points ≡ true → has_repeat points ≡ false
 has_no_repeat points h =
