@@ -1,5 +1,5 @@
 -- What is seen between open points of a sound plan of convex polygons.
-use Rattle.std.proofs.Common.{◌≡◌, ◌↔◌, Bool, true, false, not, ◌&&◌, ◌||◌, refl, sym, ◌∙◌, List, length}
+use Rattle.std.proofs.Common.{◌≡◌, ◌↔◌, Bool, true, false, not, ◌&&◌, ◌||◌, refl, ◌∙◌, List, length}
 use Rattle.std.specs.Prelude.{Contains, nat_le}
 use Rattle.std.specs.List.{list_all, list_any}
 use Rattle.std.proofs.lemmas.Bool.{and_from, and_parts, not-true}
