@@ -6,13 +6,13 @@ use Rattle.std.proofs.lemmas.List.{length_push}
 use Rattle.plan_spec.specs.declared.kinds.Item.{Item}
 use Rattle.plan_spec.specs.declared.kinds.Item.TheVariants.{Grid, Outer, Obstacle as ObstacleItem, Screen as ScreenItem, Route as RouteItem}
 use Rattle.plan_spec.specs.Plan.{Plan, empty_plan, with_item, obstacle, screen, route}
-use Rattle.plan_spec.specs.Accepted.{is_sound}
 use Rattle.plan_spec.specs.Refusals.{why_not_item, why_not_grid, why_not_obstacle, why_not_screen, why_not_route}
-use Rattle.plan_laws.specs.Order.{may_follow}
+use Rattle.plan_spec.specs.Accepted.{is_sound, may_follow}
 use Rattle.plan_laws.proofs.Adding.Items.{added_item_is_sound, added_outer_is_sound}
 use Rattle.plan_laws.proofs.Ranges.{sound_has_outer}
-use Rattle.plan_check.specs.Drafts.{IsDraft}
-use Rattle.plan_check.proofs.Causes.{first_outer, first_grid}
+use Rattle.plan_check.specs.Kept.{IsDraft}
+use Rattle.plan_laws.proofs.Adding.Grids.{first_grid}
+use Rattle.plan_laws.proofs.Adding.Outers.{first_outer}
 use Rattle.plan_check.proofs.Counts.{part_count, one_if}
 
 -- on the plan of no items only an outer polygon isn't refused

@@ -3,7 +3,7 @@ use Rattle.std.specs.Prelude.{ℕ, ◌+◌, ◌≤◌, Bool, true, false, length
 use Rattle.std.proofs.Common.{inl, inr, arith, ap}
 use Rattle.plan_spec.specs.Plan.{Plan, has_outer}
 use Rattle.plan_laws.proofs.Ranges.{sound_limits}
-use Rattle.plan_check.specs.Drafts.{IsDraft}
+use Rattle.plan_check.specs.Kept.{IsDraft}
 
 abbrev pub one_if : Bool → ℕ
 one_if test = if test then 1 else 0

@@ -8,7 +8,7 @@ use Rattle.plane_spec.specs.declared.PlanBox.{PlanBox}
 use Rattle.plane_spec.specs.Boxes.{with_point, with_points, box_of_points}
 use Rattle.plan_spec.specs.Edits.{shifted_point}
 use Rattle.plan_laws.proofs.Shifts.{lt_shifted}
-use Rattle.plan_check.specs.Shifts.{shifted_box}
+use Rattle.plan_spec.specs.Edits.{shifted_box}
 
 either_shifted : (t : Bool) (a b d : ℤ) → cond t (a +ℤ d) (b +ℤ d) ≡ cond t a b +ℤ d
 either_shifted true a b d = refl

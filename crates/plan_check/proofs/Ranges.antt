@@ -9,7 +9,7 @@ use Rattle.plan_spec.specs.declared.kinds.Screen.{Screen}
 use Rattle.plan_spec.specs.declared.kinds.Route.{Route}
 use Rattle.plan_spec.specs.Plan.{Obstacle, Plan}
 use Rattle.plan_spec.specs.Accepted.{is_sound}
-use Rattle.plan_laws.specs.Ranges.{IsLineInRange, IsPolygonInRange}
+use Rattle.plan_spec.specs.Ranges.{IsLineInRange, IsPolygonInRange}
 use Rattle.plan_laws.proofs.Ranges.{sound_obstacles, sound_screens, sound_routes}
 
 -- what holds of all elements holds of the next

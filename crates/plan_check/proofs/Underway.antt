@@ -9,7 +9,7 @@ use Rattle.plan_spec.specs.Plan.{Plan, has_outer, with_item}
 use Rattle.plan_spec.specs.Accepted.{is_accepted}
 use Rattle.plan_spec.specs.Refusals.{checked, checked_from, why_not_item}
 use Rattle.plan_laws.proofs.Checking.{accepted_is_ok, checked_on, checked_no_further, checked_at_end}
-use Rattle.plan_check.specs.Drafts.{IsDraft}
+use Rattle.plan_check.specs.Kept.{IsDraft}
 use Rattle.plan_check.proofs.Adding.{added_is_sound, part_added}
 use Rattle.plan_check.proofs.Counts.{part_count}
 

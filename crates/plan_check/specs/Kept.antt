@@ -1,12 +1,14 @@
--- What the entries of a table by name stand for.
-use Rattle.std.specs.Prelude.{ℕ, List, [], map, Option, slice_index_or}
+-- What the tables of a draft stand for, and when a draft is a plan.
+use Rattle.std.specs.Prelude.{◌≡◌, ◌⊎◌, IsTrue, ℕ, List, [], map, Option, slice_index_or}
 use Rattle.plane_spec.specs.declared.Point.{Point}
 use Rattle.plane_spec.specs.declared.Segment.{Segment}
 use Rattle.plan_spec.specs.declared.kinds.GridSpec.{GridSpec}
 use Rattle.plan_spec.specs.declared.kinds.Screen.{Screen}
 use Rattle.plan_spec.specs.declared.kinds.Route.{Route}
-use Rattle.plan_spec.specs.Plan.{Obstacle, Plan, obstacle, screen, route}
+use Rattle.plan_spec.specs.Plan.{Obstacle, Plan, obstacle, screen, route, empty_plan}
+use Rattle.plan_spec.specs.Accepted.{is_sound}
 
+-- the obstacle, the screen and the route of an entry by name
 abbrev pub kept_obstacle : List ℕ × List Point → Obstacle
 kept_obstacle e = obstacle e.0 e.1
 
@@ -29,3 +31,7 @@ kept_plan outer grid obstacles screens routes = record {
 -- the k-th obstacle, counted from 0; past the last one it has no points
 abbrev pub obstacle_at : Plan → ℕ → Obstacle
 obstacle_at plan k = slice_index_or plan.obstacles k (obstacle [] [])
+
+-- the plan of no items, or a sound one
+abbrev pub IsDraft : Plan → Type 0
+IsDraft plan = (plan ≡ empty_plan) ⊎ IsTrue (is_sound plan)

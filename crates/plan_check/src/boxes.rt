@@ -6,7 +6,6 @@ ghost use Rattle.plane_spec.specs.Vectors.{InRange};
 ghost use Rattle.plan_spec.specs.Accepted.{is_sound};
 ghost use Rattle.plan_spec.specs.Edits as edits;
 ghost use Rattle.plan_spec.specs.Edits.{HasShift, IsShift};
-ghost use Rattle.plan_check.specs.Shifts as shifts;
 
 use crate::draft::Draft;
 use crate::shifts::shifted_point;
@@ -38,7 +37,7 @@ fn shifted_box(area: PlanBox, dx: i64, dy: i64) -> PlanBox
     requires low_in { InRange area.low }
     requires high_in { InRange area.high }
     requires shift { IsShift dx dy }
-    ensures { result ≡ shifts.shifted_box dx dy area }
+    ensures { result ≡ edits.shifted_box dx dy area }
 {
     PlanBox {
         low: shifted_point(area.low, dx, dy),

@@ -6,7 +6,7 @@ ghost use Rattle.plan_spec.specs.Plan.{with_item};
 ghost use Rattle.plan_spec.specs.Refusals.{checked, why_not_item};
 ghost use Rattle.plan_check.specs.Faults.{IfBad};
 
-use crate::copies::copied_points;
+use crate::plan_parts::copied_points;
 use crate::draft::Draft;
 use crate::plan::Plan;
 use crate::refusals::why_not_item;

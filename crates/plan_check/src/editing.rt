@@ -1,16 +1,16 @@
 //! Edits of a plan: why one is refused, and what it makes.
 
-ghost use Rattle.std.specs.Prelude.{All, ◌≡◌, IsTrue, None, not, IfOk};
-ghost use Rattle.plane_spec.specs.Vectors.{InRange};
+ghost use Rattle.std.specs.Prelude.{◌≡◌, IsTrue, None, not, IfOk};
 ghost use Rattle.plan_spec.specs.Accepted.{is_sound};
 ghost use Rattle.plan_spec.specs.Edits as edits;
 ghost use Rattle.plan_spec.specs.Refusals as refusals;
 ghost use Rattle.plan_spec.specs.Edits.{HasShift, IsShift};
 
-use crate::copies::copied_points;
+use crate::plan_parts::copied_points;
 use crate::draft::Draft;
-use crate::polygons::{lies_within, polygons_meet};
-use crate::refusals::{all_in_range, screen_met, why_not_obstacle, why_not_route, why_not_screen};
+use crate::place_refusals::why_not_polygon_in;
+use crate::refusals::{why_not_obstacle, why_not_route, why_not_screen};
+use crate::shape_refusals::all_in_range;
 use crate::shifts::shifted_points;
 use plan_spec::{Edit, Why};
 use plane_spec::Point;
@@ -39,38 +39,19 @@ impl From<NoMemory> for EditFault {
 
 // ---- refusals
 
-/// The first obstacle of another name that meets the polygon.
-fn other_obstacle_met(draft: &Draft, name: &Name, points: &[Point]) -> Option<Why>
-    requires sound { IsTrue (is_sound draft.now) }
-    requires points_in { All InRange points.now }
-    ensures { result ≡ refusals.first_obstacle (refusals.obstacles_met points.now (edits.without_obstacle name.now draft.now.obstacles)) None }
-{
-    for k in 0..draft.obstacles() {
-        let other = draft.obstacle_name(k);
-        if other != name && polygons_meet(draft.obstacle(k), points) {
-            return Some(Why::Touch(other.copy()));
-        }
-    }
-    None
-}
-
-/// What the moved polygon is refused for.
-fn why_not_moved(draft: &Draft, name: &Name, points: &[Point]) -> Option<Why>
-    requires { IsTrue (is_sound draft.now) }
-    ensures { result ≡ edits.why_not_moved draft.now name.now points.now }
+/// What the moved polygon is refused for in the plan of the others.
+#[tactic(auto, unfolding(plan_spec::specs::Edits::why_not_moved))]
+fn why_not_moved(others: &Draft, points: &[Point]) -> Option<Why>
+    requires { IsTrue (is_sound others.now) }
+    ensures { result ≡ edits.why_not_moved others.now points.now }
 {
     if !all_in_range(points) {
         return Some(Why::Range);
     }
-    if !lies_within(draft.outer(), points) {
-        return Some(Why::Outside);
-    }
-    if let Some(why) = other_obstacle_met(draft, name, points) {
-        return Some(why);
-    }
-    screen_met(draft, points)
+    why_not_polygon_in(others, points)
 }
 
+/// Why a move is refused. The moved polygon is tested in the plan without the obstacle, as a new one would be.
 #[tactic(auto, unfolding(plan_spec::specs::Edits::why_not_edit))]
 fn why_not_move(
     alloc: Global,
@@ -83,24 +64,24 @@ fn why_not_move(
     requires shift { IsShift dx dy }
     ensures { IfOk result (λ why. why ≡ edits.why_not_edit draft.now (Edit.Move name.now dx dy)) }
 {
-    match draft.polygon_named(name) {
-        Some(points) => {
-            let moved = shifted_points(alloc, points, dx, dy)?;
-            Ok(why_not_moved(draft, name, moved.as_slice()))
-        }
-        None => Ok(Some(Why::Missing)),
-    }
+    let Some(points) = draft.polygon_named(name) else {
+        return Ok(Some(Why::Missing));
+    };
+    let moved = shifted_points(alloc, points, dx, dy)?;
+    let mut others = draft.copied(alloc)?;
+    others.remove_obstacle(name);
+    Ok(why_not_moved(&others, moved.as_slice()))
 }
 
 /// The cause where what is to be removed isn't there.
 fn missing_unless(is_there: bool) -> Option<Why>
-    ensures { result ≡ refusals.first_if (not is_there) Why.Missing None }
+    ensures { result ≡ refusals.when (not is_there) Why.Missing }
 {
     if is_there { None } else { Some(Why::Missing) }
 }
 
 /// The first cause for which the edit is refused, or `None` where nothing refuses it. A move takes memory for the moved
-/// points.
+/// points and for a copy of the plan.
 #[tactic(auto, unfolding(plan_spec::specs::Edits::why_not_edit))]
 pub(crate) fn why_not_edit(
     alloc: Global,

@@ -3,17 +3,14 @@
 ghost use Rattle.std.specs.Prelude.{◌≡◌, ◌^◌, ◌&&◌, pos, ◌≤ℤ◌, ◌+ℤ◌, ◌-ℤ◌, ◌*ℤ◌, int_le};
 ghost use Rattle.std.specs.Bool.{OnTrue};
 ghost use Rattle.plane_spec.specs.Vectors as vectors;
+ghost use Rattle.plan_spec.specs.declared.limits.TheConstants.{MOST_STEP};
 ghost use Rattle.plan_spec.specs.Accepted as accepted;
 
-use plan_spec::GridSpec;
+use plan_spec::{GridSpec, MOST_GRID_POINTS, MOST_STEP};
 
 const LEAST_COORDINATE: i128 = -100_000;
 
 const MOST_COORDINATE: i128 = 100_000;
-
-const MOST_STEP: i64 = 999_999_999;
-
-const MOST_POINTS: i128 = 4096;
 
 /// The product, which always fits twice as many bits.
 fn product(a: i64, b: i64) -> i128
@@ -67,16 +64,16 @@ fn is_from_one(most: i64, z: i64) -> bool
     1 <= z && z <= most
 }
 
-/// Whether the step is from 1 to 999999999, and there is at least one column and one row.
+/// Whether the step is at least 1 and not too long, and there is at least one column and one row.
 fn has_points(grid: GridSpec) -> bool
-    ensures value { result ≡ (accepted.is_from_one (pos 999999999) grid.step && (int_le (pos 1) grid.cols && int_le (pos 1) grid.rows)) }
+    ensures value { result ≡ (accepted.is_from_one MOST_STEP grid.step && (int_le (pos 1) grid.cols && int_le (pos 1) grid.rows)) }
     ensures cols { OnTrue result (pos 1 ≤ℤ grid.cols) }
     ensures rows { OnTrue result (pos 1 ≤ℤ grid.rows) }
 {
     is_from_one(MOST_STEP, grid.step) && 1 <= grid.cols && 1 <= grid.rows
 }
 
-/// Whether the step is from 1 to 999999999, there is at least one column and one row, and all points are in range.
+/// Whether the step is at least 1 and not too long, there is at least one column and one row, and all points are in range.
 #[tactic(auto, unfolding(plan_spec::specs::Accepted::is_grid_in_range))]
 pub(crate) fn is_grid_in_range(grid: GridSpec) -> bool
     ensures { result ≡ accepted.is_grid_in_range grid }
@@ -87,9 +84,9 @@ pub(crate) fn is_grid_in_range(grid: GridSpec) -> bool
     is_row_in_range(grid.x0, grid.step, grid.cols) && is_row_in_range(grid.y0, grid.step, grid.rows)
 }
 
-/// Whether there are at most 4096 points.
+/// Whether there are no more points than a grid may have.
 pub(crate) fn is_grid_small(grid: GridSpec) -> bool
     ensures { result ≡ accepted.is_grid_small grid }
 {
-    product(grid.cols, grid.rows) <= MOST_POINTS
+    product(grid.cols, grid.rows) <= MOST_GRID_POINTS as i128
 }

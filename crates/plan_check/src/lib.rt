@@ -14,14 +14,15 @@
 
 mod boxes;
 mod checking;
-mod copies;
 mod draft;
 mod editing;
 mod grid;
-mod listing;
+mod place_refusals;
 mod plan;
+mod plan_parts;
 mod polygons;
 mod refusals;
+mod shape_refusals;
 mod sharing;
 mod shifts;
 

@@ -5,14 +5,14 @@ ghost use Rattle.plan_spec.specs.Accepted.{is_sound};
 ghost use Rattle.plan_spec.specs.Plan.{is_route_named, items_of};
 ghost use Rattle.plan_spec.specs.Refusals.{checked};
 ghost use Rattle.plan_spec.specs.Edits.{HasShift, changed_boxes, edited, why_not_edit};
-ghost use Rattle.plan_laws.specs.Ranges.{AreBoxesInRange};
+ghost use Rattle.plan_spec.specs.Ranges.{AreBoxesInRange};
 ghost use Rattle.plan_check.specs.Faults.{IfRefused};
 ghost use Rattle.plan_check.specs.Kept.{obstacle_at};
 
 use crate::boxes::changed_boxes;
 use crate::draft::Draft;
 use crate::editing::{EditFault, edited, why_not_edit};
-use crate::listing::listed;
+use crate::plan_parts::listed;
 use plan_spec::{Changed, Edit, GridSpec, PlanData, Route, Screen};
 use plane_spec::Point;
 use std::alloc::Global;

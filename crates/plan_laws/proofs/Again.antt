@@ -12,7 +12,7 @@ use Rattle.plan_spec.specs.declared.kinds.Item.{Item}
 use Rattle.plan_spec.specs.Plan.{Obstacle, Plan, empty_plan, with_outer, with_grid, with_obstacles, with_screens, with_routes, with_item, with_items, grid_items, obstacle_item, screen_item, route_item, items_of}
 use Rattle.plan_spec.specs.Accepted.{are_in_order, is_sound, is_accepted}
 use Rattle.plan_spec.specs.Refusals.{checked}
-use Rattle.plan_laws.specs.Order.{may_follow}
+use Rattle.plan_spec.specs.Accepted.{may_follow}
 use Rattle.plan_laws.proofs.Checking.{may_all_follow, order_after_outer, accepted_makes}
 
 -- ---- the plan that they make

@@ -11,15 +11,13 @@ use Rattle.plane_spec.specs.Boxes.{with_point, with_points, box_of_points}
 use Rattle.plan_spec.specs.declared.kinds.Screen.{Screen}
 use Rattle.plan_spec.specs.declared.changes.Edit.{Edit}
 use Rattle.plan_spec.specs.declared.changes.Edit.TheVariants.{Add, Remove, Move, AddScreen, RemoveScreen, AddRoute, RemoveRoute}
-use Rattle.plan_spec.specs.declared.refusals.Why.TheVariants.{Missing}
 use Rattle.plan_spec.specs.Plan.{Obstacle, Plan, obstacle, screen, with_item, is_obstacle_named, is_screen_named}
 use Rattle.plan_spec.specs.Accepted.{lies_within, polygons_meet, line_meets_polygon, is_sound}
-use Rattle.plan_spec.specs.Edits.{shifted_point, points_named, ends_named, without_obstacle, why_not_moved, why_not_edit, edited, changed_boxes}
-use Rattle.plan_laws.specs.Ranges.{IsPolygonInRange, IsLineInRange, IsBoxInRange, AreBoxesInRange}
+use Rattle.plan_spec.specs.Edits.{shifted_point, points_named, ends_named, why_not_moved, why_not_edit, edited, changed_boxes}
+use Rattle.plan_spec.specs.Ranges.{IsPolygonInRange, IsLineInRange, IsBoxInRange, AreBoxesInRange}
 use Rattle.plan_laws.proofs.Ranges.{points_in_range, obstacles_in_range, sound_obstacles, sound_screens}
-use Rattle.plan_laws.proofs.Adding.Causes.{none_after_test}
 use Rattle.plan_laws.proofs.Adding.Items.{no_cause}
-use Rattle.plan_laws.proofs.Edits.Refused.{fits_when_moved, edited_is_sound}
+use Rattle.plan_laws.proofs.Edits.Refused.{others_of, moved_points, fits_when_moved, none_of_move, edited_is_sound}
 
 -- ---- the box of points in range
 
@@ -104,15 +102,15 @@ added_screen_in p name from to h none =
     (sound_screens (edited p (AddScreen name from to)) (edited_is_sound p (AddScreen name from to) h none))
 
 moved_points_in : (p : Plan) (name : List ℕ) (dx dy : ℤ) → why_not_edit p (Move name dx dy) ≡ None → All InRange (map (shifted_point dx dy) (points_named name p.obstacles))
-unfolding why_not_edit
 moved_points_in p name dx dy none =
-    let points : List Point = map (shifted_point dx dy) (points_named name p.obstacles) in
+    let points : List Point = moved_points p name dx dy in
+    let others : Plan = others_of p name in
     let there : Bool = list_any (is_obstacle_named name) p.obstacles in
     let fits : Bool =
-    lies_within p.outer points
-    && (not (list_any (λ x. polygons_meet x.points points) (without_obstacle name p.obstacles)) && not (list_any (λ s. line_meets_polygon s.from s.to points) p.screens)) in
-    let tests = and_parts (not (not there)) (is_none (why_not_moved p name points)) (sym (none_after_test (not there) Missing (why_not_moved p name points)) ∙ no_cause _ none) in
-    points_in_range points (and_parts (list_all is_in_range points) fits (sym (fits_when_moved p name points) ∙ tests.1)).0
+    lies_within others.outer points
+    && (not (list_any (λ x. polygons_meet x.points points) others.obstacles) && not (list_any (λ s. line_meets_polygon s.from s.to points) others.screens)) in
+    let tests = and_parts there (is_none (why_not_moved others points)) (sym (none_of_move p name dx dy) ∙ no_cause _ none) in
+    points_in_range points (and_parts (list_all is_in_range points) fits (sym (fits_when_moved others points) ∙ tests.1)).0
 
 -- ---- every edit
 

@@ -12,9 +12,8 @@ use Rattle.plan_spec.specs.declared.kinds.Item.TheVariants.{Grid, Outer, Obstacl
 use Rattle.plan_spec.specs.declared.refusals.Why.{Why}
 use Rattle.plan_spec.specs.declared.refusals.Why.TheVariants.{Order}
 use Rattle.plan_spec.specs.Plan.{Plan, empty_plan, with_item, with_items, with_outer, with_grid, has_outer}
-use Rattle.plan_spec.specs.Accepted.{is_outer, is_grid, are_in_order, is_sound, is_accepted}
+use Rattle.plan_spec.specs.Accepted.{is_outer, is_grid, may_follow, are_in_order, is_sound, is_accepted}
 use Rattle.plan_spec.specs.Refusals.{why_not_item, why_not_grid, why_not_outer, why_not_obstacle, why_not_screen, why_not_route, refused_at, checked_from, checked}
-use Rattle.plan_laws.specs.Order.{may_follow}
 use Rattle.plan_laws.proofs.Adding.Causes.{outer_test_drops}
 use Rattle.plan_laws.proofs.Adding.Items.{sound_with_item}
 use Rattle.plan_laws.proofs.Adding.Outers.{sound_with_outer}

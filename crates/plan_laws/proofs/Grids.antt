@@ -8,10 +8,11 @@ use Rattle.std.proofs.lemmas.List.Elements.{All-nil, All-cons, All-append, All-m
 use Rattle.std.proofs.lemmas.List.FromFn.{length-range_with_len}
 use Rattle.plane_spec.specs.Vectors.{IsWithin, InRange, is_coordinate}
 use Rattle.plan_spec.specs.declared.kinds.GridSpec.{GridSpec}
+use Rattle.plan_spec.specs.declared.limits.TheConstants.{MOST_GRID_POINTS, MOST_STEP}
 use Rattle.plan_spec.specs.Plan.{Plan}
 use Rattle.plan_spec.specs.Accepted.{is_grid_sound, is_grid_in_range, is_grid_small, is_from_one, is_row_in_range, is_sound}
 use Rattle.plan_spec.specs.Grid.{point_at, row_points, grid_points}
-use Rattle.plan_laws.specs.Ranges.{IsGridInRange}
+use Rattle.plan_spec.specs.Ranges.{IsGridInRange}
 use Rattle.plan_laws.proofs.Parts.{first_of_both, second_of_both, parts_of_sound}
 use Rattle.plan_laws.proofs.Ranges.{coordinate_within}
 
@@ -21,30 +22,30 @@ at_most : (y z : ℤ) → int_le y z ≡ true → y ≤ℤ z
 at_most y z h = grind (arith, ints)
 
 -- one of two numbers of at least 1 is at most their product
-factor_of_small : (m n : ℤ) → pos 1 ≤ℤ m → pos 1 ≤ℤ n → (m *ℤ n) ≤ℤ pos 4096 → (m ≤ℤ pos 4096) × (n ≤ℤ pos 4096)
-factor_of_small (pos (suc m)) (pos (suc n)) h k e = (omega (arith, ints), omega (arith, ints))
-factor_of_small (pos m) (negsuc n) h k e = absurd (omega (arith, ints))
-factor_of_small (negsuc m) n h k e = absurd (omega (arith, ints))
-factor_of_small m n h k e = absurd (omega (arith, ints))
+factor_of_small : (most : ℕ) (m n : ℤ) → pos 1 ≤ℤ m → pos 1 ≤ℤ n → (m *ℤ n) ≤ℤ pos most → (m ≤ℤ pos most) × (n ≤ℤ pos most)
+factor_of_small most (pos (suc m)) (pos (suc n)) h k e = (omega (arith, ints), omega (arith, ints))
+factor_of_small most (pos m) (negsuc n) h k e = absurd (omega (arith, ints))
+factor_of_small most (negsuc m) n h k e = absurd (omega (arith, ints))
+factor_of_small most m n h k e = absurd (omega (arith, ints))
 
 pub grid_is : (g : GridSpec) → (is_grid_in_range g && is_grid_small g) ≡ true → IsGridInRange g
 unfolding is_grid_in_range
 grid_is g h =
-    let small = at_most (g.cols *ℤ g.rows) (pos 4096) (second_of_both (is_grid_in_range g) (is_grid_small g) h) in
+    let small = at_most (g.cols *ℤ g.rows) (pos MOST_GRID_POINTS) (second_of_both (is_grid_in_range g) (is_grid_small g) h) in
     let all = first_of_both (is_grid_in_range g) (is_grid_small g) h in
-    let numbers = first_of_both (is_from_one (pos 999999999) g.step && (int_le (pos 1) g.cols && int_le (pos 1) g.rows)) (is_row_in_range g.x0 g.step g.cols && is_row_in_range g.y0 g.step g.rows) all in
-    let ends = second_of_both (is_from_one (pos 999999999) g.step && (int_le (pos 1) g.cols && int_le (pos 1) g.rows)) (is_row_in_range g.x0 g.step g.cols && is_row_in_range g.y0 g.step g.rows) all in
-    let step = first_of_both (is_from_one (pos 999999999) g.step) (int_le (pos 1) g.cols && int_le (pos 1) g.rows) numbers in
-    let counts = second_of_both (is_from_one (pos 999999999) g.step) (int_le (pos 1) g.cols && int_le (pos 1) g.rows) numbers in
+    let numbers = first_of_both (is_from_one MOST_STEP g.step && (int_le (pos 1) g.cols && int_le (pos 1) g.rows)) (is_row_in_range g.x0 g.step g.cols && is_row_in_range g.y0 g.step g.rows) all in
+    let ends = second_of_both (is_from_one MOST_STEP g.step && (int_le (pos 1) g.cols && int_le (pos 1) g.rows)) (is_row_in_range g.x0 g.step g.cols && is_row_in_range g.y0 g.step g.rows) all in
+    let step = first_of_both (is_from_one MOST_STEP g.step) (int_le (pos 1) g.cols && int_le (pos 1) g.rows) numbers in
+    let counts = second_of_both (is_from_one MOST_STEP g.step) (int_le (pos 1) g.cols && int_le (pos 1) g.rows) numbers in
     let cols_from = at_most (pos 1) g.cols (first_of_both (int_le (pos 1) g.cols) (int_le (pos 1) g.rows) counts) in
     let rows_from = at_most (pos 1) g.rows (second_of_both (int_le (pos 1) g.cols) (int_le (pos 1) g.rows) counts) in
-    let few = factor_of_small g.cols g.rows cols_from rows_from small in
+    let few = factor_of_small MOST_GRID_POINTS g.cols g.rows cols_from rows_from small in
     let xs = first_of_both (is_row_in_range g.x0 g.step g.cols) (is_row_in_range g.y0 g.step g.rows) ends in
     let ys = second_of_both (is_row_in_range g.x0 g.step g.cols) (is_row_in_range g.y0 g.step g.rows) ends in
     record {
       step = record {
-        from = at_most (pos 1) g.step (first_of_both (int_le (pos 1) g.step) (int_le g.step (pos 999999999)) step);
-        to = at_most g.step (pos 999999999) (second_of_both (int_le (pos 1) g.step) (int_le g.step (pos 999999999)) step);
+        from = at_most (pos 1) g.step (first_of_both (int_le (pos 1) g.step) (int_le g.step MOST_STEP) step);
+        to = at_most g.step MOST_STEP (second_of_both (int_le (pos 1) g.step) (int_le g.step MOST_STEP) step);
       };
       cols = record { from = cols_from; to = few.0 };
       rows = record { from = rows_from; to = few.1 };
@@ -78,18 +79,18 @@ pub grid_length : (g : GridSpec) → length (grid_points (Some g)) ≡ unsigned_
 unfolding grid_points
 grid_length g = rows_length g 0 (unsigned_abs g.rows)
 
-few_points : (m n : ℤ) → pos 1 ≤ℤ m → pos 1 ≤ℤ n → (m *ℤ n) ≤ℤ pos 4096 → unsigned_abs m * unsigned_abs n ≤ 4096
-few_points (pos m) (pos n) h k e = omega (arith, ints)
-few_points (pos m) (negsuc n) h k e = absurd (omega (arith, ints))
-few_points (negsuc m) n h k e = absurd (omega (arith, ints))
+few_points : (most : ℕ) (m n : ℤ) → pos 1 ≤ℤ m → pos 1 ≤ℤ n → (m *ℤ n) ≤ℤ pos most → unsigned_abs m * unsigned_abs n ≤ most
+few_points most (pos m) (pos n) h k e = omega (arith, ints)
+few_points most (pos m) (negsuc n) h k e = absurd (omega (arith, ints))
+few_points most (negsuc m) n h k e = absurd (omega (arith, ints))
 
-pub sound_grid_length : (p : Plan) → is_sound p ≡ true → length (grid_points p.grid) ≤ 4096
+pub sound_grid_length : (p : Plan) → is_sound p ≡ true → length (grid_points p.grid) ≤ MOST_GRID_POINTS
 unfolding grid_points
 sound_grid_length p h = by_grid p.grid (sound_grid p h)
   where
-    by_grid : (grid : Option GridSpec) → IfSome grid IsGridInRange → length (grid_points grid) ≤ 4096
+    by_grid : (grid : Option GridSpec) → IfSome grid IsGridInRange → length (grid_points grid) ≤ MOST_GRID_POINTS
     by_grid None h = omega arith
-    by_grid (Some g) h = omega (arith, grid_length g, few_points g.cols g.rows h.cols.from h.rows.from h.count)
+    by_grid (Some g) h = omega (arith, grid_length g, few_points MOST_GRID_POINTS g.cols g.rows h.cols.from h.rows.from h.count)
 
 -- ---- where its points are
 

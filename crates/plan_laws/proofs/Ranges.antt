@@ -8,10 +8,11 @@ use Rattle.std.proofs.lemmas.List.Elements.{All-nil, All-cons}
 use Rattle.std.proofs.lemmas.List.Sums.{get_or-le-sum_by}
 use Rattle.plane_spec.specs.declared.Point.{Point}
 use Rattle.plane_spec.specs.Vectors.{IsWithin, InRange, is_coordinate, is_in_range, same_point}
-use Rattle.plane_spec.specs.Polygons.{has_repeat, crosses_nowhere}
+use Rattle.plane_spec.specs.Polygons.{has_repeat, crosses_nowhere, is_simple}
+use Rattle.plan_spec.specs.declared.limits.TheConstants.{MOST_OBSTACLES, MOST_SCREENS, MOST_ROUTES, MOST_CORNERS}
 use Rattle.plan_spec.specs.Plan.{Plan, has_outer, corner_count, corners_of_obstacle_count}
 use Rattle.plan_spec.specs.Accepted.{is_polygon, is_line, lies_within, line_lies_within, is_within_limits, is_sound}
-use Rattle.plan_laws.specs.Ranges.{IsPolygonInRange, IsLineInRange, IsWithinLimits}
+use Rattle.plan_spec.specs.Ranges.{IsPolygonInRange, IsLineInRange, IsWithinLimits}
 use Rattle.plan_laws.proofs.Parts.{first_of_both, second_of_both, parts_of_sound, parts_of_obstacles, parts_of_screens, parts_of_routes}
 
 -- ---- points
@@ -40,13 +41,13 @@ points_in_range points h = each_is is_in_range InRange point_in_range points h
 pub limits_are : (p : Plan) → is_within_limits p ≡ true → IsWithinLimits p
 unfolding is_within_limits
 limits_are p h =
-    let counts = first_of_both (nat_le (length p.obstacles) 256 && nat_le (length p.screens) 256) (nat_le (length p.routes) 256 && nat_le (corner_count p) 1024) h in
-    let rest = second_of_both (nat_le (length p.obstacles) 256 && nat_le (length p.screens) 256) (nat_le (length p.routes) 256 && nat_le (corner_count p) 1024) h in
+    let counts = first_of_both (nat_le (length p.obstacles) MOST_OBSTACLES && nat_le (length p.screens) MOST_SCREENS) (nat_le (length p.routes) MOST_ROUTES && nat_le (corner_count p) MOST_CORNERS) h in
+    let rest = second_of_both (nat_le (length p.obstacles) MOST_OBSTACLES && nat_le (length p.screens) MOST_SCREENS) (nat_le (length p.routes) MOST_ROUTES && nat_le (corner_count p) MOST_CORNERS) h in
     record {
-      obstacles = leb-true _ _ (first_of_both (nat_le (length p.obstacles) 256) (nat_le (length p.screens) 256) counts);
-      screens = leb-true _ _ (second_of_both (nat_le (length p.obstacles) 256) (nat_le (length p.screens) 256) counts);
-      routes = leb-true _ _ (first_of_both (nat_le (length p.routes) 256) (nat_le (corner_count p) 1024) rest);
-      corners = leb-true _ _ (second_of_both (nat_le (length p.routes) 256) (nat_le (corner_count p) 1024) rest);
+      obstacles = leb-true _ _ (first_of_both (nat_le (length p.obstacles) MOST_OBSTACLES) (nat_le (length p.screens) MOST_SCREENS) counts);
+      screens = leb-true _ _ (second_of_both (nat_le (length p.obstacles) MOST_OBSTACLES) (nat_le (length p.screens) MOST_SCREENS) counts);
+      routes = leb-true _ _ (first_of_both (nat_le (length p.routes) MOST_ROUTES) (nat_le (corner_count p) MOST_CORNERS) rest);
+      corners = leb-true _ _ (second_of_both (nat_le (length p.routes) MOST_ROUTES) (nat_le (corner_count p) MOST_CORNERS) rest);
     }
 
 pub sound_limits : (p : Plan) → is_sound p ≡ true → IsWithinLimits p
@@ -54,12 +55,12 @@ sound_limits p h = limits_are p (parts_of_sound p h).limits
 
 -- ---- polygons
 
-polygon_in_range : (points : List Point) → is_polygon points ≡ true → length points ≤ 1024 → IsPolygonInRange points
+polygon_in_range : (points : List Point) → is_polygon points ≡ true → length points ≤ MOST_CORNERS → IsPolygonInRange points
 polygon_in_range points h few =
-    let rest = second_of_both (nat_le 3 (length points)) (list_all is_in_range points && (not (has_repeat points) && crosses_nowhere points)) h in
+    let simple = second_of_both (list_all is_in_range points) (is_simple points) h in
     record {
-      in_range = points_in_range points (first_of_both (list_all is_in_range points) (not (has_repeat points) && crosses_nowhere points) rest);
-      at_least = leb-true _ _ (first_of_both (nat_le 3 (length points)) (list_all is_in_range points && (not (has_repeat points) && crosses_nowhere points)) h);
+      in_range = points_in_range points (first_of_both (list_all is_in_range points) (is_simple points) h);
+      at_least = leb-true _ _ (first_of_both (nat_le 3 (length points)) (not (has_repeat points) && crosses_nowhere points) simple);
       at_most = few;
     }
 

@@ -9,6 +9,7 @@
 //! | [`the_ranges_of_a_sound_plan`] | its points are in range, and no limit is passed |
 //! | [`editing_a_sound_plan`] | an edit is refused exactly where it names nothing or the plan after it would not be sound |
 //! | [`the_boxes_of_an_edit`] | where nothing refuses the edit, they are in range |
+//! | [`the_edit_between_two_plans`] | the plan after it is sound, and its boxes are in range |
 //! | [`the_items_of_a_plan`] | the items of a sound plan are accepted and make that plan again |
 //!
 //! Proofs of code cite the laws by the lemmas in `proofs/`, which state them kind by kind.
@@ -18,18 +19,18 @@ ghost use Rattle.std.specs.Prelude.{◌≡◌, ◌≤◌, ◌*◌, ◌&&◌, IfS
 ghost use Rattle.std.specs.List.{All};
 ghost use Rattle.plane_spec.specs.declared.Point.{Point};
 ghost use Rattle.plane_spec.specs.Vectors.{InRange};
+ghost use Rattle.plan_spec.specs.declared.changes.Changed.{Changed};
 ghost use Rattle.plan_spec.specs.declared.changes.Edit.{Edit};
 ghost use Rattle.plan_spec.specs.declared.kinds.GridSpec.{GridSpec};
 ghost use Rattle.plan_spec.specs.declared.kinds.Item.{Item};
 ghost use Rattle.plan_spec.specs.declared.kinds.Item.TheVariants.{Outer};
+ghost use Rattle.plan_spec.specs.declared.limits.TheConstants.{MOST_GRID_POINTS};
 ghost use Rattle.plan_spec.specs.Plan.{Plan, empty_plan, has_outer, items_of, with_item, with_items};
-ghost use Rattle.plan_spec.specs.Accepted.{is_accepted, is_sound};
+ghost use Rattle.plan_spec.specs.Accepted.{is_accepted, is_sound, may_follow};
 ghost use Rattle.plan_spec.specs.Refusals.{checked, why_not_item};
-ghost use Rattle.plan_spec.specs.Edits.{changed_boxes, edited, why_not_edit};
+ghost use Rattle.plan_spec.specs.Edits.{IsEditBetween, changed_boxes, edited, is_there, why_not_edit};
 ghost use Rattle.plan_spec.specs.Grid.{grid_points};
-ghost use Rattle.plan_laws.specs.Named.{is_there};
-ghost use Rattle.plan_laws.specs.Order.{may_follow};
-ghost use Rattle.plan_laws.specs.Ranges.{AreBoxesInRange, IsGridInRange, IsLineInRange, IsPolygonInRange, IsWithinLimits};
+ghost use Rattle.plan_spec.specs.Ranges.{AreBoxesInRange, IsGridInRange, IsLineInRange, IsPolygonInRange, IsWithinLimits};
 
 /// An item may follow and leaves a sound plan exactly where the plan is sound and nothing refuses the item. The outer
 /// polygon by itself is a sound plan exactly where nothing refuses it on the empty plan.
@@ -48,7 +49,7 @@ pub fn checking_items()
 
 /// A sound plan has an outer polygon. The points of its polygons, the ends of its screens and routes and the points of
 /// its grid are in range, and no limit is passed. A grid has as many points as its columns times its rows, and a sound
-/// plan's at most 4096.
+/// plan's no more than a grid may have.
 pub fn the_ranges_of_a_sound_plan()
     ensures begun { (p : Plan) → is_sound p ≡ true → has_outer p ≡ true }
     ensures outer { (p : Plan) → is_sound p ≡ true → IsPolygonInRange p.outer }
@@ -58,7 +59,7 @@ pub fn the_ranges_of_a_sound_plan()
     ensures limits { (p : Plan) → is_sound p ≡ true → IsWithinLimits p }
     ensures grid { (p : Plan) → is_sound p ≡ true → IfSome p.grid IsGridInRange }
     ensures grid_points_in_range { (p : Plan) → is_sound p ≡ true → All InRange (grid_points p.grid) }
-    ensures grid_points_few { (p : Plan) → is_sound p ≡ true → length (grid_points p.grid) ≤ 4096 }
+    ensures grid_points_few { (p : Plan) → is_sound p ≡ true → length (grid_points p.grid) ≤ MOST_GRID_POINTS }
     ensures grid_points_count { (g : GridSpec) → length (grid_points (Some g)) ≡ unsigned_abs g.cols * unsigned_abs g.rows }
 {}
 
@@ -72,6 +73,13 @@ pub fn editing_a_sound_plan()
 /// The boxes in which an edit of a sound plan changes something are in range, where nothing refuses the edit.
 pub fn the_boxes_of_an_edit()
     ensures { (p : Plan) (e : Edit) → is_sound p ≡ true → why_not_edit p e ≡ None → AreBoxesInRange (changed_boxes p e) }
+{}
+
+/// Where an edit that nothing refuses makes one plan of another, sound one, the plan after it is sound, and the boxes in
+/// which it changes something are in range.
+pub fn the_edit_between_two_plans()
+    ensures sound { (before after : Plan) (boxes : Changed) → IsEditBetween before after boxes → is_sound after ≡ true }
+    ensures boxes { (before after : Plan) (boxes : Changed) → IsEditBetween before after boxes → AreBoxesInRange boxes }
 {}
 
 /// The items of any plan make that plan. They are accepted exactly where the plan is sound, and then checking them gives

@@ -1,13 +1,10 @@
 -- What the definitions mean, where it is short to show.
-use Rattle.std.proofs.Common.{◌≡◌, ℕ, ◌+◌, ◌<◌, Bool, true, false, not, ◌&&◌, nat_le, List, [], ◌∷◌, length, map, filter, refl, ap, arith}
-use Rattle.std.specs.List.{All, enumerate_from, list_all}
+use Rattle.std.proofs.Common.{◌≡◌, ℕ, ◌+◌, ◌<◌, List, [], ◌∷◌, map, filter, refl, ap, arith}
+use Rattle.std.specs.List.{All, enumerate_from}
 use Rattle.std.proofs.lemmas.List.Elements.{All-append, All-map, All-filter, All-nil, All-cons}
 use Rattle.plane_spec.specs.declared.Point.{Point}
 use Rattle.plane_spec.specs.Lists.{pairs, with_each}
-use Rattle.plane_spec.specs.Vectors.{is_in_range}
-use Rattle.plane_spec.specs.Polygons.{has_repeat, crosses_nowhere, is_simple}
 use Rattle.plan_spec.specs.Plan.{Plan}
-use Rattle.plan_spec.specs.Accepted.{is_polygon}
 use Rattle.plan_spec.specs.Scene.{Scene, scene_of}
 use Rattle.plan_spec.specs.Isovist.{sum_of, ray_hit, wall_between, sector_in, sectors_by}
 use Rattle.plan_spec.specs.Grid.{grid_points, is_visible_pair, numbers_of_pair, visibility_edges}
@@ -40,16 +37,6 @@ unfolding visibility_edges
 edges_rise plan =
     All-map EdgeRises numbers_of_pair (filter (is_visible_pair plan (scene_of plan)) (pairs (enumerate_from 0 (grid_points plan.grid))))
     (All-filter (is_visible_pair plan (scene_of plan)) Rises (pairs (enumerate_from 0 (grid_points plan.grid))) (rising_pairs 0 (grid_points plan.grid)))
-
--- the polygons of a plan are the simple ones in range
-pub a_polygon_is_simple : (points : List Point) → is_polygon points ≡ (list_all is_in_range points && is_simple points)
-a_polygon_is_simple points = exchanged (nat_le 3 (length points)) (list_all is_in_range points) (not (has_repeat points) && crosses_nowhere points)
-  where
-    exchanged : (a b c : Bool) → (a && (b && c)) ≡ (b && (a && c))
-    exchanged true true c = refl
-    exchanged true false c = refl
-    exchanged false true c = refl
-    exchanged false false c = refl
 
 -- the sectors round a point are those made of what the rays in the directions of the gaps' sums meet, so one sweep in
 -- these directions serves them all

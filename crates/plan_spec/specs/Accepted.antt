@@ -1,17 +1,18 @@
 -- Which plans are accepted.
-use Rattle.std.specs.Prelude.{nat_le, ℤ, pos, ◌+ℤ◌, ◌-ℤ◌, ◌*ℤ◌, int_le, Bool, true, false, ◌&&◌, ◌||◌, not, List, [], ◌∷◌, length, count_by, filter, Option, Some, None}
+use Rattle.std.specs.Prelude.{nat_le, ℤ, pos, ◌+ℤ◌, ◌-ℤ◌, ◌*ℤ◌, int_le, Bool, true, false, ◌&&◌, ◌||◌, not, List, [], ◌∷◌, length, count_by, filter, Option, Some, None, is_none}
 use Rattle.std.specs.List.{list_any, list_all}
 use Rattle.std.specs.Str.{bytes_eq}
 use Rattle.plane_spec.specs.declared.Point.{Point}
 use Rattle.plane_spec.specs.Lists.{pairs}
 use Rattle.plane_spec.specs.Vectors.{is_coordinate, is_in_range, same_point}
 use Rattle.plane_spec.specs.Segments.{do_touch, is_on_segment}
-use Rattle.plane_spec.specs.Polygons.{edges_of, is_inside, borders_touch, has_repeat, crosses_nowhere}
+use Rattle.plane_spec.specs.Polygons.{edges_of, is_inside, borders_touch, is_simple}
 use Rattle.plan_spec.specs.declared.kinds.GridSpec.{GridSpec}
 use Rattle.plan_spec.specs.declared.kinds.Screen.{Screen}
 use Rattle.plan_spec.specs.declared.kinds.Route.{Route}
 use Rattle.plan_spec.specs.declared.kinds.Item.{Item}
-use Rattle.plan_spec.specs.declared.kinds.Item.TheVariants.{Grid, Outer, Obstacle as ObstacleItem, Screen as ScreenItem, Route as RouteItem}
+use Rattle.plan_spec.specs.declared.kinds.Item.TheVariants.{Grid, Outer}
+use Rattle.plan_spec.specs.declared.limits.TheConstants.{MOST_OBSTACLES, MOST_SCREENS, MOST_ROUTES, MOST_CORNERS, MOST_GRID_POINTS, MOST_STEP}
 use Rattle.plan_spec.specs.Plan.{Obstacle, Plan, empty_plan, with_items, corner_count}
 
 -- each two elements of the list, the earlier one first, pass the test
@@ -22,7 +23,7 @@ each_two test xs = list_all (λ e. test e.0 e.1) (pairs xs)
 
 -- a simple polygon whose coordinates are in range
 abbrev pub is_polygon : List Point → Bool
-is_polygon points = nat_le 3 (length points) && (list_all is_in_range points && (not (has_repeat points) && crosses_nowhere points))
+is_polygon points = list_all is_in_range points && is_simple points
 
 -- two different ends in range
 abbrev pub is_line : Point → Point → Bool
@@ -36,17 +37,17 @@ is_from_one most z = int_le (pos 1) z && int_le z most
 abbrev pub is_row_in_range : ℤ → ℤ → ℤ → Bool
 is_row_in_range first step count = is_coordinate first && is_coordinate (first +ℤ step *ℤ (count -ℤ pos 1))
 
--- a step of 1 to 999999999, at least one column and one row, and all points in range
+-- a step of at least 1 that isn't too long, at least one column and one row, and all points in range
 unfoldable pub is_grid_in_range : GridSpec → Bool
 is_grid_in_range g =
-    (is_from_one (pos 999999999) g.step && (int_le (pos 1) g.cols && int_le (pos 1) g.rows))
+    (is_from_one MOST_STEP g.step && (int_le (pos 1) g.cols && int_le (pos 1) g.rows))
     && (is_row_in_range g.x0 g.step g.cols && is_row_in_range g.y0 g.step g.rows)
 
--- at most 4096 points
+-- no more points than a grid may have
 abbrev pub is_grid_small : GridSpec → Bool
-is_grid_small g = int_le (g.cols *ℤ g.rows) (pos 4096)
+is_grid_small g = int_le (g.cols *ℤ g.rows) (pos MOST_GRID_POINTS)
 
--- there is no grid, or its points are in range and at most 4096
+-- there is no grid, or its points are in range and not too many
 abbrev pub is_grid_sound : Option GridSpec → Bool
 is_grid_sound None = true
 is_grid_sound (Some g) = is_grid_in_range g && is_grid_small g
@@ -113,12 +114,14 @@ do_routes_stand plan = list_all (λ r. is_line r.from r.to) plan.routes && each_
 
 -- ---- the plan
 
--- at most 256 obstacles, 256 screens, 256 routes and 1024 corners
+-- no more obstacles, screens, routes and corners than a plan may have
 unfoldable pub is_within_limits : Plan → Bool
 is_within_limits plan =
-    (nat_le (length plan.obstacles) 256 && nat_le (length plan.screens) 256) && (nat_le (length plan.routes) 256 && nat_le (corner_count plan) 1024)
+    (nat_le (length plan.obstacles) MOST_OBSTACLES && nat_le (length plan.screens) MOST_SCREENS)
+    && (nat_le (length plan.routes) MOST_ROUTES && nat_le (corner_count plan) MOST_CORNERS)
 
--- the outer polygon is simple, the grid, the obstacles, the screens and the routes stand in it, and no limit is passed
+-- the outer polygon is simple, the obstacles and the screens stand in it, apart from each other, the grid and the routes
+-- are sound by themselves, wherever they lie, and no limit is passed
 unfoldable pub is_sound : Plan → Bool
 is_sound plan =
     (is_polygon plan.outer && is_grid_sound plan.grid)
@@ -126,19 +129,21 @@ is_sound plan =
 
 -- ---- the items
 
+-- the item is an outer polygon
 abbrev pub is_outer : Item → Bool
-is_outer (Grid spec) = false
 is_outer (Outer points) = true
-is_outer (ObstacleItem name points) = false
-is_outer (ScreenItem name from to) = false
-is_outer (RouteItem name from to) = false
+is_outer _ = false
 
+-- the item is a grid
 abbrev pub is_grid : Item → Bool
 is_grid (Grid spec) = true
-is_grid (Outer points) = false
-is_grid (ObstacleItem name points) = false
-is_grid (ScreenItem name from to) = false
-is_grid (RouteItem name from to) = false
+is_grid _ = false
+
+-- behind the plan's outer polygon the item is no other one, and no second grid
+abbrev pub may_follow : Plan → Item → Bool
+may_follow plan (Grid spec) = is_none plan.grid
+may_follow plan (Outer points) = false
+may_follow plan _ = true
 
 -- the first item is an outer polygon, no other item is one, and there is at most one grid
 unfoldable pub are_in_order : List Item → Bool

@@ -1,5 +1,5 @@
 -- Edits: why one is refused, the plan after it, and the boxes in which something changes.
-use Rattle.std.specs.Prelude.{ℕ, ℤ, pos, ⊤, ◌+ℤ◌, not, List, [], ◌∷◌, map, filter, Option, None, if◌then◌else◌}
+use Rattle.std.specs.Prelude.{◌≡◌, ℕ, ℤ, ⊤, ◌+ℤ◌, Bool, true, not, List, [], ◌∷◌, map, filter, Option, None, if◌then◌else◌}
 use Rattle.std.specs.List.{list_any, list_all, flat_map}
 use Rattle.plane_spec.specs.declared.Point.{Point}
 use Rattle.plane_spec.specs.declared.PlanBox.{PlanBox}
@@ -11,33 +11,35 @@ use Rattle.plan_spec.specs.declared.changes.Edit.{Edit}
 use Rattle.plan_spec.specs.declared.changes.Edit.TheVariants.{Add, Remove, Move, AddScreen, RemoveScreen, AddRoute, RemoveRoute}
 use Rattle.plan_spec.specs.declared.changes.Changed.{Changed}
 use Rattle.plan_spec.specs.declared.refusals.Why.{Why}
-use Rattle.plan_spec.specs.declared.refusals.Why.TheVariants.{Range, Outside, Missing}
+use Rattle.plan_spec.specs.declared.refusals.Why.TheVariants.{Range, Missing}
+use Rattle.plan_spec.specs.declared.limits.TheConstants.{MOST_SHIFT}
 use Rattle.plan_spec.specs.Plan.{Obstacle, Plan, obstacle, with_item, with_obstacles, with_screens, with_routes, is_obstacle_named, is_screen_named, is_route_named}
-use Rattle.plan_spec.specs.Accepted.{lies_within}
-use Rattle.plan_spec.specs.Refusals.{first_if, first_obstacle, first_screen, obstacles_met, screens_met, why_not_obstacle, why_not_screen, why_not_route}
+use Rattle.plan_spec.specs.Accepted.{is_sound}
+use Rattle.plan_spec.specs.Refusals.{when, first_cause, why_not_polygon_in, why_not_obstacle, why_not_screen, why_not_route}
 
 -- ---- shifts
 
+-- a point moved by dx and dy
 abbrev pub shifted_point : ℤ → ℤ → Point → Point
 shifted_point dx dy p = point (p.x +ℤ dx) (p.y +ℤ dy)
 
+-- a box moved by dx and dy
+abbrev pub shifted_box : ℤ → ℤ → PlanBox → PlanBox
+shifted_box dx dy area = record { low = shifted_point dx dy area.low; high = shifted_point dx dy area.high }
+
+-- an obstacle moved by dx and dy, which keeps its name
 abbrev pub shifted_obstacle : ℤ → ℤ → Obstacle → Obstacle
 shifted_obstacle dx dy o = obstacle o.name (map (shifted_point dx dy) o.points)
 
--- a shift of at most 999999999 in each coordinate
+-- a shift that isn't too far in either coordinate
 pub record IsShift (dx dy : ℤ) : Type 0 where
-  pub x : IsWithin (pos 999999999) dx
-  pub y : IsWithin (pos 999999999) dy
+  pub x : IsWithin MOST_SHIFT dx
+  pub y : IsWithin MOST_SHIFT dy
 
--- where the edit is a move, its shift is at most 999999999 in each coordinate
+-- where the edit is a move, its shift isn't too far
 abbrev pub HasShift : Edit → Type 0
-HasShift (Add name points) = ⊤
-HasShift (Remove name) = ⊤
 HasShift (Move name dx dy) = IsShift dx dy
-HasShift (AddScreen name from to) = ⊤
-HasShift (RemoveScreen name) = ⊤
-HasShift (AddRoute name from to) = ⊤
-HasShift (RemoveRoute name) = ⊤
+HasShift _ = ⊤
 
 -- the points of the obstacle of this name, or none
 abbrev pub points_named : List ℕ → List Obstacle → List Point
@@ -47,27 +49,35 @@ points_named name obstacles = flat_map (λ o. o.points) (filter (is_obstacle_nam
 abbrev pub without_obstacle : List ℕ → List Obstacle → List Obstacle
 without_obstacle name obstacles = filter (λ o. not (is_obstacle_named name o)) obstacles
 
+-- what the edit removes or moves is there
+abbrev pub is_there : Plan → Edit → Bool
+is_there plan (Remove name) = list_any (is_obstacle_named name) plan.obstacles
+is_there plan (Move name dx dy) = list_any (is_obstacle_named name) plan.obstacles
+is_there plan (RemoveScreen name) = list_any (is_screen_named name) plan.screens
+is_there plan (RemoveRoute name) = list_any (is_route_named name) plan.routes
+is_there plan _ = true
+
 -- ---- refusals
 
--- what the shifted polygon is refused for
-abbrev pub why_not_moved : Plan → List ℕ → List Point → Option Why
-why_not_moved plan name points =
-    first_if (not (list_all is_in_range points)) Range
-    (first_if (not (lies_within plan.outer points)) Outside
-    (first_obstacle (obstacles_met points (without_obstacle name plan.obstacles))
-    (first_screen (screens_met points plan.screens) None)))
+-- what a shifted polygon is refused for in the plan of the others: a point out of range, and where it stands
+unfoldable pub why_not_moved : Plan → List Point → Option Why
+why_not_moved others points = first_cause (
+    when (not (list_all is_in_range points)) Range
+    ∷ why_not_polygon_in others points
+    ∷ [])
 
 -- the first cause for which the edit is refused on the plan, or none
 unfoldable pub why_not_edit : Plan → Edit → Option Why
 why_not_edit plan (Add name points) = why_not_obstacle plan name points
-why_not_edit plan (Remove name) = first_if (not (list_any (is_obstacle_named name) plan.obstacles)) Missing None
-why_not_edit plan (Move name dx dy) =
-    first_if (not (list_any (is_obstacle_named name) plan.obstacles)) Missing
-    (why_not_moved plan name (map (shifted_point dx dy) (points_named name plan.obstacles)))
+why_not_edit plan (Remove name) = when (not (list_any (is_obstacle_named name) plan.obstacles)) Missing
+why_not_edit plan (Move name dx dy) = first_cause (
+    when (not (list_any (is_obstacle_named name) plan.obstacles)) Missing
+    ∷ why_not_moved (with_obstacles plan (without_obstacle name plan.obstacles)) (map (shifted_point dx dy) (points_named name plan.obstacles))
+    ∷ [])
 why_not_edit plan (AddScreen name from to) = why_not_screen plan name from to
-why_not_edit plan (RemoveScreen name) = first_if (not (list_any (is_screen_named name) plan.screens)) Missing None
+why_not_edit plan (RemoveScreen name) = when (not (list_any (is_screen_named name) plan.screens)) Missing
 why_not_edit plan (AddRoute name from to) = why_not_route plan name from to
-why_not_edit plan (RemoveRoute name) = first_if (not (list_any (is_route_named name) plan.routes)) Missing None
+why_not_edit plan (RemoveRoute name) = when (not (list_any (is_route_named name) plan.routes)) Missing
 
 -- ---- the plan after the edit
 
@@ -83,6 +93,7 @@ edited plan (RemoveRoute name) = with_routes plan (filter (λ r. not (is_route_n
 
 -- ---- the boxes
 
+-- the boxes before and after
 abbrev pub changed : Option PlanBox → Option PlanBox → Changed
 changed first second = record { first = first; second = second }
 
@@ -100,3 +111,13 @@ changed_boxes plan (AddScreen name from to) = changed None (box_of_points (from 
 changed_boxes plan (RemoveScreen name) = changed (box_of_points (ends_named name plan.screens)) None
 changed_boxes plan (AddRoute name from to) = changed None None
 changed_boxes plan (RemoveRoute name) = changed None None
+
+-- ---- two plans
+
+-- an edit that nothing refuses makes the plan after of the sound plan before, and these are its boxes
+pub record IsEditBetween (before after : Plan) (boxes : Changed) : Type 0 where
+  pub edit : Edit
+  pub sound : is_sound before ≡ true
+  pub valid : why_not_edit before edit ≡ None
+  pub makes : after ≡ edited before edit
+  pub has : boxes ≡ changed_boxes before edit

@@ -2,6 +2,7 @@ pub mod Plan
 pub mod Accepted
 pub mod Refusals
 pub mod Edits
+pub mod Ranges
 pub mod Scene
 pub mod Sight
 pub mod Stops

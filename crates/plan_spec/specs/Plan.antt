@@ -24,6 +24,7 @@ pub record Plan : Type 0 where
 
 -- ---- the parts by name
 
+-- the obstacle, the screen and the route of this name
 abbrev pub obstacle : List ℕ → List Point → Obstacle
 obstacle name points = record { name = name; points = points }
 
@@ -33,6 +34,7 @@ screen name from to = record { name = name; from = from; to = to }
 abbrev pub route : List ℕ → Point → Point → Route
 route name from to = record { name = name; from = from; to = to }
 
+-- the obstacle, the screen or the route has this name
 abbrev pub is_obstacle_named : List ℕ → Obstacle → Bool
 is_obstacle_named name o = bytes_eq o.name name
 
@@ -44,20 +46,21 @@ is_route_named name r = bytes_eq r.name name
 
 -- ---- plans with other parts
 
+-- the plan with these in place of its own
 abbrev pub with_outer : Plan → List Point → Plan
-with_outer plan outer = record { outer = outer; grid = plan.grid; obstacles = plan.obstacles; screens = plan.screens; routes = plan.routes }
+with_outer plan outer = record plan { outer = outer }
 
 abbrev pub with_grid : Plan → Option GridSpec → Plan
-with_grid plan grid = record { outer = plan.outer; grid = grid; obstacles = plan.obstacles; screens = plan.screens; routes = plan.routes }
+with_grid plan grid = record plan { grid = grid }
 
 abbrev pub with_obstacles : Plan → List Obstacle → Plan
-with_obstacles plan obstacles = record { outer = plan.outer; grid = plan.grid; obstacles = obstacles; screens = plan.screens; routes = plan.routes }
+with_obstacles plan obstacles = record plan { obstacles = obstacles }
 
 abbrev pub with_screens : Plan → List Screen → Plan
-with_screens plan screens = record { outer = plan.outer; grid = plan.grid; obstacles = plan.obstacles; screens = screens; routes = plan.routes }
+with_screens plan screens = record plan { screens = screens }
 
 abbrev pub with_routes : Plan → List Route → Plan
-with_routes plan routes = record { outer = plan.outer; grid = plan.grid; obstacles = plan.obstacles; screens = plan.screens; routes = routes }
+with_routes plan routes = record plan { routes = routes }
 
 -- the plan of no items
 abbrev pub empty_plan : Plan
@@ -78,13 +81,15 @@ with_items plan (item ∷ items) = with_items (with_item plan item) items
 
 -- ---- counts
 
+-- the outer polygon has come
 abbrev pub has_outer : Plan → Bool
 has_outer plan = is_some_points plan.outer
   where
     is_some_points : List Point → Bool
     is_some_points [] = false
-    is_some_points (p ∷ points) = true
+    is_some_points _ = true
 
+-- the corners of one obstacle
 abbrev pub corners_of_obstacle_count : Obstacle → ℕ
 corners_of_obstacle_count o = length o.points
 
@@ -94,10 +99,12 @@ corner_count plan = length plan.outer + sum_by corners_of_obstacle_count plan.ob
 
 -- ---- a plan as items
 
+-- the grid as an item, where there is one
 abbrev pub grid_items : Option GridSpec → List Item
 grid_items None = []
 grid_items (Some spec) = Grid spec ∷ []
 
+-- an obstacle, a screen and a route as the item that adds it
 abbrev pub obstacle_item : Obstacle → Item
 obstacle_item o = ObstacleItem o.name o.points
 

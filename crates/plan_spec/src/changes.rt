@@ -4,7 +4,8 @@ use crate::lists::Points;
 use plane_spec::{PlanBox, Point};
 use text_spec::Name;
 
-/// A change of a plan, as it is asked for. Points may be out of range; the shift of a move has at most nine digits.
+/// A change of a plan, as it is asked for. Points may be out of range. The shift of a move is at most
+/// [`MOST_SHIFT`](crate::MOST_SHIFT) in each coordinate, of which the caller sees to it.
 #[derive(Drop)]
 pub enum Edit {
     Add(Name, Points),

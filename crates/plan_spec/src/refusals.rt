@@ -5,15 +5,15 @@ use text_spec::Name;
 /// What there is too much of.
 #[derive(Clone, Copy, Debug, PartialEq, Eq)]
 pub enum Limit {
-    /// More than 256 obstacles.
+    /// More than [`MOST_OBSTACLES`](crate::MOST_OBSTACLES) obstacles.
     Obstacles,
-    /// More than 1024 corners of polygons and ends of screens.
+    /// More than [`MOST_CORNERS`](crate::MOST_CORNERS) corners of polygons and ends of screens.
     Corners,
-    /// More than 256 screens.
+    /// More than [`MOST_SCREENS`](crate::MOST_SCREENS) screens.
     Screens,
-    /// More than 256 routes.
+    /// More than [`MOST_ROUTES`](crate::MOST_ROUTES) routes.
     Routes,
-    /// More than 4096 grid points.
+    /// More than [`MOST_GRID_POINTS`](crate::MOST_GRID_POINTS) grid points.
     Points,
 }
 

@@ -17,7 +17,7 @@ use Rattle.plan_spec.specs.declared.kinds.Item.{Item}
 use Rattle.plan_spec.specs.declared.kinds.Item.TheVariants.{Grid, Outer}
 use Rattle.plan_spec.specs.Plan.{Plan, Obstacle, corners_of_obstacle_count, grid_items, obstacle_item, screen_item, route_item, items_of}
 use Rattle.plan_spec.specs.Accepted.{is_sound}
-use Rattle.plan_laws.specs.Ranges.{IsPolygonInRange, IsLineInRange, IsFromTo, IsGridInRange, IsWithinLimits}
+use Rattle.plan_spec.specs.Ranges.{IsPolygonInRange, IsLineInRange, IsFromTo, IsGridInRange, IsWithinLimits}
 use Rattle.plan_laws.proofs.Ranges.{sound_outer, sound_obstacles, sound_screens, sound_routes, sound_limits}
 use Rattle.plan_laws.proofs.Grids.{sound_grid}
 use Rattle.report_spec.specs.PlanText.{is_below, is_short_point, is_short_list, is_number_point, is_printable, points_in, ArePrintable}

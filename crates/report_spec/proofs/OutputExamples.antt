@@ -13,7 +13,7 @@ use Rattle.text_spec.specs.Numbers.{natural_of, number_of}
 use Rattle.plan_spec.specs.declared.kinds.Item.TheVariants.{Obstacle}
 use Rattle.plan_spec.specs.Plan.{Plan, empty_plan, with_outer, with_grid, with_item, items_of}
 use Rattle.plan_spec.specs.Accepted.{lies_within, polygons_meet, line_meets_polygon}
-use Rattle.plan_spec.specs.Refusals.{why_not_obstacle}
+use Rattle.plan_spec.specs.Refusals.{why_not_polygon, why_not_polygon_in, why_not_obstacle}
 use Rattle.plan_spec.specs.Edits.{why_not_edit, edited}
 use Rattle.plan_spec.specs.Scene.{walls_round, corners_round}
 use Rattle.plan_spec.specs.Sight.{leaves_wall, corner_stops, is_blocked, are_in_sight, is_open}
@@ -54,7 +54,7 @@ a_script_is_answered_line_by_line :
     ∷ codes "table plan" ∷ codes "plan 1" ∷ codes "outer 0 0 10 0 10 10 0 10" ∷ codes "obstacle A 1 1 3 1 3 3 1 3" ∷ codes "end 3"
     ∷ codes "ok 6"
     ∷ codes "table plan" ∷ codes "plan 1" ∷ codes "outer 0 0 10 0 10 10 0 10" ∷ codes "end 2" ∷ [])
-unfolding output_of reply_bytes replies plan_after mode_records plan_table items_of numbers_of_points digits step answer read_line_of_script without_return read_script_line are_blank script_word shown line_of read_fields_by numbers_of number_of natural_of why_not_edit why_not_obstacle crosses_nowhere may_stand edges_to lies_within polygons_meet line_meets_polygon is_inside passes_right do_touch cross_properly is_on_segment edited with_item
+unfolding output_of reply_bytes replies plan_after mode_records plan_table items_of numbers_of_points digits step answer read_line_of_script without_return read_script_line are_blank script_word shown line_of read_fields_by numbers_of number_of natural_of why_not_edit why_not_obstacle why_not_polygon why_not_polygon_in crosses_nowhere may_stand edges_to lies_within polygons_meet line_meets_polygon is_inside passes_right do_touch cross_properly is_on_segment edited with_item
 a_script_is_answered_line_by_line = refl
 
 a_refused_line_is_told_by_the_status : output_is_refused Check room (codes "paint" ∷ []) ≡ true

@@ -6,7 +6,7 @@ use Rattle.plane_spec.specs.Vectors.{InRange}
 use Rattle.plan_spec.specs.declared.kinds.Screen.{Screen}
 use Rattle.plan_spec.specs.Plan.{Obstacle, Plan, obstacle}
 use Rattle.plan_spec.specs.Accepted.{is_sound}
-use Rattle.plan_laws.specs.Ranges.{IsLineInRange}
+use Rattle.plan_spec.specs.Ranges.{IsLineInRange}
 use Rattle.plan_laws.proofs.Ranges as ranges
 use Rattle.plan_check.specs.Kept.{obstacle_at}
 

@@ -1,66 +1,96 @@
--- There is no cause of refusal exactly where each test on the way passes.
-use Rattle.std.specs.Prelude.{◌≡◌, ℕ, nat_le, nat_lt, Bool, true, false, not, ◌&&◌, ◌||◌, List, [], ◌∷◌, filter, cond, Option, is_none}
-use Rattle.std.specs.List.{list_any}
+-- Nothing is refused exactly where no cause holds, and each cause holds exactly where its test does.
+use Rattle.std.specs.Prelude.{◌≡◌, ℕ, nat_le, nat_lt, Bool, true, false, not, ◌&&◌, ◌||◌, List, [], ◌∷◌, filter, cond, length, Option, Some, None, is_none}
+use Rattle.std.specs.List.{list_all, list_any}
 use Rattle.std.proofs.Common.{refl, sym, arith}
 use Rattle.std.proofs.lemmas.Bool.Decides.{nat_tests}
-use Rattle.std.proofs.Math.Bool.{not-not, and_assoc}
+use Rattle.std.proofs.Math.Bool.{not-not, and-true}
 use Rattle.plane_spec.specs.declared.Point.{Point}
+use Rattle.plane_spec.specs.Vectors.{is_in_range}
+use Rattle.plane_spec.specs.Segments.{do_touch}
+use Rattle.plane_spec.specs.Polygons.{has_repeat, crosses_nowhere}
 use Rattle.plan_spec.specs.declared.kinds.Screen.{Screen}
 use Rattle.plan_spec.specs.declared.kinds.Route.{Route}
 use Rattle.plan_spec.specs.declared.refusals.Why.{Why}
 use Rattle.plan_spec.specs.Plan.{Obstacle, Plan, has_outer}
-use Rattle.plan_spec.specs.Accepted.{is_polygon, is_line, is_sound}
-use Rattle.plan_spec.specs.Refusals.{first_if, first_obstacle, first_screen, first_route, why_not_polygon, why_not_line}
+use Rattle.plan_spec.specs.Accepted.{is_polygon, is_line, lies_within, polygons_meet, line_lies_within, line_meets_polygon, is_sound}
+use Rattle.plan_spec.specs.Refusals.{when, first_cause, first_obstacle, first_screen, first_route, why_not_polygon, why_not_line, why_not_polygon_in, why_not_line_in}
+use Rattle.plan_laws.proofs.Tests.{and_left_comm}
 
 -- ---- tests on numbers
 
 pub not_below : (a b : ℕ) → not (nat_lt a b) ≡ nat_le b a
 not_below a b = grind (arith, nat_tests)
 
--- ---- one cause and those after it
+-- ---- several causes
 
-pub none_after_test : (test : Bool) (why : Why) (next : Option Why) → is_none (first_if test why next) ≡ (not test && is_none next)
-none_after_test true why next = refl
-none_after_test false why next = refl
+-- nothing is refused exactly where none of the causes holds
+pub none_refuses : (causes : List (Option Why)) → is_none (first_cause causes) ≡ list_all is_none causes
+none_refuses [] = refl
+none_refuses (None ∷ causes) = none_refuses causes
+none_refuses (Some why ∷ causes) = refl
 
-pub none_after_obstacles : (meets : Obstacle → Bool) (obstacles : List Obstacle) (next : Option Why)
-    → is_none (first_obstacle (filter meets obstacles) next) ≡ (not (list_any meets obstacles) && is_none next)
-none_after_obstacles meets [] next = refl
-none_after_obstacles meets (o ∷ obstacles) next = step (meets o) (none_after_obstacles meets obstacles next)
+-- ---- one cause
+
+pub none_when : (test : Bool) (why : Why) → is_none (when test why) ≡ not test
+none_when true why = refl
+none_when false why = refl
+
+pub none_of_obstacles : (meets : Obstacle → Bool) (obstacles : List Obstacle) → is_none (first_obstacle (filter meets obstacles)) ≡ not (list_any meets obstacles)
+none_of_obstacles meets [] = refl
+none_of_obstacles meets (o ∷ obstacles) = step (meets o) (none_of_obstacles meets obstacles)
   where
-    step : (t : Bool) → is_none (first_obstacle (filter meets obstacles) next) ≡ (not (list_any meets obstacles) && is_none next)
-        → is_none (first_obstacle (cond t (o ∷ filter meets obstacles) (filter meets obstacles)) next) ≡ (not (t || list_any meets obstacles) && is_none next)
+    step : (t : Bool) → is_none (first_obstacle (filter meets obstacles)) ≡ not (list_any meets obstacles)
+        → is_none (first_obstacle (cond t (o ∷ filter meets obstacles) (filter meets obstacles))) ≡ not (t || list_any meets obstacles)
     step true h = refl
     step false h = h
 
-pub none_after_screens : (meets : Screen → Bool) (screens : List Screen) (next : Option Why)
-    → is_none (first_screen (filter meets screens) next) ≡ (not (list_any meets screens) && is_none next)
-none_after_screens meets [] next = refl
-none_after_screens meets (s ∷ screens) next = step (meets s) (none_after_screens meets screens next)
+pub none_of_screens : (meets : Screen → Bool) (screens : List Screen) → is_none (first_screen (filter meets screens)) ≡ not (list_any meets screens)
+none_of_screens meets [] = refl
+none_of_screens meets (s ∷ screens) = step (meets s) (none_of_screens meets screens)
   where
-    step : (t : Bool) → is_none (first_screen (filter meets screens) next) ≡ (not (list_any meets screens) && is_none next)
-        → is_none (first_screen (cond t (s ∷ filter meets screens) (filter meets screens)) next) ≡ (not (t || list_any meets screens) && is_none next)
+    step : (t : Bool) → is_none (first_screen (filter meets screens)) ≡ not (list_any meets screens)
+        → is_none (first_screen (cond t (s ∷ filter meets screens) (filter meets screens))) ≡ not (t || list_any meets screens)
     step true h = refl
     step false h = h
 
-pub none_after_routes : (meets : Route → Bool) (routes : List Route) → is_none (first_route (filter meets routes)) ≡ not (list_any meets routes)
-none_after_routes meets [] = refl
-none_after_routes meets (r ∷ routes) = step (meets r) (none_after_routes meets routes)
+pub none_of_routes : (meets : Route → Bool) (routes : List Route) → is_none (first_route (filter meets routes)) ≡ not (list_any meets routes)
+none_of_routes meets [] = refl
+none_of_routes meets (r ∷ routes) = step (meets r) (none_of_routes meets routes)
   where
     step : (t : Bool) → is_none (first_route (filter meets routes)) ≡ not (list_any meets routes)
         → is_none (first_route (cond t (r ∷ filter meets routes) (filter meets routes))) ≡ not (t || list_any meets routes)
     step true h = refl
     step false h = h
 
--- ---- a polygon or a line by itself
+-- ---- a polygon or a line, by itself and beside the others
 
-pub none_after_polygon : (points : List Point) (next : Option Why) → is_none (why_not_polygon points next) ≡ (is_polygon points && is_none next)
-none_after_polygon points next =
-    simp (none_after_test, not_below, not-not, and_assoc)
+pub none_of_polygon : (points : List Point) → is_none (why_not_polygon points) ≡ is_polygon points
+unfolding why_not_polygon
+none_of_polygon points =
+    rw none_refuses
+    (simp (none_when, not_below, not-not, and-true)
+    (and_left_comm (nat_le 3 (length points)) (list_all is_in_range points) (not (has_repeat points) && crosses_nowhere points)))
 
-pub none_after_line : (from to : Point) (next : Option Why) → is_none (why_not_line from to next) ≡ (is_line from to && is_none next)
-none_after_line from to next =
-    simp (none_after_test, not-not, and_assoc)
+pub none_of_line : (from to : Point) → is_none (why_not_line from to) ≡ is_line from to
+unfolding why_not_line
+none_of_line from to =
+    rw none_refuses (simp (none_when, not-not, and-true))
+
+pub none_of_polygon_in : (p : Plan) (points : List Point)
+    → is_none (why_not_polygon_in p points)
+    ≡ (lies_within p.outer points && (not (list_any (λ o. polygons_meet o.points points) p.obstacles)
+    && not (list_any (λ s. line_meets_polygon s.from s.to points) p.screens)))
+unfolding why_not_polygon_in
+none_of_polygon_in p points =
+    rw none_refuses (simp (none_when, none_of_obstacles, none_of_screens, not-not, and-true))
+
+pub none_of_line_in : (p : Plan) (from to : Point)
+    → is_none (why_not_line_in p from to)
+    ≡ (line_lies_within p.outer from to && (not (list_any (λ o. line_meets_polygon from to o.points) p.obstacles)
+    && not (list_any (λ s. do_touch s.from s.to from to) p.screens)))
+unfolding why_not_line_in
+none_of_line_in p from to =
+    rw none_refuses (simp (none_when, none_of_obstacles, none_of_screens, not-not, and-true))
 
 -- ---- the outer polygon has come
 

@@ -1,6 +1,6 @@
 -- A grid.
-use Rattle.std.specs.Prelude.{◌≡◌, Bool, true, false, ◌&&◌, Option, Some, None, is_none}
-use Rattle.std.proofs.Common.{refl}
+use Rattle.std.specs.Prelude.{◌≡◌, Bool, true, false, ◌&&◌, Option, Some, None, is_none, is_some}
+use Rattle.std.proofs.Common.{refl, sym, ap, arith, ◌∙◌}
 use Rattle.std.proofs.Math.Bool.{and_assoc, and_comm, not-not, and-true}
 use Rattle.plan_spec.specs.declared.kinds.GridSpec.{GridSpec}
 use Rattle.plan_spec.specs.declared.kinds.Item.TheVariants.{Grid}
@@ -8,14 +8,24 @@ use Rattle.plan_spec.specs.Plan.{Plan, with_grid, with_item, has_outer}
 use Rattle.plan_spec.specs.Accepted.{is_polygon, is_grid_in_range, is_grid_small, is_grid_sound, do_obstacles_stand, do_screens_stand, do_routes_stand, is_within_limits, is_sound}
 use Rattle.plan_spec.specs.Refusals.{why_not_grid}
 use Rattle.plan_laws.proofs.Tests.{and_left_comm, not_or}
-use Rattle.plan_laws.proofs.Adding.Causes.{none_after_test, outer_test_drops}
+use Rattle.plan_laws.proofs.Adding.Causes.{none_refuses, none_when, outer_test_drops}
 
 -- the grid passes each test for which it might be refused
 pub fits_as_grid : (p : Plan) (g : GridSpec)
     → is_none (why_not_grid p g) ≡ (has_outer p && (is_none p.grid && (is_grid_in_range g && is_grid_small g)))
 unfolding why_not_grid
 fits_as_grid p g =
-    simp (none_after_test, not_or, not-not, and_assoc, and-true, and_left_comm)
+    rw none_refuses (simp (none_when, not_or, not-not, and_assoc, and-true, and_left_comm))
+
+-- a grid that isn't refused is the first one
+pub first_grid : (p : Plan) (g : GridSpec) → why_not_grid p g ≡ None → is_some p.grid ≡ false
+first_grid p g none =
+    let fits = sym (fits_as_grid p g) ∙ ap is_none none in
+    by p.grid (grind arith)
+  where
+    by : (grid : Option GridSpec) → is_none grid ≡ true → is_some grid ≡ false
+    by None h = refl
+    by (Some g) h = cc
 
 -- nothing else is compared with the grid
 pub obstacles_with_grid : (p : Plan) (grid : Option GridSpec) → do_obstacles_stand (with_grid p grid) ≡ do_obstacles_stand p

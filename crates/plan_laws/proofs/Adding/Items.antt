@@ -7,10 +7,9 @@ use Rattle.plan_spec.specs.declared.kinds.Item.{Item}
 use Rattle.plan_spec.specs.declared.kinds.Item.TheVariants.{Grid, Outer, Obstacle as ObstacleItem, Screen as ScreenItem, Route as RouteItem}
 use Rattle.plan_spec.specs.declared.refusals.Why.{Why}
 use Rattle.plan_spec.specs.Plan.{Plan, empty_plan, with_item}
-use Rattle.plan_spec.specs.Accepted.{is_sound}
 use Rattle.plan_spec.specs.Refusals.{why_not_item, why_not_outer, why_not_grid, why_not_obstacle, why_not_screen, why_not_route}
-use Rattle.plan_laws.specs.Order.{may_follow}
-use Rattle.plan_laws.proofs.Adding.Causes.{none_after_test, no_outer_no_sound}
+use Rattle.plan_spec.specs.Accepted.{may_follow, is_sound}
+use Rattle.plan_laws.proofs.Adding.Causes.{none_refuses, none_when, no_outer_no_sound}
 use Rattle.plan_laws.proofs.Adding.Obstacles.{sound_with_obstacle}
 use Rattle.plan_laws.proofs.Adding.Screens.{sound_with_screen}
 use Rattle.plan_laws.proofs.Adding.Routes.{sound_with_route}
@@ -19,7 +18,7 @@ use Rattle.plan_laws.proofs.Adding.Outers.{sound_with_outer}
 
 refused_outer : (p : Plan) (points : List Point) → false ≡ (is_sound p && is_none (why_not_outer p points))
 unfolding why_not_outer
-refused_outer p points = rw (none_after_test, no_outer_no_sound)
+refused_outer p points = rw (none_refuses, none_when, no_outer_no_sound)
 
 -- an item may follow and leaves a sound plan exactly where the plan is sound and the item isn't refused
 pub sound_with_item : (p : Plan) (i : Item) → (may_follow p i && is_sound (with_item p i)) ≡ (is_sound p && is_none (why_not_item p i))

@@ -1,19 +1,20 @@
 -- One more obstacle.
-use Rattle.std.specs.Prelude.{◌≡◌, ℕ, ◌+◌, nat_le, nat_lt, Bool, not, ◌&&◌, List, [], ◌∷◌, ◌++◌, length, is_none}
+use Rattle.std.specs.Prelude.{◌≡◌, ℕ, ◌+◌, nat_le, nat_lt, Bool, false, not, ◌&&◌, List, [], ◌∷◌, ◌++◌, length, None, is_none}
 use Rattle.std.specs.List.{list_all, list_any}
 use Rattle.std.specs.Str.{bytes_eq}
-use Rattle.std.proofs.Common.{refl, ap, ◌∙◌}
+use Rattle.std.proofs.Common.{refl, sym, ap, arith, ◌∙◌}
 use Rattle.std.proofs.Math.Bool.{and_assoc, and_comm, not-not, and-true}
 use Rattle.plane_spec.specs.declared.Point.{Point}
 use Rattle.plan_spec.specs.declared.kinds.Screen.{Screen}
 use Rattle.plan_spec.specs.declared.kinds.Item.TheVariants.{Obstacle as ObstacleItem}
+use Rattle.plan_spec.specs.declared.limits.TheConstants.{MOST_OBSTACLES, MOST_CORNERS}
 use Rattle.plan_spec.specs.Plan.{Obstacle, Plan, obstacle, with_obstacles, with_item, has_outer, corner_count, is_obstacle_named}
 use Rattle.plan_spec.specs.Accepted.{is_polygon, lies_within, polygons_meet, line_meets_polygon, obstacles_apart, do_obstacles_stand, do_screens_stand, do_routes_stand, is_sound}
 use Rattle.plan_spec.specs.Refusals.{why_not_obstacle}
 use Rattle.plan_laws.proofs.Tests.{and_left_comm, not_or}
 use Rattle.plan_laws.proofs.Lists.{list_all_push, list_any_push, list_all_and, list_all_not, list_all_agree}
 use Rattle.plan_laws.proofs.Pairs.{each_two_push}
-use Rattle.plan_laws.proofs.Adding.Causes.{none_after_test, none_after_obstacles, none_after_screens, not_below, outer_test_drops}
+use Rattle.plan_laws.proofs.Adding.Causes.{none_refuses, none_when, none_of_polygon, none_of_polygon_in, outer_test_drops}
 use Rattle.plan_laws.proofs.Adding.Limits.{limits_with_obstacle}
 
 -- one more obstacle stands where it is a polygon within the outer one, meets no other, and has a name of its own
@@ -72,10 +73,16 @@ pub fits_as_obstacle : (p : Plan) (name : List ℕ) (points : List Point)
     ≡ (has_outer p && (is_polygon points && (lies_within p.outer points
     && (not (list_any (λ o. polygons_meet o.points points) p.obstacles) && (not (list_any (λ s. line_meets_polygon s.from s.to points) p.screens)
     && (not (list_any (is_obstacle_named name) p.obstacles)
-    && (not (nat_le 256 (length p.obstacles)) && not (nat_lt 1024 (corner_count p + length points)))))))))
+    && (not (nat_le MOST_OBSTACLES (length p.obstacles)) && not (nat_lt MOST_CORNERS (corner_count p + length points)))))))))
 unfolding why_not_obstacle
 fits_as_obstacle p name points =
-    simp (none_after_test, none_after_obstacles, none_after_screens, not_below, not-not, and_assoc, and-true)
+    rw none_refuses (simp (none_when, none_of_polygon, none_of_polygon_in, not-not, and_assoc, and-true))
+
+-- an obstacle that isn't refused has a name of its own
+pub new_obstacle : (p : Plan) (name : List ℕ) (points : List Point) → why_not_obstacle p name points ≡ None → list_any (is_obstacle_named name) p.obstacles ≡ false
+new_obstacle p name points none =
+    let fits = sym (fits_as_obstacle p name points) ∙ ap is_none none in
+    grind arith
 
 new_tests_last : (a g o s r w p l m x n f c : Bool)
     → ((a && g) && (((o && ((p && l) && (m && n))) && (s && x)) && (r && (w && (f && c)))))

@@ -1,19 +1,20 @@
 -- One more route.
-use Rattle.std.specs.Prelude.{◌≡◌, ℕ, nat_le, Bool, not, ◌&&◌, List, [], ◌∷◌, ◌++◌, length, is_none}
+use Rattle.std.specs.Prelude.{◌≡◌, ℕ, nat_le, Bool, false, not, ◌&&◌, List, [], ◌∷◌, ◌++◌, length, None, is_none}
 use Rattle.std.specs.List.{list_all, list_any}
 use Rattle.std.specs.Str.{bytes_eq}
-use Rattle.std.proofs.Common.{refl}
-use Rattle.std.proofs.Math.Bool.{and_assoc, and_comm, not-not}
+use Rattle.std.proofs.Common.{refl, sym, ap, arith, ◌∙◌}
+use Rattle.std.proofs.Math.Bool.{and_assoc, and_comm, not-not, and-true}
 use Rattle.plane_spec.specs.declared.Point.{Point}
 use Rattle.plan_spec.specs.declared.kinds.Route.{Route}
 use Rattle.plan_spec.specs.declared.kinds.Item.TheVariants.{Route as RouteItem}
+use Rattle.plan_spec.specs.declared.limits.TheConstants.{MOST_ROUTES}
 use Rattle.plan_spec.specs.Plan.{Plan, route, with_routes, with_item, has_outer, is_route_named}
 use Rattle.plan_spec.specs.Accepted.{is_line, do_overlap_lines, routes_apart, do_obstacles_stand, do_screens_stand, do_routes_stand, is_sound}
 use Rattle.plan_spec.specs.Refusals.{why_not_route}
 use Rattle.plan_laws.proofs.Tests.{and_left_comm}
 use Rattle.plan_laws.proofs.Lists.{list_all_push, list_all_and, list_all_not}
 use Rattle.plan_laws.proofs.Pairs.{each_two_push}
-use Rattle.plan_laws.proofs.Adding.Causes.{none_after_test, none_after_routes, outer_test_drops}
+use Rattle.plan_laws.proofs.Adding.Causes.{none_refuses, none_when, none_of_line, none_of_routes, outer_test_drops}
 use Rattle.plan_laws.proofs.Adding.Limits.{limits_with_route}
 
 -- each route stands apart from a new one where it overlaps none of them and has a name of its own
@@ -53,10 +54,16 @@ screens_with_routes p name from to = refl
 pub fits_as_route : (p : Plan) (name : List ℕ) (from to : Point)
     → is_none (why_not_route p name from to)
     ≡ (has_outer p && (is_line from to && (not (list_any (is_route_named name) p.routes)
-    && (not (nat_le 256 (length p.routes)) && not (list_any (λ r. do_overlap_lines r.from r.to from to) p.routes)))))
+    && (not (nat_le MOST_ROUTES (length p.routes)) && not (list_any (λ r. do_overlap_lines r.from r.to from to) p.routes)))))
 unfolding why_not_route
 fits_as_route p name from to =
-    simp (none_after_test, none_after_routes, not-not, and_assoc)
+    rw none_refuses (simp (none_when, none_of_line, none_of_routes, not-not, and-true))
+
+-- a route that isn't refused has a name of its own
+pub new_route : (p : Plan) (name : List ℕ) (from to : Point) → why_not_route p name from to ≡ None → list_any (is_route_named name) p.routes ≡ false
+new_route p name from to none =
+    let fits = sym (fits_as_route p name from to) ∙ ap is_none none in
+    grind arith
 
 new_tests_last : (a o r w l m n f : Bool)
     → (a && (o && ((r && (l && (m && n))) && (w && f))))

@@ -1,20 +1,21 @@
 -- One more screen.
-use Rattle.std.specs.Prelude.{◌≡◌, ℕ, ◌+◌, nat_le, nat_lt, Bool, not, ◌&&◌, List, [], ◌∷◌, ◌++◌, length, is_none}
+use Rattle.std.specs.Prelude.{◌≡◌, ℕ, ◌+◌, nat_le, nat_lt, Bool, false, not, ◌&&◌, List, [], ◌∷◌, ◌++◌, length, None, is_none}
 use Rattle.std.specs.List.{list_all, list_any}
 use Rattle.std.specs.Str.{bytes_eq}
-use Rattle.std.proofs.Common.{refl}
+use Rattle.std.proofs.Common.{refl, sym, ap, arith, ◌∙◌}
 use Rattle.std.proofs.Math.Bool.{and_assoc, not-not, and-true}
 use Rattle.plane_spec.specs.declared.Point.{Point}
 use Rattle.plane_spec.specs.Segments.{do_touch}
 use Rattle.plan_spec.specs.declared.kinds.Screen.{Screen}
 use Rattle.plan_spec.specs.declared.kinds.Item.TheVariants.{Screen as ScreenItem}
+use Rattle.plan_spec.specs.declared.limits.TheConstants.{MOST_SCREENS, MOST_CORNERS}
 use Rattle.plan_spec.specs.Plan.{Plan, screen, with_screens, with_item, has_outer, corner_count, is_screen_named}
 use Rattle.plan_spec.specs.Accepted.{is_line, line_lies_within, line_meets_polygon, screens_apart, do_obstacles_stand, do_screens_stand, do_routes_stand, is_sound}
 use Rattle.plan_spec.specs.Refusals.{why_not_screen}
 use Rattle.plan_laws.proofs.Tests.{and_left_comm}
 use Rattle.plan_laws.proofs.Lists.{list_all_push, list_all_and, list_all_not}
 use Rattle.plan_laws.proofs.Pairs.{each_two_push}
-use Rattle.plan_laws.proofs.Adding.Causes.{none_after_test, none_after_obstacles, none_after_screens, outer_test_drops}
+use Rattle.plan_laws.proofs.Adding.Causes.{none_refuses, none_when, none_of_line, none_of_line_in, outer_test_drops}
 use Rattle.plan_laws.proofs.Adding.Limits.{limits_with_screen}
 
 -- each screen stands apart from a new one where it touches none of them and has a name of its own
@@ -59,10 +60,16 @@ pub fits_as_screen : (p : Plan) (name : List ℕ) (from to : Point)
     ≡ (has_outer p && (is_line from to && (line_lies_within p.outer from to
     && (not (list_any (λ o. line_meets_polygon from to o.points) p.obstacles) && (not (list_any (λ s. do_touch s.from s.to from to) p.screens)
     && (not (list_any (is_screen_named name) p.screens)
-    && (not (nat_le 256 (length p.screens)) && not (nat_lt 1024 (corner_count p + 2)))))))))
+    && (not (nat_le MOST_SCREENS (length p.screens)) && not (nat_lt MOST_CORNERS (corner_count p + 2)))))))))
 unfolding why_not_screen
 fits_as_screen p name from to =
-    simp (none_after_test, none_after_obstacles, none_after_screens, not-not, and_assoc, and-true)
+    rw none_refuses (simp (none_when, none_of_line, none_of_line_in, not-not, and_assoc, and-true))
+
+-- a screen that isn't refused has a name of its own
+pub new_screen : (p : Plan) (name : List ℕ) (from to : Point) → why_not_screen p name from to ≡ None → list_any (is_screen_named name) p.screens ≡ false
+new_screen p name from to none =
+    let fits = sym (fits_as_screen p name from to) ∙ ap is_none none in
+    grind arith
 
 new_tests_last : (a o s r w l i m t n f c : Bool)
     → (a && ((o && (s && ((l && i) && (m && (t && n))))) && (r && (w && (f && c)))))

@@ -11,7 +11,7 @@ use Rattle.std.proofs.lemmas.List.Sums.{sum_by-append, sum_by-cons}
 use Rattle.std.proofs.lemmas.List.Folds.{list_any-append}
 use Rattle.plane_spec.specs.declared.Point.{Point}
 use Rattle.plane_spec.specs.Vectors.{is_in_range}
-use Rattle.plane_spec.specs.Polygons.{has_repeat, crosses_nowhere}
+use Rattle.plane_spec.specs.Polygons.{has_repeat, crosses_nowhere, is_simple}
 use Rattle.plan_spec.specs.declared.kinds.Screen.{Screen}
 use Rattle.plan_spec.specs.Plan.{Obstacle, Plan, obstacle, with_obstacles, corners_of_obstacle_count, is_obstacle_named}
 use Rattle.plan_spec.specs.Accepted.{each_two, is_polygon, lies_within, polygons_meet, line_meets_polygon, obstacles_apart, do_obstacles_stand, do_screens_stand, do_routes_stand, is_within_limits, is_sound}
@@ -164,8 +164,8 @@ module _ (name : List ℕ) (before : List Obstacle) (o : Obstacle) (after : List
 pub polygon_shifted : (dx dy : ℤ) (points : List Point) → is_polygon points ≡ true
     → is_polygon (map (shifted_point dx dy) points) ≡ list_all is_in_range (map (shifted_point dx dy) points)
 polygon_shifted dx dy points h =
-    let long = and_parts (nat_le 3 (length points)) (list_all is_in_range points && (not (has_repeat points) && crosses_nowhere points)) h in
-    let rest = and_parts (list_all is_in_range points) (not (has_repeat points) && crosses_nowhere points) long.1 in
-    let last = and_parts (not (has_repeat points)) (crosses_nowhere points) rest.1 in
+    let simple = and_parts (list_all is_in_range points) (is_simple points) h in
+    let long = and_parts (nat_le 3 (length points)) (not (has_repeat points) && crosses_nowhere points) simple.1 in
+    let last = and_parts (not (has_repeat points)) (crosses_nowhere points) long.1 in
     rw (length-map points (shifted_point dx dy), repeat_shifted dx dy points, crosses_shifted dx dy points, long.0, last.0, last.1)
     (and-true (list_all is_in_range (map (shifted_point dx dy) points)))

@@ -13,12 +13,11 @@ use Rattle.plan_spec.specs.declared.refusals.Why.{Why}
 use Rattle.plan_spec.specs.declared.refusals.Why.TheVariants.{Missing}
 use Rattle.plan_spec.specs.Plan.{Obstacle, Plan, with_obstacles, is_obstacle_named, is_screen_named, is_route_named}
 use Rattle.plan_spec.specs.Accepted.{is_polygon, lies_within, polygons_meet, line_meets_polygon, is_sound}
-use Rattle.plan_spec.specs.Edits.{shifted_point, shifted_obstacle, points_named, without_obstacle, why_not_moved, why_not_edit, edited}
-use Rattle.plan_laws.specs.Named.{is_there}
+use Rattle.plan_spec.specs.Edits.{is_there, shifted_point, shifted_obstacle, points_named, without_obstacle, why_not_moved, why_not_edit, edited}
 use Rattle.plan_laws.proofs.Lists.{list_all_middle}
 use Rattle.plan_laws.proofs.Names.{NameSplit, split_at_name}
 use Rattle.plan_laws.proofs.Parts.{parts_of_sound, parts_of_obstacles}
-use Rattle.plan_laws.proofs.Adding.Causes.{none_after_test, none_after_obstacles, none_after_screens}
+use Rattle.plan_laws.proofs.Adding.Causes.{none_refuses, none_when, none_of_polygon_in}
 use Rattle.plan_laws.proofs.Adding.Items.{no_cause, a_cause}
 use Rattle.plan_laws.proofs.Adding.Obstacles.{sound_with_obstacle}
 use Rattle.plan_laws.proofs.Adding.Screens.{sound_with_screen}
@@ -28,11 +27,26 @@ use Rattle.plan_laws.proofs.Edits.Moving.{sound_with_other_points, points_of_nam
 
 -- ---- an obstacle that is moved
 
-pub fits_when_moved : (p : Plan) (name : List ℕ) (points : List Point)
-    → is_none (why_not_moved p name points)
-    ≡ (list_all is_in_range points && (lies_within p.outer points
-    && (not (list_any (λ x. polygons_meet x.points points) (without_obstacle name p.obstacles)) && not (list_any (λ s. line_meets_polygon s.from s.to points) p.screens))))
-fits_when_moved p name points = simp (none_after_test, none_after_obstacles, none_after_screens, not-not, and-true)
+pub fits_when_moved : (others : Plan) (points : List Point)
+    → is_none (why_not_moved others points)
+    ≡ (list_all is_in_range points && (lies_within others.outer points
+    && (not (list_any (λ x. polygons_meet x.points points) others.obstacles) && not (list_any (λ s. line_meets_polygon s.from s.to points) others.screens))))
+unfolding why_not_moved
+fits_when_moved others points = rw none_refuses (simp (none_when, none_of_polygon_in, not-not, and-true))
+
+-- the plan without the obstacle of this name, and that obstacle's points moved
+abbrev pub others_of : Plan → List ℕ → Plan
+others_of p name = with_obstacles p (without_obstacle name p.obstacles)
+
+abbrev pub moved_points : Plan → List ℕ → ℤ → ℤ → List Point
+moved_points p name dx dy = map (shifted_point dx dy) (points_named name p.obstacles)
+
+-- a move isn't refused exactly where there is such an obstacle and the shifted polygon isn't refused
+pub none_of_move : (p : Plan) (name : List ℕ) (dx dy : ℤ)
+    → is_none (why_not_edit p (Move name dx dy))
+    ≡ (list_any (is_obstacle_named name) p.obstacles && is_none (why_not_moved (others_of p name) (moved_points p name dx dy)))
+unfolding why_not_edit
+none_of_move p name dx dy = rw none_refuses (simp (none_when, not-not, and-true))
 
 -- the tests that are left for the shifted polygon, beside the other obstacles
 fits : Plan → List Point → List Obstacle → Bool
@@ -41,7 +55,7 @@ fits p points others =
     && (not (list_any (λ x. polygons_meet x.points points) others) && not (list_any (λ s. line_meets_polygon s.from s.to points) p.screens)))
 
 moved_where_split : (p : Plan) (name : List ℕ) (dx dy : ℤ) → is_sound p ≡ true → NameSplit name p.obstacles
-    → is_none (why_not_moved p name (map (shifted_point dx dy) (points_named name p.obstacles))) ≡ is_sound (edited p (Move name dx dy))
+    → is_none (why_not_moved (others_of p name) (moved_points p name dx dy)) ≡ is_sound (edited p (Move name dx dy))
 unfolding edited fits
 moved_where_split p name dx dy h s =
     let moved : List Point = map (shifted_point dx dy) s.here.points in
@@ -57,7 +71,7 @@ moved_where_split p name dx dy h s =
     let polygons = and_parts (polygon s.here) (list_all polygon (s.before ++ s.after))
     (sym (list_all_middle polygon s.before s.here s.after) ∙ ap (list_all polygon) (sym s.is) ∙ (parts_of_obstacles p (parts_of_sound p h).obstacles).polygons) in
     let here = and_parts (is_polygon s.here.points) (lies_within p.outer s.here.points) polygons.0 in
-    fits_when_moved p name (map (shifted_point dx dy) (points_named name p.obstacles))
+    fits_when_moved (others_of p name) (moved_points p name dx dy)
     ∙ ap₂ (fits p) points_is others_is
     ∙ ap (λ t. t && (lies_within p.outer moved && (not (list_any (λ x. polygons_meet x.points moved) (s.before ++ s.after)) && not (list_any (λ s. line_meets_polygon s.from s.to moved) p.screens))))
     (sym (polygon_shifted dx dy s.here.points here.0))
@@ -65,17 +79,17 @@ moved_where_split p name dx dy h s =
     ∙ ap (λ os. is_sound (with_obstacles p os)) (sym obstacles_is)
 
 moved_where_there : (p : Plan) (name : List ℕ) (dx dy : ℤ) → is_sound p ≡ true → list_any (is_obstacle_named name) p.obstacles ≡ true
-    → is_none (why_not_moved p name (map (shifted_point dx dy) (points_named name p.obstacles))) ≡ is_sound (edited p (Move name dx dy))
+    → is_none (why_not_moved (others_of p name) (moved_points p name dx dy)) ≡ is_sound (edited p (Move name dx dy))
 moved_where_there p name dx dy h there =
     moved_where_split p name dx dy h (split_at_name name p.obstacles (parts_of_obstacles p (parts_of_sound p h).obstacles).apart there)
 
 -- ---- every edit
 
-where_there : (there : Bool) (a b : Bool) → (there ≡ true → a ≡ b) → (not (not there) && a) ≡ (there && b)
+where_there : (there : Bool) (a b : Bool) → (there ≡ true → a ≡ b) → (there && a) ≡ (there && b)
 where_there true a b h = h refl
 where_there false a b h = refl
 
-where_sound : (there b : Bool) → b ≡ true → (not (not there) && true) ≡ (there && b)
+where_sound : (there b : Bool) → b ≡ true → not (not there) ≡ (there && b)
 where_sound true b h = sym h
 where_sound false b h = refl
 
@@ -87,18 +101,18 @@ pub sound_where_edited : (p : Plan) (e : Edit) → is_sound p ≡ true → is_no
 unfolding why_not_edit edited
 sound_where_edited p (Add name points) h = alone (is_sound p) _ _ (sound_with_obstacle p name points) h
 sound_where_edited p (Remove name) h =
-    none_after_test (not (list_any (is_obstacle_named name) p.obstacles)) Missing None
+    none_when (not (list_any (is_obstacle_named name) p.obstacles)) Missing
     ∙ where_sound (list_any (is_obstacle_named name) p.obstacles) _ (sound_with_fewer_obstacles p (λ o. not (is_obstacle_named name o)) h)
 sound_where_edited p (Move name dx dy) h =
-    none_after_test (not (list_any (is_obstacle_named name) p.obstacles)) Missing (why_not_moved p name (map (shifted_point dx dy) (points_named name p.obstacles)))
+    none_of_move p name dx dy
     ∙ where_there (list_any (is_obstacle_named name) p.obstacles) _ _ (moved_where_there p name dx dy h)
 sound_where_edited p (AddScreen name from to) h = alone (is_sound p) _ _ (sound_with_screen p name from to) h
 sound_where_edited p (RemoveScreen name) h =
-    none_after_test (not (list_any (is_screen_named name) p.screens)) Missing None
+    none_when (not (list_any (is_screen_named name) p.screens)) Missing
     ∙ where_sound (list_any (is_screen_named name) p.screens) _ (sound_with_fewer_screens p (λ s. not (is_screen_named name s)) h)
 sound_where_edited p (AddRoute name from to) h = alone (is_sound p) _ _ (sound_with_route p name from to) h
 sound_where_edited p (RemoveRoute name) h =
-    none_after_test (not (list_any (is_route_named name) p.routes)) Missing None
+    none_when (not (list_any (is_route_named name) p.routes)) Missing
     ∙ where_sound (list_any (is_route_named name) p.routes) _ (sound_with_fewer_routes p (λ r. not (is_route_named name r)) h)
 
 -- ---- what isn't refused leaves a sound plan, and what is refused names nothing or leaves one that isn't

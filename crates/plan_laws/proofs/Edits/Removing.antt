@@ -7,9 +7,10 @@ use Rattle.std.proofs.lemmas.List.Sums.{length-filter, count_by-le-length}
 use Rattle.std.proofs.lemmas.List.Filters.{sum_by-filter_both}
 use Rattle.plan_spec.specs.declared.kinds.Screen.{Screen}
 use Rattle.plan_spec.specs.declared.kinds.Route.{Route}
+use Rattle.plan_spec.specs.declared.limits.TheConstants.{MOST_OBSTACLES, MOST_SCREENS, MOST_ROUTES, MOST_CORNERS}
 use Rattle.plan_spec.specs.Plan.{Obstacle, Plan, with_obstacles, with_screens, with_routes, corner_count, corners_of_obstacle_count}
 use Rattle.plan_spec.specs.Accepted.{is_polygon, is_line, lies_within, line_lies_within, line_meets_polygon, obstacles_apart, screens_apart, routes_apart, is_within_limits, is_sound}
-use Rattle.plan_laws.specs.Ranges.{IsWithinLimits}
+use Rattle.plan_spec.specs.Ranges.{IsWithinLimits}
 use Rattle.plan_laws.proofs.Lists.{list_all_filter, list_any_filter, list_all_weaker}
 use Rattle.plan_laws.proofs.Pairs.{each_two_filter}
 use Rattle.plan_laws.proofs.Parts.{parts_of_sound, sound_from_parts, parts_of_obstacles, obstacles_from_parts, parts_of_screens, screens_from_parts, parts_of_routes, routes_from_parts}
@@ -20,9 +21,9 @@ use Rattle.plan_laws.proofs.Ranges.{limits_are}
 pub within_limits : (p : Plan) → IsWithinLimits p → is_within_limits p ≡ true
 unfolding is_within_limits
 within_limits p l =
-    and_from (nat_le (length p.obstacles) 256 && nat_le (length p.screens) 256) (nat_le (length p.routes) 256 && nat_le (corner_count p) 1024)
-    (and_from (nat_le (length p.obstacles) 256) (nat_le (length p.screens) 256) (le-leb _ _ l.obstacles) (le-leb _ _ l.screens))
-    (and_from (nat_le (length p.routes) 256) (nat_le (corner_count p) 1024) (le-leb _ _ l.routes) (le-leb _ _ l.corners))
+    and_from (nat_le (length p.obstacles) MOST_OBSTACLES && nat_le (length p.screens) MOST_SCREENS) (nat_le (length p.routes) MOST_ROUTES && nat_le (corner_count p) MOST_CORNERS)
+    (and_from (nat_le (length p.obstacles) MOST_OBSTACLES) (nat_le (length p.screens) MOST_SCREENS) (le-leb _ _ l.obstacles) (le-leb _ _ l.screens))
+    (and_from (nat_le (length p.routes) MOST_ROUTES) (nat_le (corner_count p) MOST_CORNERS) (le-leb _ _ l.routes) (le-leb _ _ l.corners))
 
 fewer : {X : Type 0} (q : X → Bool) (xs : List X) → length (filter q xs) ≤ length xs
 fewer q xs = omega (arith, length-filter q xs, count_by-le-length q xs)

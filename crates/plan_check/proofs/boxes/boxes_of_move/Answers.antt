@@ -7,8 +7,8 @@ use Rattle.plane_spec.specs.declared.PlanBox.{PlanBox}
 use Rattle.plane_spec.specs.Vectors.{InRange}
 use Rattle.plane_spec.specs.Boxes.{box_of_points}
 use Rattle.plan_spec.specs.Edits.{changed_boxes, points_named}
-use Rattle.plan_check.specs.Shifts.{shifted_box}
-use Rattle.plan_laws.specs.Ranges.{IsBoxInRange}
+use Rattle.plan_spec.specs.Edits.{shifted_box}
+use Rattle.plan_spec.specs.Ranges.{IsBoxInRange}
 use Rattle.plan_laws.proofs.Boxes.{box_in_range, named_points_in}
 use Rattle.plan_check.proofs.MovedBox.{box_shifted}
 use Rattle.plan_check.proofs.boxes.boxes_of_move.Goals as goal

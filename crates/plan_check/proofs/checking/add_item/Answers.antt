@@ -1,6 +1,8 @@
 use Rattle.std.proofs.Common.{sym, ap, ◌∙◌}
 use Rattle.plan_spec.specs.Refusals.{why_not_item}
-use Rattle.plan_check.proofs.Causes.{new_obstacle, new_screen, new_route}
+use Rattle.plan_laws.proofs.Adding.Obstacles.{new_obstacle}
+use Rattle.plan_laws.proofs.Adding.Routes.{new_route}
+use Rattle.plan_laws.proofs.Adding.Screens.{new_screen}
 use Rattle.plan_check.proofs.checking.add_item.Goals as goal
 
 pub add_obstacle-requires : goal.add_obstacle-requires

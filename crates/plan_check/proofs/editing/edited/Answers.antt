@@ -1,15 +1,18 @@
-use Rattle.std.specs.Prelude.{◌≤◌, ◌<◌, ◌^◌, ℤ, pos, unsigned_abs}
+use Rattle.std.specs.Prelude.{◌≤◌, ◌<◌, ◌^◌, ℤ, unsigned_abs}
 use Rattle.std.proofs.Common.{FitsSigned, w64, refl, sym, ap, subst, arith, ◌∙◌}
 use Rattle.std.proofs.lemmas.Int.{to_z-of_z, fits_signed_from_abs}
 use Rattle.plane_spec.specs.Vectors.{IsWithin}
 use Rattle.exact_geom.proofs.Bounds.{size_within}
+use Rattle.plan_spec.specs.declared.limits.TheConstants.{MOST_SHIFT}
 use Rattle.plan_spec.specs.Plan.{with_item}
 use Rattle.plan_spec.specs.Edits.{IsShift, HasShift, edited, why_not_edit}
-use Rattle.plan_check.proofs.Causes.{new_obstacle, new_screen, new_route}
+use Rattle.plan_laws.proofs.Adding.Obstacles.{new_obstacle}
+use Rattle.plan_laws.proofs.Adding.Routes.{new_route}
+use Rattle.plan_laws.proofs.Adding.Screens.{new_screen}
 use Rattle.plan_check.proofs.editing.edited.Goals.{in-Add+in_ok-points-in-Add+in_ok-add_obstacle-in-Add, in-Remove, in-Move+in_ok-move_obstacle-in-Move, in-AddScreen+in_ok-add_screen-in-AddScreen, in-RemoveScreen, in-AddRoute+in_ok-add_route-in-AddRoute, in-RemoveRoute}
 use Rattle.plan_check.proofs.editing.edited.Goals as goal
 
-shift_fits : (z : ℤ) → IsWithin (pos 999999999) z → FitsSigned w64 z
+shift_fits : (z : ℤ) → IsWithin MOST_SHIFT z → FitsSigned w64 z
 shift_fits z h = fits_signed_from_abs w64 z (le_lt (size_within 999999999 z h))
   where
     le_lt : unsigned_abs z ≤ 999999999 → unsigned_abs z < 2 ^ 63

@@ -1,8 +1,0 @@
-use Rattle.std.specs.Prelude.{All}
-use Rattle.std.proofs.Common.{subst, sym}
-use Rattle.plane_spec.specs.Vectors.{InRange}
-use Rattle.plan_laws.proofs.Ranges.{outer_in_range}
-use Rattle.plan_check.proofs.editing.why_not_moved.Goals as goal
-
-pub lies_within-requires-clause-outer_in : goal.lies_within-requires-clause-outer_in
-lies_within-requires-clause-outer_in c = subst (All InRange) (sym c.outer.ensures) (outer_in_range c.args.draft.now c.requires)

@@ -1,5 +1,0 @@
-use Rattle.plan_check.proofs.Ranges.{next_obstacle_in}
-use Rattle.plan_check.proofs.refusals.obstacle_met.Goals as goal
-
-pub polygons_meet-requires-clause-points_in : goal.polygons_meet-requires-clause-points_in
-polygons_meet-requires-clause-points_in c = next_obstacle_in c.args.draft.now c.loop-k.k _ _ c.obstacle.result.now c.requires.sound c.obstacle.ensures.next c.obstacle.ensures.points

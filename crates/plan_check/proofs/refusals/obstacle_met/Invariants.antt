@@ -1,6 +1,0 @@
-use Rattle.std.specs.Prelude.{◌≡◌, None, drop}
-use Rattle.plan_spec.specs.Refusals.{first_obstacle, obstacles_met}
-use Rattle.plan_check.proofs.refusals.obstacle_met.Given as goal
-
-abbrev pub invariant-loop-k : goal.invariant-loop-k
-invariant-loop-k l = first_obstacle (obstacles_met l.points (drop l.k l.draft.obstacles)) None ≡ first_obstacle (obstacles_met l.points l.draft.obstacles) None
