@@ -5,10 +5,12 @@ use Rattle.std.proofs.lemmas.List.Elements.{All-nil, All-cons, All-head, All-tai
 use Rattle.plane_spec.specs.declared.Orientation.{Orientation}
 use Rattle.plane_spec.specs.declared.Point.{Point}
 use Rattle.plane_spec.specs.declared.Segment.{Segment}
+use Rattle.plane_spec.specs.declared.Corner.{Corner}
 use Rattle.plane_spec.specs.Polygons.{edges_to, edges_of}
 use Rattle.plane_spec.specs.Cones.{corner}
 use Rattle.plan_spec.specs.Scene.{turned_edge, goes_round, walls_round, corners_after, last_edge, corners_along}
-use Rattle.plan_spec.specs.Scene.{turned_corner, corners_round}
+use Rattle.plan_spec.specs.Scene.{turned_corner, corners_round, walls_of_obstacle, corners_of_obstacle}
+use Rattle.plan_spec.specs.Plan.{Obstacle}
 use Rattle.box_laws.specs.Boxes.{OfEnds, OfCorner}
 
 -- ---- edges
@@ -49,6 +51,10 @@ walls_held P way points all = by_way (goes_round way points)
     by_way true = edges_held P points all
     by_way false = turned_held P (edges_of points) (edges_held P points all)
 
+-- what holds of all points of an obstacle holds of the ends of its walls
+pub obstacle_walls_held : (P : Point → Type 0) (o : Obstacle) → All P o.points → All (OfEnds P) (walls_of_obstacle o)
+obstacle_walls_held P o all = walls_held P true o.points all
+
 -- ---- corners
 
 -- corners at the beginnings of edges
@@ -78,3 +84,18 @@ corners_held P way points all = by_way (goes_round way points)
         (cond t (corners_along (edges_of points)) (map turned_corner (corners_along (edges_of points))))
     by_way true = held
     by_way false = All-map (OfCorner P) turned_corner (corners_along (edges_of points)) held
+
+-- what holds of all points of an obstacle holds of its corners
+pub obstacle_corners_held : (P : Point → Type 0) (o : Obstacle) → All P o.points
+    → All (OfCorner P) (corners_of_obstacle o)
+obstacle_corners_held P o all = corners_held P true o.points all
+
+-- ---- the outer polygon
+
+-- its walls
+abbrev pub outer_walls : List Point → List Segment
+outer_walls points = walls_round false points
+
+-- and its corners
+abbrev pub outer_corners : List Point → List Corner
+outer_corners points = corners_round false points

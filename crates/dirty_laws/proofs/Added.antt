@@ -12,12 +12,10 @@ use Rattle.std.proofs.lemmas.Int.{ints}
 use Rattle.std.proofs.lemmas.Bool.{and_parts}
 use Rattle.std.proofs.lemmas.List.Elements.{All-head, All-tail, Contains-get_or}
 use Rattle.std.proofs.lemmas.List.Elements.{Contains-append_left, Contains-append_right}
-use Rattle.plane_spec.specs.declared.Orientation.{Orientation}
 use Rattle.plane_spec.specs.declared.Point.{Point}
 use Rattle.plane_spec.specs.declared.PlanBox.{PlanBox}
 use Rattle.plane_spec.specs.declared.Segment.{Segment}
 use Rattle.plane_spec.specs.declared.Corner.{Corner}
-use Rattle.plane_spec.specs.declared.Orientation.TheVariants.{Counterclockwise, Clockwise}
 use Rattle.plane_spec.specs.Vectors.{same_point}
 use Rattle.plane_spec.specs.Boxes.{box_of_points}
 use Rattle.plane_spec.specs.Polygons.{edges_to, edges_of, has_repeat, is_nothing}
@@ -39,6 +37,7 @@ use Rattle.list_laws.proofs.Tests.{list_any_map, list_all_middle, filter_none}
 use Rattle.list_laws.proofs.Elements.{each_mapped_part, passed_by_one}
 use Rattle.list_laws.proofs.Single.{with_single_changed}
 use Rattle.box_laws.specs.Boxes.{IsIn}
+use Rattle.box_laws.proofs.Parts.{outer_corners}
 use Rattle.box_laws.proofs.Held.{held_in}
 use Rattle.box_laws.proofs.Blocking.{second_meets}
 use Rattle.dirty_laws.proofs.ClosingUp.{obstacle_alone, only_one_has, places, part_in_middle, screens_last}
@@ -47,8 +46,8 @@ use Rattle.dirty_laws.proofs.ClosingUp.{obstacle_alone, only_one_has, places, pa
 
 -- in a scene with two corners at different points of the box after an edit, each corner is dirty
 each_is_dirty : (boxes : Changed) (box : PlanBox) → boxes.second ≡ Some box
-    → (old new : Scene) (lines : List AxialLine)
-    (c d : Point) → Contains (places new.corners) c → Contains (places new.corners) d → same_point c d ≡ false
+    → (old new : Scene) (lines : List AxialLine) (c d : Point) → Contains (places new.corners) c
+    → Contains (places new.corners) d → same_point c d ≡ false
     → IsIn box c → IsIn box d → (p : Point) → is_dirty_corner boxes old lines new p ≡ true
 unfolding is_dirty_corner is_dirty_pair
 each_is_dirty boxes box b old new lines c d ac ad differ ic id p = by (same_point c p) (same_point d p) refl refl
@@ -98,8 +97,8 @@ record HasTwo (points : List Point) : Type 0 where
 
 -- corners of a part that stand at points of the box, the first two of which differ, make each corner dirty
 part_is_dirty : (boxes : Changed) (box : PlanBox) → boxes.second ≡ Some box
-    → (old new : Scene) (lines : List AxialLine)
-    (front part back : List Point) → places new.corners ≡ front ++ (part ++ back) → HasTwo part → All (IsIn box) part
+    → (old new : Scene) (lines : List AxialLine) (front part back : List Point)
+    → places new.corners ≡ front ++ (part ++ back) → HasTwo part → All (IsIn box) part
     → (p : Point) → is_dirty_corner boxes old lines new p ≡ true
 part_is_dirty boxes box b old new lines front part back e two all =
     let in_part = subst (All (IsIn box)) two.is all in
@@ -156,17 +155,16 @@ places_along (p ∷ q ∷ points) =
     (record { a = p; b = q } ∷ edges_to p (q ∷ points))
     ∙ starts_are p (p ∷ q ∷ points)
 
--- whichever way round they go
-places_round : (way : Orientation) (points : List Point)
-    → places (corners_round way points) ≡ points
+-- the corners of an obstacle stand at its points, whichever way round these go
+places_of_obstacle : (o : Obstacle) → places (corners_of_obstacle o) ≡ o.points
 unfolding corners_round
-places_round way points = by (goes_round way points)
+places_of_obstacle o = by (goes_round true o.points)
   where
-    by : (t : Bool) → places (cond t (corners_along (edges_of points))
-        (map turned_corner (corners_along (edges_of points))))
-        ≡ points
-    by true = places_along points
-    by false = turned_places (corners_along (edges_of points)) ∙ places_along points
+    by : (t : Bool)
+        → places (cond t (corners_along (edges_of o.points)) (map turned_corner (corners_along (edges_of o.points))))
+        ≡ o.points
+    by true = places_along o.points
+    by false = turned_places (corners_along (edges_of o.points)) ∙ places_along o.points
 
 -- ---- the first two points of what is added differ
 
@@ -208,12 +206,12 @@ two_of_line from to h = record { one = from; other = to; rest = []; is = refl; d
 
 -- an obstacle of a sound plan, all of it in the box after the edit
 obstacle_is_dirty : (boxes : Changed) (box : PlanBox) → boxes.second ≡ Some box
-    → (old : Scene) (lines : List AxialLine)
-    (new : Plan) → is_sound new ≡ true → (before : List Obstacle) (o : Obstacle) (after : List Obstacle)
+    → (old : Scene) (lines : List AxialLine) (new : Plan) → is_sound new ≡ true
+    → (before : List Obstacle) (o : Obstacle) (after : List Obstacle)
     → new.obstacles ≡ before ++ o ∷ after → All (IsIn box) o.points
     → (p : Point) → is_dirty_corner boxes old lines (scene_of new) p ≡ true
 obstacle_is_dirty boxes box b old lines new sound before o after e all =
-    let outer = corners_round Clockwise new.outer in
+    let outer = outer_corners new.outer in
     let ends = flat_map ends_of_screen new.screens in
     part_is_dirty boxes box b old (scene_of new) lines (places (outer ++ flat_map corners_of_obstacle before))
     o.points
@@ -221,7 +219,7 @@ obstacle_is_dirty boxes box b old lines new sound before o after e all =
     (ap (λ os. places (outer ++ (flat_map corners_of_obstacle os ++ ends))) e
     ∙ part_in_middle corners_of_obstacle outer ends before o after
     ∙ ap (λ r. places (outer ++ flat_map corners_of_obstacle before)
-    ++ (r ++ places (flat_map corners_of_obstacle after ++ ends))) (places_round Counterclockwise o.points))
+    ++ (r ++ places (flat_map corners_of_obstacle after ++ ends))) (places_of_obstacle o))
     (two_of_polygon o.points polygon) all
   where
     sound_by_itself : Obstacle → Bool
@@ -240,7 +238,7 @@ screen_is_dirty : (boxes : Changed) (box : PlanBox) → boxes.second ≡ Some bo
     (new : Plan) → is_sound new ≡ true → (before : List Screen) (s : Screen) → new.screens ≡ before ++ s ∷ []
     → All (IsIn box) (s.from ∷ s.to ∷ []) → (p : Point) → is_dirty_corner boxes old lines (scene_of new) p ≡ true
 screen_is_dirty boxes box b old lines new sound before s e all =
-    let outer = corners_round Clockwise new.outer in
+    let outer = outer_corners new.outer in
     let others = flat_map corners_of_obstacle new.obstacles in
     part_is_dirty boxes box b old (scene_of new) lines (places ((outer ++ others) ++ flat_map ends_of_screen before))
     (s.from ∷ s.to ∷ []) []

@@ -19,7 +19,6 @@ use Rattle.std.proofs.lemmas.List.Elements.{All-nil, All-cons, All-head, All-tai
 use Rattle.plane_spec.specs.declared.Point.{Point}
 use Rattle.plane_spec.specs.declared.PlanBox.{PlanBox}
 use Rattle.plane_spec.specs.declared.Corner.{Corner}
-use Rattle.plane_spec.specs.declared.Orientation.TheVariants.{Counterclockwise, Clockwise}
 use Rattle.plane_spec.specs.Segments.{do_touch}
 use Rattle.plane_spec.specs.Boxes.{box_of_points, does_meet_box, do_overlap, reaches_line}
 use Rattle.plan_spec.specs.declared.kinds.Screen.{Screen}
@@ -37,7 +36,7 @@ use Rattle.list_laws.proofs.Elements.{each_part, second_part, where_passed}
 use Rattle.list_laws.proofs.Single.{Single, single, all_but_single}
 use Rattle.box_laws.specs.Boxes.{IsIn, OfCorner}
 use Rattle.box_laws.proofs.Held.{held_in}
-use Rattle.box_laws.proofs.Parts.{corners_held}
+use Rattle.box_laws.proofs.Parts.{obstacle_corners_held, outer_corners}
 use Rattle.box_laws.proofs.Blocking.{first_meets}
 use Rattle.dirty_laws.proofs.Unboxed.{first_of, second_of}
 use Rattle.dirty_laws.specs.Scenes.{ClosesUp, removal_of}
@@ -136,8 +135,8 @@ part_in_middle f first last before x after = simp (flat_map-append, map-append, 
 
 -- and without it
 part_left_out : {X : Type 0} (f : X → List Corner) (first last : List Corner) (before after : List X)
-    → places (first ++ (flat_map f (before ++ after) ++ last))
-    ≡ places (first ++ flat_map f before) ++ places (flat_map f after ++ last)
+    → places (first ++ (flat_map f (before ++ after) ++ last)) ≡ places (first ++ flat_map f before) ++ places
+    (flat_map f after ++ last)
 part_left_out f first last before after = simp (flat_map-append, map-append, append_assoc) refl
 
 -- the corners of obstacles and screens, with the screens last: those of the parts before, and of the screens
@@ -166,7 +165,7 @@ closes_obstacle : (box : PlanBox) (plan : Plan) (name : List ℕ)
     → Single (is_obstacle_named name) plan.obstacles
     → ClosesUp box (scene_of plan) (scene_of (with_obstacles plan (without_obstacle name plan.obstacles)))
 closes_obstacle box plan name held s =
-    let outer = corners_round Clockwise plan.outer in
+    let outer = outer_corners plan.outer in
     let ends = flat_map ends_of_screen plan.screens in
     let all : List Obstacle → List Point = λ os. places (outer ++ (flat_map corners_of_obstacle os ++ ends)) in
     let in_box = only_one_has (PointsIn box) (is_obstacle_named name) plan.obstacles s held in
@@ -178,7 +177,7 @@ closes_obstacle box plan name held s =
       new_is = ap all (all_but_single (is_obstacle_named name) plan.obstacles s)
           ∙ part_left_out corners_of_obstacle outer ends s.before s.after;
       gone_in = all_meet box (places (corners_of_obstacle s.it))
-          (places_in box (corners_of_obstacle s.it) (corners_held (IsIn box) Counterclockwise s.it.points in_box));
+          (places_in box (corners_of_obstacle s.it) (obstacle_corners_held (IsIn box) s.it in_box));
     }
 
 -- the ends of a screen that is removed
@@ -187,7 +186,7 @@ closes_screen : (box : PlanBox) (plan : Plan) (name : List ℕ)
     → ClosesUp box (scene_of plan)
     (scene_of (with_screens plan (filter (λ s. not (is_screen_named name s)) plan.screens)))
 closes_screen box plan name held s =
-    let outer = corners_round Clockwise plan.outer in
+    let outer = outer_corners plan.outer in
     let others = flat_map corners_of_obstacle plan.obstacles in
     let all : List Screen → List Point = λ ss. places ((outer ++ others) ++ (flat_map ends_of_screen ss ++ [])) in
     let in_box = only_one_has (EndsIn box) (is_screen_named name) plan.screens s held in

@@ -24,8 +24,8 @@ corners_close_up box before after e =
 
 -- every corner is dirty after an addition or a move
 pub all_dirty_after_addition : (box : PlanBox) (before after : Scene) (boxes : Changed) → IsEdited before after boxes
-    → boxes.second ≡ Some box → (lines : List AxialLine) (p : Point) → is_dirty_corner boxes before lines after p
-    ≡ true
+    → boxes.second ≡ Some box → (lines : List AxialLine) (p : Point)
+    → is_dirty_corner boxes before lines after p ≡ true
 all_dirty_after_addition box before after boxes e b lines p =
     ap (λ scene. is_dirty_corner boxes before lines scene p) e.after_is
     ∙ dirty_after_addition e.plan e.edit box e.sound e.accepted boxes b

@@ -13,7 +13,6 @@ use Rattle.std.specs.List.{flat_map}
 use Rattle.std.proofs.lemmas.List.Elements.{All-nil, All-cons, All-head, All-tail}
 use Rattle.plane_spec.specs.declared.Point.{Point}
 use Rattle.plane_spec.specs.declared.PlanBox.{PlanBox}
-use Rattle.plane_spec.specs.declared.Orientation.TheVariants.{Counterclockwise, Clockwise}
 use Rattle.plane_spec.specs.Boxes.{box_of_points}
 use Rattle.plan_spec.specs.declared.kinds.Screen.{Screen}
 use Rattle.plan_spec.specs.declared.changes.Edit.{Edit}
@@ -28,7 +27,7 @@ use Rattle.plan_spec.specs.Edits.{shifted_point}
 use Rattle.box_laws.specs.Boxes.{IsIn, OfEnds, OfCorner}
 use Rattle.box_laws.proofs.Held.{held_in}
 use Rattle.list_laws.proofs.Elements.{each_part}
-use Rattle.box_laws.proofs.Parts.{walls_held, corners_held}
+use Rattle.box_laws.proofs.Parts.{obstacle_corners_held, obstacle_walls_held, outer_corners, outer_walls}
 use Rattle.list_laws.specs.Dropped.{Dropped}
 use Rattle.list_laws.proofs.Dropped.{nothing_dropped, both_dropped, parts_dropped, each_dropped}
 use Rattle.list_laws.proofs.Dropped.{passing_dropped}
@@ -50,15 +49,15 @@ without_obstacles : (box : PlanBox) (plan : Plan) (obstacles : List Obstacle)
     → Dropped (PointsIn box) plan.obstacles obstacles
     → IsWithout box (scene_of plan) (scene_of (with_obstacles plan obstacles))
 without_obstacles box plan obstacles d =
-    let walls = walls_round Clockwise plan.outer in
-    let corners = corners_round Clockwise plan.outer in
+    let walls = outer_walls plan.outer in
+    let corners = outer_corners plan.outer in
     let ends = flat_map ends_of_screen plan.screens in
     record {
       walls =
           both_dropped (OfEnds (IsIn box)) walls walls (flat_map walls_of_obstacle plan.obstacles)
           (flat_map walls_of_obstacle obstacles) (nothing_dropped (OfEnds (IsIn box)) walls)
           (parts_dropped (PointsIn box) (OfEnds (IsIn box)) walls_of_obstacle
-          (λ o h. walls_held (IsIn box) Counterclockwise o.points h) plan.obstacles obstacles d);
+          (obstacle_walls_held (IsIn box)) plan.obstacles obstacles d);
       screens = nothing_dropped (OfEnds (IsIn box)) (map segment_of_screen plan.screens);
       corners =
           both_dropped (OfCorner (IsIn box)) corners corners (flat_map corners_of_obstacle plan.obstacles ++ ends)
@@ -66,7 +65,7 @@ without_obstacles box plan obstacles d =
           (both_dropped (OfCorner (IsIn box)) (flat_map corners_of_obstacle plan.obstacles)
           (flat_map corners_of_obstacle obstacles) ends ends
           (parts_dropped (PointsIn box) (OfCorner (IsIn box)) corners_of_obstacle
-          (λ o h. corners_held (IsIn box) Counterclockwise o.points h) plan.obstacles obstacles d)
+          (obstacle_corners_held (IsIn box)) plan.obstacles obstacles d)
           (nothing_dropped (OfCorner (IsIn box)) ends));
     }
 
@@ -88,12 +87,12 @@ end_corners_held box s h =
 without_screens : (box : PlanBox) (plan : Plan) (screens : List Screen) → Dropped (EndsIn box) plan.screens screens
     → IsWithout box (scene_of plan) (scene_of (with_screens plan screens))
 without_screens box plan screens d =
-    let corners = corners_round Clockwise plan.outer in
+    let corners = outer_corners plan.outer in
     let others = flat_map corners_of_obstacle plan.obstacles in
     record {
       walls =
           nothing_dropped (OfEnds (IsIn box))
-          (walls_round Clockwise plan.outer ++ flat_map walls_of_obstacle plan.obstacles);
+          (outer_walls plan.outer ++ flat_map walls_of_obstacle plan.obstacles);
       screens =
           each_dropped (EndsIn box) (OfEnds (IsIn box)) segment_of_screen (ends_held box) plan.screens screens d;
       corners =

@@ -10,7 +10,6 @@ use Rattle.std.specs.List.{flat_map}
 use Rattle.std.proofs.lemmas.List.Elements.{All-nil, All-cons, All-head, All-tail, All-weaker}
 use Rattle.plane_spec.specs.declared.Point.{Point}
 use Rattle.plane_spec.specs.declared.PlanBox.{PlanBox}
-use Rattle.plane_spec.specs.declared.Orientation.TheVariants.{Counterclockwise}
 use Rattle.plane_spec.specs.Boxes.{box_of_points}
 use Rattle.plane_spec.specs.Polygons.{edges_of}
 use Rattle.plan_spec.specs.declared.kinds.Screen.{Screen}
@@ -41,24 +40,20 @@ no_points (p ∷ points) h = cc
 -- obstacles without points have no walls
 no_walls : (o : Obstacle) → o.points ≡ [] → walls_of_obstacle o ≡ []
 unfolding walls_round
-no_walls o e =
-    ap (λ ps. cond (goes_round Counterclockwise ps) (edges_of ps) (map turned_edge (edges_of ps))) e ∙ either (goes_round Counterclockwise [])
+no_walls o e = ap (λ ps. walls_round true ps) e ∙ by (goes_round true [])
   where
-    either : (t : Bool) → cond t (edges_of []) (map turned_edge (edges_of [])) ≡ []
-    either true = refl
-    either false = refl
+    by : (t : Bool) → cond t (edges_of []) (map turned_edge (edges_of [])) ≡ []
+    by true = refl
+    by false = refl
 
 -- nor corners
 no_corners : (o : Obstacle) → o.points ≡ [] → corners_of_obstacle o ≡ []
 unfolding corners_round
-no_corners o e =
-    ap (λ ps. cond (goes_round Counterclockwise ps) (corners_along (edges_of ps))
-    (map turned_corner (corners_along (edges_of ps)))) e
-    ∙ either (goes_round Counterclockwise [])
+no_corners o e = ap (λ ps. corners_round true ps) e ∙ by (goes_round true [])
   where
-    either : (t : Bool) → cond t (corners_along (edges_of [])) (map turned_corner (corners_along (edges_of []))) ≡ []
-    either true = refl
-    either false = refl
+    by : (t : Bool) → cond t (corners_along (edges_of [])) (map turned_corner (corners_along (edges_of []))) ≡ []
+    by true = refl
+    by false = refl
 
 -- each of the parts is empty where they are joined to nothing
 each_empty : {X Y : Type 0} (f : X → List Y) (xs : List X) → flat_map f xs ≡ [] → All (λ x. f x ≡ []) xs

@@ -209,10 +209,10 @@ on_line_by_sides a b p = rw (line_turned a b p) (by (orient_of a b p))
 
 -- on lines with the same ends the same points lie
 pub on_same : (i j k l : Point) (s t u v : Fraction) (p : Point) → IsExtent s t → IsExtent u v
-    → SameSpot (spot_at i (vector j i) s) (spot_at k (vector l k) u) → SameSpot (spot_at j (vector i j) t)
-    (spot_at l (vector k l) v)
-    → is_on_spots i j (spot_at i (vector j i) s) (spot_at j (vector i j) t) p ≡ is_on_spots k l
-    (spot_at k (vector l k) u) (spot_at l (vector k l) v) p
+    → SameSpot (spot_at i (vector j i) s) (spot_at k (vector l k) u)
+    → SameSpot (spot_at j (vector i j) t) (spot_at l (vector k l) v)
+    → is_on_spots i j (spot_at i (vector j i) s) (spot_at j (vector i j) t) p
+    ≡ is_on_spots k l (spot_at k (vector l k) u) (spot_at l (vector k l) v) p
 unfolding is_on_spots
 on_same i j k l s t u v p a b f g =
     all_same

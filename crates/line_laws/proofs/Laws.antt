@@ -26,8 +26,7 @@ new_line_stood box old new less = clean_line_came box old new less
 -- the axial lines after a removal
 pub lines_after_removal : (box : PlanBox) (old new : Scene) → IsWithout box old new → (c : ClosesUp box old new)
     → are_fresh_stopped (removal_of box) old (axial_lines old) new ≡ true
-    → axial_lines new
-    ≡ merged comes_before (kept_lines (removal_of box) old (axial_lines old) (length c.front) (length c.gone))
-    (fresh_lines (removal_of box) old (axial_lines old) new)
+    → axial_lines new ≡ merged comes_before (kept_lines (removal_of box) old (axial_lines old) (length c.front)
+    (length c.gone)) (fresh_lines (removal_of box) old (axial_lines old) new)
 lines_after_removal box old new less c stopped =
     lines_updated box old new less c.front c.gone c.back c.old_is c.new_is (all_met_in box c.gone c.gone_in) stopped

@@ -121,8 +121,8 @@ module _ (box : PlanBox) (old new : Scene) (less : IsWithout box old new) where
 
   -- an old extent that misses the box keeps its stop
   pub stop_stays : (i j : Point) (from : Spot) → pos 0 <ℤ dot_of (vector i j) (vector i j)
-      → spots_meet_box i j from (spot_beyond old i j) box ≡ false → stop_of new j (vector i j) ≡ stop_of old j
-      (vector i j)
+      → spots_meet_box i j from (spot_beyond old i j) box ≡ false
+      → stop_of new j (vector i j) ≡ stop_of old j (vector i j)
   unfolding stop_of
   stop_stays i j from dd = by (least is_before (hits old i j)) refl
     where
@@ -141,8 +141,9 @@ module _ (box : PlanBox) (old new : Scene) (less : IsWithout box old new) where
 
   -- a new extent that misses the box, and is stopped at that end, had that stop before
   pub stop_came : (i j : Point) (s t : Fraction) → pos 0 <ℤ dot_of (vector i j) (vector i j) → IsHit s
-      → stop_of new j (vector i j) ≡ Some t → spots_meet_box i j (spot_at i (vector j i) s)
-      (spot_at j (vector i j) t) box ≡ false → stop_of old j (vector i j) ≡ Some t
+      → stop_of new j (vector i j) ≡ Some t
+      → spots_meet_box i j (spot_at i (vector j i) s) (spot_at j (vector i j) t) box ≡ false
+      → stop_of old j (vector i j) ≡ Some t
   unfolding stop_of
   stop_came i j s t dd sh =
       by (least is_before (hits new i j)) refl

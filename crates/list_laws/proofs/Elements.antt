@@ -156,8 +156,8 @@ implied_first test implied (x ∷ xs) all =
     clash e = cc
 
     by : (s t : Bool) → test x ≡ s → implied x ≡ t → (test x ≡ true → implied x ≡ true)
-        → filter test xs ≡ filter test (filter implied xs) → filter test (x ∷ xs) ≡ filter test
-        (filter implied (x ∷ xs))
+        → filter test xs ≡ filter test (filter implied xs)
+        → filter test (x ∷ xs) ≡ filter test (filter implied (x ∷ xs))
     by true true d o h ih = rw (d, o, d) (ap (λ r. x ∷ r) ih)
     by true false d o h ih = clash (sym o ∙ h d)
     by false true d o h ih = rw (d, o, d) ih

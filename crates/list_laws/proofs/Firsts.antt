@@ -43,10 +43,10 @@ firsts_map same f seen [] = refl
 firsts_map same f seen (x ∷ xs) = by (list_any (λ y. same (f x) (f y)) seen) refl (firsts_map same f (x ∷ seen) xs)
   where
     by : (u : Bool) → list_any (λ y. same (f x) (f y)) seen ≡ u
-        → firsts_after same (map f (x ∷ seen)) (map f xs)
-        ≡ map f (firsts_after (λ x y. same (f x) (f y)) (x ∷ seen) xs)
-        → firsts_after same (map f seen) (map f (x ∷ xs))
-        ≡ map f (firsts_after (λ x y. same (f x) (f y)) seen (x ∷ xs))
+        → firsts_after same (map f (x ∷ seen))
+        (map f xs) ≡ map f (firsts_after (λ x y. same (f x) (f y)) (x ∷ seen) xs)
+        → firsts_after same (map f seen)
+        (map f (x ∷ xs)) ≡ map f (firsts_after (λ x y. same (f x) (f y)) seen (x ∷ xs))
     by true e h = rw (list_any_map (same (f x)) f seen, e) h
     by false e h = rw (list_any_map (same (f x)) f seen, e) (ap (λ r. f x ∷ r) h)
 

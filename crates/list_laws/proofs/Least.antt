@@ -137,8 +137,8 @@ module _ {X : Type 0} (Q : X → Type 0) (before : X → X → Bool) (laws : IsW
 
   -- from any best so far, the least stays where it is of another kind than what is dropped
   without_from : (P C : X → Type 0) → ((y : X) → P y → C y → ⊥) → (m : X) (b : Option X) (xs ys : List X)
-      → Dropped P xs ys → IfSome b Q → All Q xs → C m → least_from before b xs ≡ Some m → least_from before b ys
-      ≡ Some m
+      → Dropped P xs ys → IfSome b Q → All Q xs → C m → least_from before b xs ≡ Some m
+      → least_from before b ys ≡ Some m
   without_from P C bad m b xs ys done qb qs good h = h
   without_from P C bad m b xs ys (keep x us vs d) qb qs good h =
       without_from P C bad m (better before b x) us vs d (better_has b x qb (All-head Q x us qs)) (All-tail Q x us qs)

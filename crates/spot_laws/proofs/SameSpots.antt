@@ -25,6 +25,7 @@ use Rattle.plane_spec.specs.Boxes.{is_left_of}
 use Rattle.box_laws.proofs.Touching.{order_stays}
 use Rattle.spot_laws.proofs.Spots.{Spot, spot_at, spots_overlap, spots_meet_box, IsPositive}
 use Rattle.spot_laws.proofs.Factors.{not_negative, same_sign, low_same, high_same}
+use Rattle.box_laws.proofs.Held.{overlap_turned}
 
 -- ---- the cross product of two combinations
 -- the same over differences of naturals
@@ -159,8 +160,8 @@ turned e = record { before = e.after; after = e.before; back = e.on; on = e.back
 
 -- a point lies left of both lines or of neither
 pub side_same : (i j k l c : Point) (s t u v : Fraction) → IsExtent s t → IsExtent u v
-    → SameSpot (spot_at i (vector j i) s) (spot_at k (vector l k) u) → SameSpot (spot_at j (vector i j) t)
-    (spot_at l (vector k l) v)
+    → SameSpot (spot_at i (vector j i) s) (spot_at k (vector l k) u)
+    → SameSpot (spot_at j (vector i j) t) (spot_at l (vector k l) v)
     → int_lt (pos 0) (orient_of i j c) ≡ int_lt (pos 0) (orient_of k l c)
 side_same i j k l c s t u v a b f g =
     sym (same_sign (factor s t) (orient_of i j c)
@@ -176,8 +177,8 @@ side_same i j k l c s t u v a b f g =
 
 -- so does a box
 pub left_same : (i j k l : Point) (s t u v : Fraction) (box : PlanBox) → IsExtent s t → IsExtent u v
-    → SameSpot (spot_at i (vector j i) s) (spot_at k (vector l k) u) → SameSpot (spot_at j (vector i j) t)
-    (spot_at l (vector k l) v)
+    → SameSpot (spot_at i (vector j i) s) (spot_at k (vector l k) u)
+    → SameSpot (spot_at j (vector i j) t) (spot_at l (vector k l) v)
     → is_left_of i j box ≡ is_left_of k l box
 unfolding is_left_of
 left_same i j k l s t u v box a b f g =
@@ -204,10 +205,10 @@ overlap_same fm fv tm tv gm gv um uv low high a b c d h k =
 
 -- the same ends in the same order
 pub extent_same : (i j k l : Point) (s t u v : Fraction) (box : PlanBox) → IsExtent s t → IsExtent u v
-    → SameSpot (spot_at i (vector j i) s) (spot_at k (vector l k) u) → SameSpot (spot_at j (vector i j) t)
-    (spot_at l (vector k l) v)
-    → spots_meet_box i j (spot_at i (vector j i) s) (spot_at j (vector i j) t) box ≡ spots_meet_box k l
-    (spot_at k (vector l k) u) (spot_at l (vector k l) v) box
+    → SameSpot (spot_at i (vector j i) s) (spot_at k (vector l k) u)
+    → SameSpot (spot_at j (vector i j) t) (spot_at l (vector k l) v)
+    → spots_meet_box i j (spot_at i (vector j i) s) (spot_at j (vector i j) t) box
+    ≡ spots_meet_box k l (spot_at k (vector l k) u) (spot_at l (vector k l) v) box
 unfolding spots_meet_box
 extent_same i j k l s t u v box a b f g =
     all_same
@@ -226,28 +227,16 @@ extent_same i j k l s t u v box a b f g =
 pub extent_back : (i j : Point) (f t : Spot) (box : PlanBox) → spots_meet_box i j f t box ≡ spots_meet_box j i t f box
 unfolding spots_meet_box
 extent_back i j f t box =
-    by (int_le (box.low.x *ℤ f.w) f.x) (int_le (box.low.x *ℤ t.w) t.x) (int_le f.x (box.high.x *ℤ f.w))
-    (int_le t.x (box.high.x *ℤ t.w))
-    (int_le (box.low.y *ℤ f.w) f.y) (int_le (box.low.y *ℤ t.w) t.y) (int_le f.y (box.high.y *ℤ f.w))
-    (int_le t.y (box.high.y *ℤ t.w)) (is_left_of i j box) (is_left_of j i box)
-  where
-    or_comm : (a b : Bool) → (b || a) ≡ (a || b)
-    or_comm a b = grind arith
-
-    and_comm : (a b : Bool) → (b && a) ≡ (a && b)
-    and_comm a b = grind arith
-
-    by : (a b c d e f g h s t : Bool)
-        → ((((a || b) && (c || d)) && ((e || f) && (g || h))) && (not s && not t))
-        ≡ ((((b || a) && (d || c)) && ((f || e) && (h || g))) && (not t && not s))
-    by a b c d e f g h s t = rw (or_comm a b, or_comm c d, or_comm e f, or_comm g h, and_comm (not s) (not t)) refl
+    overlap_turned (int_le (box.low.x *ℤ t.w) t.x) (int_le (box.low.x *ℤ f.w) f.x) (int_le t.x (box.high.x *ℤ t.w))
+    (int_le f.x (box.high.x *ℤ f.w)) (int_le (box.low.y *ℤ t.w) t.y) (int_le (box.low.y *ℤ f.w) f.y)
+    (int_le t.y (box.high.y *ℤ t.w)) (int_le f.y (box.high.y *ℤ f.w)) (is_left_of j i box) (is_left_of i j box)
 
 -- the same ends in the other order
 pub extent_same_back : (i j k l : Point) (s t u v : Fraction) (box : PlanBox) → IsExtent s t → IsExtent u v
-    → SameSpot (spot_at i (vector j i) s) (spot_at l (vector k l) v) → SameSpot (spot_at j (vector i j) t)
-    (spot_at k (vector l k) u)
-    → spots_meet_box i j (spot_at i (vector j i) s) (spot_at j (vector i j) t) box ≡ spots_meet_box k l
-    (spot_at k (vector l k) u) (spot_at l (vector k l) v) box
+    → SameSpot (spot_at i (vector j i) s) (spot_at l (vector k l) v)
+    → SameSpot (spot_at j (vector i j) t) (spot_at k (vector l k) u)
+    → spots_meet_box i j (spot_at i (vector j i) s) (spot_at j (vector i j) t) box
+    ≡ spots_meet_box k l (spot_at k (vector l k) u) (spot_at l (vector k l) v) box
 extent_same_back i j k l s t u v box a b f g =
     extent_same i j l k s t v u box a (turned b) f g
     ∙ extent_back l k (spot_at l (vector k l) v) (spot_at k (vector l k) u) box

@@ -120,6 +120,18 @@ behind_down low i j d yn yd sn sd py ps sn_in yn_in pd ij h =
 
 -- ---- in one coordinate
 
+-- an order passes its test
+to_true : (s t : ℤ) → s ≤ℤ t → int_le s t ≡ true
+to_true s t h = grind (arith, ints)
+
+-- the first of two and the last of two others
+first_and_last : (a b c d : Bool) → a ≡ true → d ≡ true → (a || b) && (c || d) ≡ true
+first_and_last a b c d h k = grind arith
+
+-- the last of two and the first of two others
+last_and_first : (a b c d : Bool) → b ≡ true → c ≡ true → (a || b) && (c || d) ≡ true
+last_and_first a b c d h k = grind arith
+
 -- an interval that reaches as far as y on one side of j and behind i on the other overlaps what y is within
 overlap_one : (i j yn yd sn sd tn td low high : ℤ) → pos 0 <ℤ yd → pos 0 <ℤ sd → pos 0 <ℤ td → pos 0 ≤ℤ sn
     → pos 0 ≤ℤ yn → (yn *ℤ td) ≤ℤ (tn *ℤ yd)
@@ -128,10 +140,10 @@ overlap_one : (i j yn yd sn sd tn td low high : ℤ) → pos 0 <ℤ yd → pos 0
 overlap_one i j yn yd sn sd tn td low high py ps pt sn_in yn_in le l h =
     rw (turned i j)
     (by_lt_z (j -ℤ i) (pos 0)
-    (λ m. both_a _ _ _ _ (to_true _ _
+    (λ m. first_and_last _ _ _ _ (to_true _ _
     (behind_down low i j (j -ℤ i) yn yd sn sd py ps sn_in yn_in (weak_neg _ m) (less i j m) l))
     (to_true _ _ (further_down high j (j -ℤ i) yn yd tn td py pt (weak_neg _ m) le h)))
-    (λ m. both_b _ _ _ _ (to_true _ _ (further_up low j (j -ℤ i) yn yd tn td py pt m le l))
+    (λ m. last_and_first _ _ _ _ (to_true _ _ (further_up low j (j -ℤ i) yn yd tn td py pt m le l))
     (to_true _ _ (behind_up high i j (j -ℤ i) yn yd sn sd py ps sn_in yn_in m (more i j m) h))))
   where
     turned : (i j : ℤ) → i -ℤ j ≡ neg_ℤ (j -ℤ i)
@@ -145,15 +157,6 @@ overlap_one i j yn yd sn sd tn td low high py ps pt sn_in yn_in le l h =
 
     more : (i j : ℤ) → pos 0 ≤ℤ (j -ℤ i) → i ≤ℤ j
     more i j h = omega (arith, ints)
-
-    to_true : (s t : ℤ) → s ≤ℤ t → int_le s t ≡ true
-    to_true s t h = grind (arith, ints)
-
-    both_a : (a b c d : Bool) → a ≡ true → d ≡ true → (a || b) && (c || d) ≡ true
-    both_a a b c d h k = grind arith
-
-    both_b : (a b c d : Bool) → b ≡ true → c ≡ true → (a || b) && (c || d) ≡ true
-    both_b a b c d h k = grind arith
 
 -- a hit of the line in the box, not beyond the extent's end, makes the extent meet the box
 pub within_extent : (i j : Point) (s t y : Fraction) (box : PlanBox) → IsPositive s → IsPositive t → IsPositive y
@@ -202,10 +205,10 @@ pair_one : (i j sn sd tn td low high : ℤ) → pos 0 <ℤ sd → pos 0 <ℤ td 
 pair_one i j sn sd tn td low high ps pt sn_in tn_in h =
     by_lt_z (j -ℤ i) (pos 0)
     (λ m. let k = falling i j low high m h in
-    both_a _ _ _ _ (to_true _ _ (outer_up low i sd sn (i -ℤ j) ps sn_in (up_of i j m) k.0))
+    first_and_last _ _ _ _ (to_true _ _ (outer_up low i sd sn (i -ℤ j) ps sn_in (up_of i j m) k.0))
     (to_true _ _ (outer_down high j td tn (j -ℤ i) pt tn_in (weak_neg _ m) k.1)))
     (λ m. let k = rising i j low high m h in
-    both_b _ _ _ _ (to_true _ _ (outer_up low j td tn (j -ℤ i) pt tn_in m k.0))
+    last_and_first _ _ _ _ (to_true _ _ (outer_up low j td tn (j -ℤ i) pt tn_in m k.0))
     (to_true _ _ (outer_down high i sd sn (i -ℤ j) ps sn_in (down_of i j m) k.1)))
   where
     falling : (i j low high : ℤ) → (j -ℤ i) <ℤ pos 0 → do_overlap i j low high ≡ true → (low ≤ℤ i) × (j ≤ℤ high)
@@ -222,15 +225,6 @@ pair_one i j sn sd tn td low high ps pt sn_in tn_in h =
 
     down_of : (i j : ℤ) → pos 0 ≤ℤ (j -ℤ i) → (i -ℤ j) ≤ℤ pos 0
     down_of i j h = omega (arith, ints)
-
-    to_true : (s t : ℤ) → s ≤ℤ t → int_le s t ≡ true
-    to_true s t h = grind (arith, ints)
-
-    both_a : (a b c d : Bool) → a ≡ true → d ≡ true → (a || b) && (c || d) ≡ true
-    both_a a b c d h k = grind arith
-
-    both_b : (a b c d : Bool) → b ≡ true → c ≡ true → (a || b) && (c || d) ≡ true
-    both_b a b c d h k = grind arith
 
 -- an extent meets each box that the segment between its points meets
 pub extent_of_meeting : (i j : Point) (s t : Fraction) (box : PlanBox) → IsPositive s → IsPositive t → pos 0 ≤ℤ s.num
