@@ -56,9 +56,13 @@ inside_through points p q simple convex w =
 
 -- the other way along the segment
 pub through_back : (points : List Point) (p q : Point) → PassesThrough points p q → PassesThrough points q p
-through_back points p q w =
-    (w.1 - w.0, w.1, let l = w.3 in omega (arith, l), let l = w.2 in let m = w.3 in omega (arith, l, m),
-      subst (λ t. is_strictly_inside t (map (enlarged w.1) points) ≡ true) (other_end w.1 w.0 q p w.3) w.4)
+through_back points p q w = (
+  w.1 - w.0,
+  w.1,
+  let l = w.3 in omega (arith, l),
+  let l = w.2 in let m = w.3 in omega (arith, l, m),
+  subst (λ t. is_strictly_inside t (map (enlarged w.1) points) ≡ true) (other_end w.1 w.0 q p w.3) w.4,
+)
 
 -- between two points that are strictly inside, the middle is
 through_between : (points : List Point) (p q : Point) → is_strictly_inside p points ≡ true → is_strictly_inside q points ≡ true → PassesThrough points p q
@@ -97,7 +101,7 @@ through_point points p w = from_left_of_walls points p left
     left : (f : Segment) → IsIn (walls_round true points) f → pos 0 <ℤ height f p
     left f there =
         let h = left_of_walls (map (enlarged n) points) (part_way w.0 n p p) w.4 (scaled_wall (pos n) (pos n) f)
-            (subst (λ t. IsIn t (scaled_wall (pos n) (pos n) f)) (sym (walls_enlarged n points some)) (mapped (scaled_wall (pos n) (pos n)) (walls_round true points) f there)) in
+        (subst (λ t. IsIn t (scaled_wall (pos n) (pos n) f)) (sym (walls_enlarged n points some)) (mapped (scaled_wall (pos n) (pos n)) (walls_round true points) f there)) in
         by_sign (height f p) (pos w.0) (cross_of (vector f.a f.b) (vector p p)) (cross_none (vector f.a f.b) p)
         (subst (λ t. pos 0 <ℤ t) (height_of_step n w.0 p p f) h)
 
