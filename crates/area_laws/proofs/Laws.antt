@@ -5,7 +5,7 @@ use Rattle.std.proofs.lemmas.Int.{ints}
 use Rattle.plane_spec.specs.declared.Point.{Point}
 use Rattle.plane_spec.specs.Polygons.{doubled_area, edges_of, is_simple, is_counterclockwise}
 use Rattle.winding_laws.proofs.OneEdge.{turned}
-use Rattle.side_laws.specs.Beside.{GoesRoundOnLeft}
+use Rattle.side_laws.specs.Sides.{GoesRoundOnLeft}
 use Rattle.side_laws.proofs.Sound.{IsSound}
 use Rattle.side_laws.proofs.Law.{simple_from, goes_round}
 use Rattle.side_laws.proofs.Tall.{some_tall}

@@ -63,7 +63,7 @@ beside edges k f x y sound rows there on =
     at : IsAlong f.a f.b (point x y) → same_point (point x y) f.b ≡ false → (e : Point) → pos 0 <ℤ cross_of (vector f.a f.b) e → HasWinding edges (point x y) e k
     at here short e left =
         let s = sound.sides f there in
-        side_middle edges s.before f.a f.b s.after (point x y) e k sound.closed sound.some s.first s.second s.alone s.side here short left
+        (side_middle edges s.before f.a f.b s.after (point x y) e k sound.closed sound.some s.first s.second s.alone s.side here short left).has
 
     to_west : (d : Point) → pos 0 <ℤ d.y → pos 0 <ℤ cross_of d west
     to_west d h = let a = times_zero d.x in let b = times_neg d.y (pos 1) in let c = times_one d.y in omega (arith, ints, a, b, c, h)

@@ -15,8 +15,7 @@ use Rattle.plane_laws.proofs.Between.{high, low}
 use Rattle.plane_laws.proofs.Members.{IsIn}
 use Rattle.plane_laws.proofs.Touching.{on_by, on_turned}
 use Rattle.plane_laws.proofs.Tests.{clash}
-use Rattle.winding_laws.specs.Windings.{wind, winding}
-use Rattle.winding_laws.proofs.Near.{near}
+use Rattle.winding_laws.specs.Windings.{wind, winding, near}
 use Rattle.winding_laws.proofs.OneEdge.{turned, wind_above, wind_below, wind_turned}
 use Rattle.winding_laws.proofs.Strips.{HasWinding}
 use Rattle.side_laws.proofs.Sound.{Distinct}

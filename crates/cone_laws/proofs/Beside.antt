@@ -10,13 +10,14 @@ use Rattle.plane_laws.proofs.Between.{IsAlong}
 use Rattle.plane_laws.proofs.Members.{IsIn, mapped}
 use Rattle.plane_laws.proofs.Directions.{cross_back}
 use Rattle.winding_laws.proofs.OneEdge.{turned}
-use Rattle.winding_laws.proofs.Strips.{HasWinding}
+use Rattle.winding_laws.proofs.Strips.{HasWinding, GoesRoundOff}
 use Rattle.winding_laws.proofs.Turned.{has_turned}
 use Rattle.side_laws.proofs.Sound.{IsSound, SidesOf}
 use Rattle.side_laws.proofs.Sides.{side_middle, side_cone, side_step}
 use Rattle.side_laws.proofs.Turned.{turned_along, corner_turned}
 use Rattle.side_laws.proofs.Rights.{turned_sound}
-use Rattle.cone_laws.proofs.Cones.{LeadsOff, in_turned_cone}
+use Rattle.cone_laws.proofs.Cones.{in_turned_cone}
+use Rattle.cone_laws.specs.Off.{LeadsOff}
 
 turned_twice : (edges : List Segment) → map turned (map turned edges) ≡ edges
 turned_twice [] = refl
@@ -28,7 +29,7 @@ from_turned edges x d k h =
     subst (λ t. HasWinding edges x d t) e (subst (λ t. HasWinding t x d (neg_ℤ (pos 1 -ℤ k))) (turned_twice edges) (has_turned (map turned edges) x d (pos 1 -ℤ k) h))
 
 -- from the middle of a wall, to its left and to its right
-pub left_of_wall : (edges : List Segment) (k : ℤ) → IsSound edges k → (f : Segment) → IsIn edges f → (x d : Point) → IsAlong f.a f.b x → same_point x f.b ≡ false → pos 0 <ℤ cross_of (vector f.a f.b) d → HasWinding edges x d k
+pub left_of_wall : (edges : List Segment) (k : ℤ) → IsSound edges k → (f : Segment) → IsIn edges f → (x d : Point) → IsAlong f.a f.b x → same_point x f.b ≡ false → pos 0 <ℤ cross_of (vector f.a f.b) d → GoesRoundOff edges x d k
 left_of_wall edges k sound f there x d here short left =
     let s = sound.sides f there in
     side_middle edges s.before f.a f.b s.after x d k sound.closed sound.some s.first s.second s.alone s.side here short left
@@ -38,10 +39,10 @@ pub right_of_wall : (edges : List Segment) (k : ℤ) → IsSound edges k → (f 
 right_of_wall edges k sound f there x d here short right =
     let e = cross_back d f.a f.b in
     from_turned edges x d k
-    (left_of_wall (map turned edges) (pos 1 -ℤ k) (turned_sound edges k sound) (turned f) (mapped turned edges f there) x d (turned_along f.a f.b x here short) here.apart (omega (arith, ints, e, right)))
+    (left_of_wall (map turned edges) (pos 1 -ℤ k) (turned_sound edges k sound) (turned f) (mapped turned edges f there) x d (turned_along f.a f.b x here short) here.apart (omega (arith, ints, e, right))).has
 
 -- from a corner into its cone, and out of it
-pub into_cone : (edges : List Segment) (k : ℤ) → IsSound edges k → (f : Segment) → (s : SidesOf edges f k) → (d : Point) → is_in_cone (corner s.before f.a f.b) d ≡ true → HasWinding edges f.a d k
+pub into_cone : (edges : List Segment) (k : ℤ) → IsSound edges k → (f : Segment) → (s : SidesOf edges f k) → (d : Point) → is_in_cone (corner s.before f.a f.b) d ≡ true → GoesRoundOff edges f.a d k
 into_cone edges k sound f s d h = side_cone edges s.before f.a f.b d k sound.closed s.first s.side h
 
 pub out_of_cone : (edges : List Segment) (k : ℤ) → (sound : IsSound edges k) → (f : Segment) → (there : IsIn edges f) → (d : Point)
@@ -54,4 +55,4 @@ out_of_cone edges k sound f there d off h =
     let side = side_step (map turned edges) t.before f.b f.a s.before (pos 1 -ℤ k) other.closed other.some (other.some (turned f) (mapped turned edges f there)) t.first at_start t.alone t.side in
     from_turned edges f.a d k
     (side_cone (map turned edges) f.b f.a s.before d (pos 1 -ℤ k) other.closed at_start side
-    (in_turned_cone s.before f.a f.b d s.first.inner.way s.first.inner.before_left s.first.inner.after_left off h))
+    (in_turned_cone s.before f.a f.b d s.first.inner.way s.first.inner.before_left s.first.inner.after_left off h)).has

@@ -12,6 +12,7 @@ use Rattle.plane_spec.specs.Cones.{corner, is_in_cone}
 use Rattle.exact_geom.proofs.Orientation.{orient_of_ends_exchanged}
 use Rattle.plane_laws.proofs.Heights.{along}
 use Rattle.plane_laws.proofs.Directions.{exchanged, cross_back, turn_is}
+use Rattle.cone_laws.specs.Off.{LeadsOff}
 
 lagrange_diff : (a b c d e f g h i j k l : ℕ) →
     (diff a b *ℤ diff a b +ℤ diff c d *ℤ diff c d) *ℤ (diff e f *ℤ diff i j +ℤ diff g h *ℤ diff k l)
@@ -23,11 +24,6 @@ pub lagrange : (a b c : Point) → dot_of a a *ℤ dot_of b c ≡ dot_of a b *�
 lagrange a b c =
     rw (is_diff a.x, is_diff a.y, is_diff b.x, is_diff b.y, is_diff c.x, is_diff c.y)
     (lagrange_diff (up a.x) (down a.x) (up a.y) (down a.y) (up b.x) (down b.x) (up b.y) (down b.y) (up c.x) (down c.x) (up c.y) (down c.y))
-
--- a direction that doesn't lead back along the wall before the corner, nor on along the wall after it
-pub record LeadsOff (before after d : Point) : Type 0 where
-  pub not_back : cross_of before d ≡ pos 0 → pos 0 <ℤ dot_of before d
-  pub not_on : cross_of after d ≡ pos 0 → dot_of after d <ℤ pos 0
 
 -- in line with the wall before the corner, a direction leads to the side of the wall after it to which that one doesn't turn
 by_before : (b a d : Point) → cross_of b d ≡ pos 0 → dot_of b b *ℤ cross_of a d ≡ neg_ℤ (dot_of b d *ℤ cross_of b a)

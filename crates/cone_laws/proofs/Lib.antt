@@ -1,4 +1,4 @@
 pub mod Beside
 pub mod Cones
-pub mod Off
 pub mod Rounds
+pub mod Law

@@ -9,3 +9,4 @@ pub mod Shared
 pub mod Tests
 pub mod Touching
 pub mod Separated
+pub mod Law

@@ -114,7 +114,7 @@ separated w f p q real a_left b_left p_right q_right p_off =
         by_test true same = clash p_off (subst (λ t. is_on_segment t f.a f.b ≡ true) (sym (same_from_test v p same)) on_f)
         by_test false apart =
             let h = height_positive p q v (record { a = w.b; b = w.a }) (record { between = between v p q on; apart = apart })
-                (let o = orient_of_first_exchanged w.a w.b p in omega (arith, ints, o, p_right))
-                (let o = orient_of_first_exchanged w.a w.b q in omega (arith, ints, o, q_right)) in
+            (let o = orient_of_first_exchanged w.a w.b p in omega (arith, ints, o, p_right))
+            (let o = orient_of_first_exchanged w.a w.b q in omega (arith, ints, o, q_right)) in
             let o = orient_of_first_exchanged w.a w.b v in
             absurd (omega (arith, ints, h, o, left))

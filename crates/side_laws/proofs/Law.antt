@@ -7,20 +7,17 @@ use Rattle.int_laws.proofs.Ring.{sum_times}
 use Rattle.plane_spec.specs.declared.Segment.{Segment}
 use Rattle.plane_spec.specs.declared.Point.{Point}
 use Rattle.plane_spec.specs.Vectors.{cross_of, vector}
-use Rattle.plane_spec.specs.Polygons.{crosses_nowhere, has_repeat, is_simple}
-use Rattle.plane_laws.proofs.Members.{IsIn, mapped}
+use Rattle.plane_spec.specs.Polygons.{edges_of, crosses_nowhere, has_repeat, is_simple}
+use Rattle.plane_laws.proofs.Members.{IsIn, mapped, from_contains}
 use Rattle.plane_laws.proofs.Scaled.{scaled, scaled_wall}
-use Rattle.side_laws.specs.Beside.{IsAmong, GoesRoundOnLeft}
+use Rattle.side_laws.specs.Sides.{GoesRoundOnLeft}
 use Rattle.side_laws.proofs.Sound.{IsSound}
-use Rattle.side_laws.proofs.Rights.{in_the_middle, middle, two_up}
+use Rattle.side_laws.proofs.Rights.{in_the_middle, middle, two_up, turned_sound}
 use Rattle.side_laws.proofs.Scaled.{scaled_sound}
 use Rattle.side_laws.proofs.Sides.{side_middle}
-use Rattle.side_laws.proofs.Simple.{IsSimple}
-
-among : (edges : List Segment) (e : Segment) → IsAmong edges e → IsIn edges e
-among [] e h = absurd h
-among (f ∷ edges) e (inl h) = inl h
-among (f ∷ edges) e (inr h) = inr (among edges e h)
+use Rattle.side_laws.proofs.Simple.{IsSimple, sound}
+use Rattle.plane_laws.proofs.Tests.{not_false}
+use Rattle.winding_laws.proofs.OneEdge.{turned}
 
 doubled_left : (a b d : Point) → pos 0 <ℤ cross_of (vector a b) d → pos 0 <ℤ cross_of (vector (scaled (pos 2) (pos 2) a) (scaled (pos 2) (pos 2) b)) d
 doubled_left a b d h = by_parts a.x a.y b.x b.y d.x d.y h
@@ -36,12 +33,12 @@ doubled_left a b d h = by_parts a.x a.y b.x b.y d.x d.y h
 pub goes_round : (edges : List Segment) (k : ℤ) → IsSound edges k → GoesRoundOnLeft edges k
 unfolding middle
 goes_round edges k s e d there left =
-    let e_there = among edges e there in
+    let e_there = from_contains edges e there in
     let twice = scaled_sound (pos 2) (pos 2) edges k two_up two_up s in
     let e2 = scaled_wall (pos 2) (pos 2) e in
     let o = twice.sides e2 (mapped (scaled_wall (pos 2) (pos 2)) edges e e_there) in
     let m = in_the_middle e (s.some e e_there) in
-    let w = side_middle (map (scaled_wall (pos 2) (pos 2)) edges) o.before e2.a e2.b o.after (middle e) d k twice.closed twice.some o.first o.second o.alone o.side m.0 m.1 (doubled_left e.a e.b d left) in
+    let w = (side_middle (map (scaled_wall (pos 2) (pos 2)) edges) o.before e2.a e2.b o.after (middle e) d k twice.closed twice.some o.first o.second o.alone o.side m.0 m.1 (doubled_left e.a e.b d left)).has in
     (w.after, λ n l. w.from_there n l)
 
 -- a simple polygon, as the definition tests it
@@ -54,6 +51,11 @@ simple_from start points h =
     many_from : (n : ℕ) → nat_le 3 n ≡ true → 3 ≤ n
     many_from n h = grind arith
 
-    not_false : (t : Bool) → not t ≡ true → t ≡ false
-    not_false true h = sym h
-    not_false false h = refl
+-- a polygon's edges that are sound, turned round too: there is one number for all left sides, and one less for the right
+pub sides_of_simple : (points : List Point) → is_simple points ≡ true
+    → (k : ℤ) × GoesRoundOnLeft (edges_of points) k × GoesRoundOnLeft (map turned (edges_of points)) (pos 1 -ℤ k)
+sides_of_simple [] h = cc
+sides_of_simple (start ∷ points) h =
+    let s = sound start points (simple_from start points h) in
+    let edges = edges_of (start ∷ points) in
+    (s.0, goes_round edges s.0 s.1, goes_round (map turned edges) (pos 1 -ℤ s.0) (turned_sound edges s.0 s.1))

@@ -16,9 +16,9 @@ use Rattle.plane_laws.proofs.Between.{IsAlong}
 use Rattle.plane_laws.proofs.Members.{IsIn, source, mapped}
 use Rattle.plane_laws.proofs.Directions.{at_both, exchanged, minus_cross, none_cross}
 use Rattle.plane_laws.proofs.Scaled.{scaled, scaled_wall, cross_scaled}
-use Rattle.winding_laws.specs.Windings.{strip, winding}
+use Rattle.winding_laws.specs.Windings.{strip, winding, near}
 use Rattle.winding_laws.proofs.Strips.{Clears, HasWinding, carried, line_linear, line_positive, side_positive, clears_far, closed_enlarged, same_value}
-use Rattle.winding_laws.proofs.Near.{eventually_then, near, Eventually, eventually_both, linear, eventually_all}
+use Rattle.winding_laws.proofs.Near.{eventually_then, Eventually, eventually_both, linear, eventually_all}
 use Rattle.winding_laws.proofs.Closed.{AreClosed, rises_along}
 use Rattle.winding_laws.proofs.OneEdge.{Balanced, one_edge, turned}
 use Rattle.winding_laws.proofs.Crossed.{Differs, Crosses, crossed_edge}
@@ -45,7 +45,7 @@ side_back edges u v z w x e k closed some first second alone here short e_left h
     let d_before = first.inner.before_left in
     let d_after = first.inner.after_left in
     let y = second.inner.way in
-    carried edges x e v d k closed
+    (carried edges x e v d k closed
     (λ f there. swapped f.a f.b v d x e (elim (first.others f there) [
       | inl i ↦ cleared u v v d x e f i (clears_before u v z x d e here d_before d_after e_left)
       | inr (inl i) ↦ cleared v z v d x e f i (clears_own v z x d e here d_after e_left)
@@ -54,7 +54,7 @@ side_back edges u v z w x e k closed some first second alone here short e_left h
         | inr (inl i) ↦ cleared z w v d x e f i (clears_later v z w x d e y here short d_after e_left second.inner.before_left second.inner.after_left)
         | inr (inr off_too) ↦ clears_other f.a f.b v z x d e here (real f.a f.b d (vector v z) (some f there) d_after) (alone f there off off_too) d_after e_left
       ]
-    ])) h
+    ])) h).has
 
 -- ---- through the middle of a wall
 
@@ -242,7 +242,7 @@ right_at edges k f sound there s =
     let m = in_the_middle f (sound.some f there) in
     let d = s2.first.inner.way in
     let d_left = s2.first.inner.after_left in
-    let left = side_middle twice s2.before f2.a f2.b s2.after x d k twice_sound.closed twice_sound.some s2.first s2.second s2.alone s2.side m.0 m.1 d_left in
+    let left = (side_middle twice s2.before f2.a f2.b s2.after x d k twice_sound.closed twice_sound.some s2.first s2.second s2.alone s2.side m.0 m.1 d_left).has in
     let right = right_of_middle twice k f2 x d twice_sound f2_there m.0 m.1 d_left left in
     let other = map (scaled_wall (pos 2) (pos 2)) (map turned edges) in
     let same = turned_scaled edges in
@@ -264,7 +264,7 @@ right_at edges k f sound there s =
     (subst (λ t. pos 0 <ℤ t) (sym (cross_scaled (pos 2) (pos 2) s.after f.b y)) (positive_product (pos 2 *ℤ pos 2) (cross_of (vector s.after f.b) y) four here.inner.before_left))
     (subst (λ t. pos 0 <ℤ t) (sym (cross_scaled (pos 2) (pos 2) f.b f.a y)) (positive_product (pos 2 *ℤ pos 2) (cross_of (vector f.b f.a) y) four here.inner.after_left)) in
     let own = some_winding (map turned edges) f.b y in
-    let is = same_value other f2.b (scaled (pos 2) (pos 2) y) own.0 (pos 1 -ℤ k) (has_scaled (pos 2) (pos 2) f.b y own.0 (map turned edges) two_up two_up own.1) value in
+    let is = same_value other f2.b (scaled (pos 2) (pos 2) y) own.0 (pos 1 -ℤ k) (has_scaled (pos 2) (pos 2) f.b y own.0 (map turned edges) two_up two_up own.1) value.has in
     side_at (map turned edges) s.after f.b f.a y (pos 1 -ℤ k) (closed_turned edges sound.closed) here here.inner.before_left here.inner.after_left (subst (λ t. HasWinding (map turned edges) f.b y t) is own.1)
 
 -- sound edges with k on their left, turned round, are sound with 1 - k on their left

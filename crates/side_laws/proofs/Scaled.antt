@@ -86,7 +86,7 @@ sides_scaled r s edges f k h i closed o =
       side = side_at (map (scaled_wall r s) edges) (scaled r s o.before) (scaled r s f.a) (scaled r s f.b) (scaled r s way) k closed c
           (subst (λ t. pos 0 <ℤ t) (sym (cross_scaled r s o.before f.a way)) (positive_product (r *ℤ s) (cross_of (vector o.before f.a) way) p o.first.inner.before_left))
           (subst (λ t. pos 0 <ℤ t) (sym (cross_scaled r s f.a f.b way)) (positive_product (r *ℤ s) (cross_of (vector f.a f.b) way) p o.first.inner.after_left))
-          (has_scaled r s f.a way k edges h i (o.side way o.first.inner.before_left o.first.inner.after_left));
+          (has_scaled r s f.a way k edges h i (o.side way o.first.inner.before_left o.first.inner.after_left).has);
     }
 
 pub scaled_sound : (r s : ℤ) (edges : List Segment) (k : ℤ) → pos 0 <ℤ r → pos 0 <ℤ s → IsSound edges k → IsSound (map (scaled_wall r s) edges) k

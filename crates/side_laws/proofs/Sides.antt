@@ -17,7 +17,7 @@ use Rattle.plane_laws.proofs.Directions.{exchanged, some_square, turn_is, cross_
 use Rattle.plane_laws.proofs.Touching.{on_by}
 use Rattle.plane_laws.proofs.Members.{IsIn}
 use Rattle.plane_laws.proofs.Between.{IsAlong}
-use Rattle.winding_laws.proofs.Strips.{HasWinding, Clears, carried, clears_far}
+use Rattle.winding_laws.proofs.Strips.{HasWinding, GoesRoundOff, Clears, carried, clears_far}
 use Rattle.winding_laws.proofs.Closed.{AreClosed}
 use Rattle.side_laws.proofs.Corners.{turns_after, turns_before, clears_after, clears_before, clears_other, clears_own, clears_later, left_of_inward, right_of_inward, turns_past_after, turns_past_before}
 
@@ -130,7 +130,7 @@ KeepsApart edges e = (f : Segment) → IsIn edges f → is_on_segment e.a f.a f.
 
 -- the edges go round each direction left of both walls of the corner k times
 abbrev pub SideAt : List Segment → Point → Point → Point → ℤ → Type 0
-SideAt edges u v z k = (d : Point) → pos 0 <ℤ cross_of (vector u v) d → pos 0 <ℤ cross_of (vector v z) d → HasWinding edges v d k
+SideAt edges u v z k = (d : Point) → pos 0 <ℤ cross_of (vector u v) d → pos 0 <ℤ cross_of (vector v z) d → GoesRoundOff edges v d k
 
 pub cleared : (a b p d q e : Point) (f : Segment) → f ≡ wall a b → Clears a b p d q e → Clears f.a f.b p d q e
 cleared a b p d q e f h c = subst (λ t. Clears t.a t.b p d q e) (sym h) c
@@ -204,11 +204,11 @@ side_step edges u v z w k closed some apart first second alone side e e_before e
         | inr (inl i) ↦ cleared z w v d z e f i (clears_after v z w d e d_after e_before e_after)
         | inr (inr off_too) ↦ clears_other f.a f.b v z z d e here (real f.a f.b d (vector v z) (some f there) d_after) (alone f there off off_too) d_after e_before
       ]
-    ]) (side d d_before d_after)
+    ]) (side d d_before d_after).has
 
 -- beside the middle of a wall
 pub side_middle : (edges : List Segment) (u v z w x e : Point) (k : ℤ) → AreClosed edges → ((f : Segment) → IsIn edges f → same_point f.a f.b ≡ false)
-    → IsCornerOf edges u v z → IsCornerOf edges v z w → KeepsApart edges (wall v z) → SideAt edges u v z k → IsAlong v z x → same_point x z ≡ false → pos 0 <ℤ cross_of (vector v z) e → HasWinding edges x e k
+    → IsCornerOf edges u v z → IsCornerOf edges v z w → KeepsApart edges (wall v z) → SideAt edges u v z k → IsAlong v z x → same_point x z ≡ false → pos 0 <ℤ cross_of (vector v z) e → GoesRoundOff edges x e k
 side_middle edges u v z w x e k closed some first second alone side here short e_left =
     let d = first.inner.way in
     let d_before = first.inner.before_left in
@@ -223,12 +223,12 @@ side_middle edges u v z w x e k closed some first second alone side here short e
         | inr (inl i) ↦ cleared z w v d x e f i (clears_later v z w x d e y here short d_after e_left second.inner.before_left second.inner.after_left)
         | inr (inr off_too) ↦ clears_other f.a f.b v z x d e here (real f.a f.b d (vector v z) (some f there) d_after) (alone f there off off_too) d_after e_left
       ]
-    ]) (side d d_before d_after)
+    ]) (side d d_before d_after).has
 
 -- ---- the cone of a corner
 
 left_of_either : (edges : List Segment) (u v z e : Point) (k : ℤ) → AreClosed edges → IsCornerOf edges u v z → SideAt edges u v z k → orient_of u v z ≤ℤ pos 0
-    → (pos 0 <ℤ cross_of (vector u v) e) ⊎ (pos 0 <ℤ cross_of (vector v z) e) → HasWinding edges v e k
+    → (pos 0 <ℤ cross_of (vector u v) e) ⊎ (pos 0 <ℤ cross_of (vector v z) e) → GoesRoundOff edges v e k
 left_of_either edges u v z e k closed c side turn either =
     let d = c.inner.way in
     let d_before = c.inner.before_left in
@@ -243,7 +243,7 @@ left_of_either edges u v z e k closed c side turn either =
       | inl i ↦ cleared u v v d v e f i (turns_before u v d e d_before e_before)
       | inr (inl i) ↦ cleared v z v d v e f i (turns_past_after v z d e d_after not_after (left_of_inward (vector u v) (vector v z) d e not_left d_before d_after e_before not_after))
       | inr (inr off) ↦ clears_far f.a f.b v d e off
-    ]) (side d d_before d_after)))
+    ]) (side d d_before d_after).has))
     (λ not_before.
     let e_after = other not_before either in
     carried edges v d v e k closed
@@ -251,19 +251,19 @@ left_of_either edges u v z e k closed c side turn either =
       | inl i ↦ cleared u v v d v e f i (turns_past_before u v d e d_before not_before (right_of_inward (vector u v) (vector v z) d e not_left d_before d_after not_before e_after))
       | inr (inl i) ↦ cleared v z v d v e f i (turns_after v z d e d_after e_after)
       | inr (inr off) ↦ clears_far f.a f.b v d e off
-    ]) (side d d_before d_after))
+    ]) (side d d_before d_after).has)
   where
     other : cross_of (vector u v) e ≤ℤ pos 0 → (pos 0 <ℤ cross_of (vector u v) e) ⊎ (pos 0 <ℤ cross_of (vector v z) e) → pos 0 <ℤ cross_of (vector v z) e
     other low (inl h) = absurd (omega (arith, ints, low, h))
     other low (inr h) = h
 
 -- into the cone of the corner the winding is that of the left side
-pub side_cone : (edges : List Segment) (u v z e : Point) (k : ℤ) → AreClosed edges → IsCornerOf edges u v z → SideAt edges u v z k → is_in_cone (corner u v z) e ≡ true → HasWinding edges v e k
+pub side_cone : (edges : List Segment) (u v z e : Point) (k : ℤ) → AreClosed edges → IsCornerOf edges u v z → SideAt edges u v z k → is_in_cone (corner u v z) e ≡ true → GoesRoundOff edges v e k
 unfolding is_in_cone
 side_cone edges u v z e k closed c side h = by_turn (lies_left u v z) refl h
   where
     by_turn : (t : Bool) → lies_left u v z ≡ t
-        → (if t then (is_left (vector u v) e && is_left (vector v z) e) else (is_left (vector u v) e || is_left (vector v z) e)) ≡ true → HasWinding edges v e k
+        → (if t then (is_left (vector u v) e && is_left (vector v z) e) else (is_left (vector u v) e || is_left (vector v z) e)) ≡ true → GoesRoundOff edges v e k
     by_turn true turn k =
         let parts = and_parts (is_left (vector u v) e) (is_left (vector v z) e) k in
         side e (tested_positive (cross_of (vector u v) e) parts.0) (tested_positive (cross_of (vector v z) e) parts.1)

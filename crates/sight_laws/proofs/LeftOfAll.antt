@@ -18,9 +18,9 @@ use Rattle.plane_laws.proofs.Heights.{height, height_from}
 use Rattle.plane_laws.proofs.Directions.{turn_is}
 use Rattle.plane_laws.proofs.Apart.{free_left}
 use Rattle.plane_laws.proofs.Scaled.{orient_scaled}
-use Rattle.winding_laws.specs.Windings.{winding}
+use Rattle.winding_laws.specs.Windings.{winding, near}
 use Rattle.winding_laws.proofs.Closed.{same_winding}
-use Rattle.winding_laws.proofs.Near.{near, value_at}
+use Rattle.winding_laws.proofs.Near.{value_at}
 use Rattle.winding_laws.proofs.Strips.{HasWinding, side_near, closed_enlarged}
 use Rattle.side_laws.proofs.Sound.{IsSound, SidesOf}
 use Rattle.polygon_laws.proofs.Insides.{winding_enlarged}
@@ -70,9 +70,9 @@ winding_inside walls k sound convex first there x left =
 
     here : HasWinding walls v d k
     here =
-        sides.side d
+        (sides.side d
         (subst (λ t. pos 0 <ℤ t) (sym (turn_is sides.before v x)) (left (record { a = sides.before; b = v }) sides.before_there))
-        (left first there)
+        (left first there)).has
 
     n : ℕ
     n = here.after + 1

@@ -13,8 +13,7 @@ use Rattle.plane_laws.proofs.Tests.{clash}
 use Rattle.plane_laws.proofs.Between.{on_end, on_start}
 use Rattle.plane_laws.proofs.Scaled.{same_scaled}
 use Rattle.plane_laws.proofs.Members.{IsIn, source}
-use Rattle.winding_laws.specs.Windings.{winding}
-use Rattle.winding_laws.proofs.Near.{near}
+use Rattle.winding_laws.specs.Windings.{winding, near}
 use Rattle.winding_laws.proofs.Scaled.{wind_scaled}
 use Rattle.winding_laws.proofs.Closed.{AreClosed, same_winding}
 use Rattle.winding_laws.proofs.Strips.{Clears, HasWinding, carried, closed_enlarged, same_value}
@@ -67,11 +66,11 @@ towards_next edges closed real n j p q some fine off =
     let zero = point (pos 0) (pos 0) in
     let large = map (enlarged_wall n) edges in
     let k = some_winding large x (vector p q) in
-    let moved = carried large x (vector p q) y zero k.0 (closed_enlarged n edges closed)
+    let moved = (carried large x (vector p q) y zero k.0 (closed_enlarged n edges closed)
     (λ g there. let o = source (enlarged_wall n) edges g there in
     subst (λ t. Clears t.a t.b x (vector p q) y zero) o.is
     (clears_step (enlarged n o.it.a) (enlarged n o.it.b) x (vector p q) y (next (pos n *ℤ p.x) (q.x -ℤ p.x), next (pos n *ℤ p.y) (q.y -ℤ p.y)) some
-    (meets_at_start n j p q o.it (fine o.it o.is_in) (real o.it o.is_in) (off o.it o.is_in)))) k.1 in
+    (meets_at_start n j p q o.it (fine o.it o.is_in) (real o.it o.is_in) (off o.it o.is_in)))) k.1).has in
     let there : HasWinding large y zero (winding y large) = record { after = 0; from_there = λ m l. winding_there m y large l } in
     subst (λ t. HasWinding large x (vector p q) t) (same_value large y zero k.0 (winding y large) moved there) k.1
   where

@@ -5,3 +5,4 @@ pub mod FirstStep
 pub mod Hits
 pub mod Steps
 pub mod Walk
+pub mod Law

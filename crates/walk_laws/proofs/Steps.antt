@@ -18,9 +18,10 @@ use Rattle.plane_laws.proofs.Directions.{at_end, back_cross, cross_back, exchang
 use Rattle.plane_laws.proofs.Between.{between}
 use Rattle.plane_laws.proofs.Touching.{changes, never_down, never_up}
 use Rattle.plane_laws.proofs.Shared.{on_line_x, on_line_y}
-use Rattle.winding_laws.proofs.Near.{Eventually, eventually_then, linear, near, square}
+use Rattle.winding_laws.proofs.Near.{Eventually, eventually_then, linear, square}
 use Rattle.winding_laws.proofs.Strips.{Clears, clears_down, clears_left, clears_right, clears_up}
 use Rattle.walk_laws.proofs.Walk.{zero_by}
+use Rattle.winding_laws.specs.Windings.{near}
 
 -- ---- one coordinate
 

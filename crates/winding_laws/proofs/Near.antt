@@ -8,6 +8,7 @@ use Rattle.int_laws.proofs.Ring.{times_zero, diff, product_diff, same_diff, sum_
 use Rattle.plane_spec.specs.declared.Point.{Point}
 use Rattle.plane_spec.specs.Vectors.{point, cross_of, orient_of, vector}
 use Rattle.plane_laws.proofs.Members.{IsIn}
+use Rattle.winding_laws.specs.Windings.{near}
 
 -- ---- from some number on
 
@@ -72,12 +73,6 @@ eventually_positive a b c (constant e f h) =
           let all : pos n *ℤ (pos n *ℤ a +ℤ b) ≡ pos 0 = ap (λ t. pos n *ℤ t) (let i : pos n *ℤ a +ℤ b ≡ pos 0 = omega (arith, ints, none, f) in i) ∙ times_zero (pos n) in
           omega (arith, ints, all, h);
     }
-
--- ---- near points
-
--- the point that is d away from x, in a plane that is n times as large
-abbrev pub near : ℕ → Point → Point → Point
-near n x d = point (pos n *ℤ x.x +ℤ d.x) (pos n *ℤ x.y +ℤ d.y)
 
 both_near_diff : (a b c d e f g h i j : ℕ) →
     (diff a b *ℤ diff c d +ℤ diff e f) *ℤ (diff a b *ℤ diff g h +ℤ diff i j)

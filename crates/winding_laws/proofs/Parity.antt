@@ -1,5 +1,5 @@
 -- The parity of the winding is what inside is counted by: the edges that pass to the right, upwards or downwards, are odd in number where the winding is odd.
-use Rattle.std.specs.Prelude.{Bool, false, true, int_le, int_lt, ◌&&◌, if◌then◌else◌, List, count_by, [], ◌∷◌}
+use Rattle.std.specs.Prelude.{Bool, false, true, int_le, int_lt, ◌&&◌, if◌then◌else◌, List, count_by, [], ◌∷◌, not}
 use Rattle.std.proofs.Common.{pos, ℕ, ℤ, ◌≡◌, ◌+◌, ◌+ℤ◌, neg_ℤ, refl, arith, ◌%◌, ◌==◌, inl, inr, ◌⊎◌, ◌-ℤ◌}
 use Rattle.std.proofs.lemmas.Grind.{common_steps}
 use Rattle.std.proofs.lemmas.Int.{ints}
@@ -7,7 +7,7 @@ use Rattle.std.proofs.lemmas.List.Sums.{sum_by-cons}
 use Rattle.plane_spec.specs.declared.Point.{Point}
 use Rattle.plane_spec.specs.declared.Segment.{Segment}
 use Rattle.plane_spec.specs.Vectors.{orient_of}
-use Rattle.plane_spec.specs.Polygons.{passes_right}
+use Rattle.plane_spec.specs.Polygons.{passes_right, edges_of, is_inside, is_on_border}
 use Rattle.winding_laws.specs.Windings.{wind, winding}
 
 -- ---- parity
@@ -80,3 +80,22 @@ pub opposite_parity : (x y : Point) (edges others : List Segment) → winding x 
 opposite_parity x y edges others e =
     let p = parity x edges in let q = parity y others in let i = p.is in let j = q.is in
     odd_alike (count_by (passes_right x) edges) (count_by (passes_right y) others) p.half (q.half +ℤ winding y others) (winding x edges) i (omega (arith, ints, j, e))
+
+-- ---- the law
+
+pub outside_where_none : (points : List Point) (x : Point) → winding x (edges_of points) ≡ pos 0 → is_inside x points ≡ false
+unfolding is_inside
+outside_where_none points x h = by_tests (is_on_border x points) (is_odd x (edges_of points)) (even_where_none x (edges_of points) h)
+  where
+    by_tests : (s t : Bool) → t ≡ false → (not s && t) ≡ false
+    by_tests true t e = refl
+    by_tests false t e = e
+
+pub inside_where_once : (points : List Point) (x : Point) → is_on_border x points ≡ false
+    → (winding x (edges_of points) ≡ pos 1) ⊎ (winding x (edges_of points) ≡ neg_ℤ (pos 1)) → is_inside x points ≡ true
+unfolding is_inside
+inside_where_once points x off h =
+    by_tests (is_on_border x points) (is_odd x (edges_of points)) off (odd_where_once x (edges_of points) h)
+  where
+    by_tests : (s t : Bool) → s ≡ false → t ≡ true → (not s && t) ≡ true
+    by_tests s t e f = rw (e, f) refl

@@ -10,8 +10,8 @@ use Rattle.plane_spec.specs.declared.Segment.{Segment}
 use Rattle.plane_spec.specs.Vectors.{orient_of}
 use Rattle.plane_laws.specs.Enlarged.{enlarged_wall}
 use Rattle.plane_laws.proofs.Scaled.{orient_scaled, scaled, scaled_wall}
-use Rattle.winding_laws.specs.Windings.{wind, winding}
-use Rattle.winding_laws.proofs.Near.{near, eventually_then}
+use Rattle.winding_laws.specs.Windings.{wind, winding, near}
+use Rattle.winding_laws.proofs.Near.{eventually_then}
 use Rattle.winding_laws.proofs.Strips.{HasWinding}
 use Rattle.winding_laws.proofs.Closed.{rises_along}
 

@@ -7,8 +7,8 @@ use Rattle.plane_spec.specs.declared.Point.{Point}
 use Rattle.plane_spec.specs.declared.Segment.{Segment}
 use Rattle.plane_spec.specs.Vectors.{cross_of, orient_of, vector}
 use Rattle.plane_laws.specs.Enlarged.{enlarged_wall}
-use Rattle.winding_laws.specs.Windings.{wind, winding}
-use Rattle.winding_laws.proofs.Near.{Eventually, Leads, constant, linear, square, value_at, eventually_positive, eventually_then, eventually_both, near}
+use Rattle.winding_laws.specs.Windings.{wind, winding, near}
+use Rattle.winding_laws.proofs.Near.{Eventually, Leads, constant, linear, square, value_at, eventually_positive, eventually_then, eventually_both}
 use Rattle.winding_laws.proofs.Strips.{side_near, HasWinding}
 use Rattle.winding_laws.proofs.OneEdge.{wind_by, wind_is}
 

@@ -13,9 +13,10 @@ use Rattle.exact_geom.proofs.Orientation.{orient_of_first_exchanged}
 use Rattle.plane_laws.specs.Enlarged.{enlarged, enlarged_wall}
 use Rattle.plane_laws.proofs.Apart.{free_left, free_right, free_up, free_down, AreBefore, free_east, free_north, free_south, free_west}
 use Rattle.plane_laws.proofs.Members.{IsIn, source}
-use Rattle.winding_laws.specs.Windings.{winding}
-use Rattle.winding_laws.proofs.Near.{near, value_at, orient_near, Eventually, Leads, eventually_positive, eventually_then, eventually_both, linear, square, eventually_all}
+use Rattle.winding_laws.specs.Windings.{winding, near}
+use Rattle.winding_laws.proofs.Near.{value_at, orient_near, Eventually, Leads, eventually_positive, eventually_then, eventually_both, linear, square, eventually_all}
 use Rattle.winding_laws.proofs.Closed.{rises_along, AreClosed, same_winding}
+use Rattle.plane_laws.proofs.Touching.{end_off}
 
 -- ---- how a near point lies to a wall, and a wall's corner to two near points
 
@@ -202,15 +203,32 @@ rises_enlarged n value (e ∷ edges) = ap (λ t. (value (enlarged n e.b) -ℤ va
 pub closed_enlarged : (n : ℕ) (edges : List Segment) → AreClosed edges → AreClosed (map (enlarged_wall n) edges)
 closed_enlarged n edges closed value = rises_enlarged n value edges ∙ closed (λ v. value (enlarged n v))
 
--- where a strip clears each edge, the edges go round both its ends alike
-pub carried : (edges : List Segment) (p d q e : Point) (k : ℤ) → AreClosed edges → ((f : Segment) → IsIn edges f → Clears f.a f.b p d q e) → HasWinding edges p d k → HasWinding edges q e k
-carried edges p d q e k closed clears h =
-    eventually_then _ (λ n. winding (near n q e) (map (enlarged_wall n) edges) ≡ k)
-    (λ n both. sym (same_winding (near n p d) (near n q e) (map (enlarged_wall n) edges) (closed_enlarged n edges closed)
-    (λ f there. let s = source (enlarged_wall n) edges f there in
-    subst (λ t. do_touch t.a t.b (near n p d) (near n q e) ≡ false) s.is (both.1 s.it s.is_in))) ∙ both.0)
-    (eventually_both (λ n. winding (near n p d) (map (enlarged_wall n) edges) ≡ k) (λ n. (f : Segment) → IsIn edges f → do_touch (enlarged n f.a) (enlarged n f.b) (near n p d) (near n q e) ≡ false)
-    h (eventually_all edges (λ f n. do_touch (enlarged n f.a) (enlarged n f.b) (near n p d) (near n q e) ≡ false) clears))
+-- from some enlargement on, the point d away from x is on no edge
+abbrev pub IsOff : List Segment → Point → Point → Type 0
+IsOff edges x d =
+    Eventually (λ n. (f : Segment) → IsIn edges f → is_on_segment (near n x d) (enlarged n f.a) (enlarged n f.b) ≡ false)
+
+-- from some enlargement on, the edges go round the point d away from x so often, and it is on none of them
+pub record GoesRoundOff (edges : List Segment) (x d : Point) (k : ℤ) : Type 0 where
+  pub has : HasWinding edges x d k
+  pub off : IsOff edges x d
+
+-- where a strip clears each edge, the edges go round both its ends alike, and its end is on none of them
+pub carried : (edges : List Segment) (p d q e : Point) (k : ℤ) → AreClosed edges
+    → ((f : Segment) → IsIn edges f → Clears f.a f.b p d q e) → HasWinding edges p d k → GoesRoundOff edges q e k
+carried edges p d q e k closed clears h = record {
+  has = eventually_then _ (λ n. winding (near n q e) (map (enlarged_wall n) edges) ≡ k)
+      (λ n both. sym (same_winding (near n p d) (near n q e) (map (enlarged_wall n) edges) (closed_enlarged n edges closed)
+      (λ f there. let s = source (enlarged_wall n) edges f there in
+      subst (λ t. do_touch t.a t.b (near n p d) (near n q e) ≡ false) s.is (both.1 s.it s.is_in))) ∙ both.0)
+      (eventually_both (λ n. winding (near n p d) (map (enlarged_wall n) edges) ≡ k)
+      (λ n. (f : Segment) → IsIn edges f → do_touch (enlarged n f.a) (enlarged n f.b) (near n p d) (near n q e) ≡ false)
+      h (eventually_all edges (λ f n. do_touch (enlarged n f.a) (enlarged n f.b) (near n p d) (near n q e) ≡ false) clears));
+  off = eventually_all edges (λ f n. is_on_segment (near n q e) (enlarged n f.a) (enlarged n f.b) ≡ false)
+      (λ f there. eventually_then (λ n. do_touch (enlarged n f.a) (enlarged n f.b) (near n p d) (near n q e) ≡ false)
+      (λ n. is_on_segment (near n q e) (enlarged n f.a) (enlarged n f.b) ≡ false)
+      (λ n t. end_off (enlarged n f.a) (enlarged n f.b) (near n p d) (near n q e) t) (clears f there));
+}
 
 -- ---- one direction, one winding
 

@@ -5,10 +5,10 @@ use Rattle.std.proofs.lemmas.Int.{ints}
 use Rattle.plane_spec.specs.declared.Point.{Point}
 use Rattle.plane_spec.specs.declared.Segment.{Segment}
 use Rattle.plane_laws.specs.Enlarged.{enlarged_wall}
-use Rattle.winding_laws.specs.Windings.{winding}
+use Rattle.winding_laws.specs.Windings.{winding, near}
 use Rattle.winding_laws.proofs.OneEdge.{turned, wind_turned}
 use Rattle.winding_laws.proofs.Strips.{HasWinding}
-use Rattle.winding_laws.proofs.Near.{eventually_then, near}
+use Rattle.winding_laws.proofs.Near.{eventually_then}
 use Rattle.winding_laws.proofs.Closed.{rises_along, AreClosed}
 
 pub winding_turned : (x : Point) (edges : List Segment) → winding x (map turned edges) ≡ neg_ℤ (winding x edges)

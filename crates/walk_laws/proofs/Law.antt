@@ -1,0 +1,28 @@
+-- The law of fine steps, as the contract states it.
+use Rattle.std.specs.Prelude.{true, false, List, Contains}
+use Rattle.std.proofs.Common.{◌≡◌, ◌⊎◌, ℕ, ◌+◌, ◌<◌, ℤ, pos, ◌-ℤ◌, arith}
+use Rattle.std.proofs.lemmas.Int.{ints}
+use Rattle.std.proofs.lemmas.Bool.{and_from}
+use Rattle.int_laws.proofs.Tests.{equal_tested}
+use Rattle.plane_spec.specs.declared.Point.{Point}
+use Rattle.plane_spec.specs.declared.Segment.{Segment}
+use Rattle.plane_spec.specs.Vectors.{same_point}
+use Rattle.plane_laws.specs.Enlarged.{part_way}
+use Rattle.plane_laws.proofs.Tests.{clash}
+use Rattle.plane_laws.proofs.Members.{from_contains}
+use Rattle.walk_laws.specs.Steps.{MeetsAtEnds}
+use Rattle.walk_laws.proofs.Walk.{met_at_ends}
+use Rattle.walk_laws.proofs.Fine.{FineSteps, fine_steps}
+
+apart_from : (p q : Point) → same_point p q ≡ false → q.x -ℤ p.x ≡ pos 0 → q.y -ℤ p.y ≡ pos 0 → ⊥
+apart_from p q h e f = clash h (and_from _ _ (equal_tested p.x q.x (omega (arith, ints, e))) (equal_tested p.y q.y (omega (arith, ints, f))))
+
+pub steps_meet_at_ends : (edges : List Segment) (p q : Point) → same_point p q ≡ false
+    → (n : ℕ) × (0 < n) × ((i : ℕ) (e : Segment) → Contains edges e → MeetsAtEnds n i p q e)
+steps_meet_at_ends edges p q differ = (steps.number, some, λ i e there touch. met_at_ends steps.number i p q e (steps.fine e (from_contains edges e there)) touch)
+  where
+    steps : FineSteps edges p q 1
+    steps = fine_steps edges p q 1 (omega arith) (apart_from p q differ)
+
+    some : 0 < steps.number
+    some = let e = steps.multiple.is in let t = steps.multiple.some in omega (arith, ints, e, t)
