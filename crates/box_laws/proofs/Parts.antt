@@ -6,6 +6,7 @@ use Rattle.plane_spec.specs.declared.Orientation.{Orientation}
 use Rattle.plane_spec.specs.declared.Point.{Point}
 use Rattle.plane_spec.specs.declared.Segment.{Segment}
 use Rattle.plane_spec.specs.declared.Corner.{Corner}
+use Rattle.plane_spec.specs.declared.Orientation.TheVariants.{Counterclockwise, Clockwise}
 use Rattle.plane_spec.specs.Polygons.{edges_to, edges_of}
 use Rattle.plane_spec.specs.Cones.{corner}
 use Rattle.plan_spec.specs.Scene.{turned_edge, goes_round, walls_round, corners_after, last_edge, corners_along}
@@ -53,7 +54,7 @@ walls_held P way points all = by_way (goes_round way points)
 
 -- what holds of all points of an obstacle holds of the ends of its walls
 pub obstacle_walls_held : (P : Point → Type 0) (o : Obstacle) → All P o.points → All (OfEnds P) (walls_of_obstacle o)
-obstacle_walls_held P o all = walls_held P true o.points all
+obstacle_walls_held P o all = walls_held P Counterclockwise o.points all
 
 -- ---- corners
 
@@ -88,14 +89,14 @@ corners_held P way points all = by_way (goes_round way points)
 -- what holds of all points of an obstacle holds of its corners
 pub obstacle_corners_held : (P : Point → Type 0) (o : Obstacle) → All P o.points
     → All (OfCorner P) (corners_of_obstacle o)
-obstacle_corners_held P o all = corners_held P true o.points all
+obstacle_corners_held P o all = corners_held P Counterclockwise o.points all
 
 -- ---- the outer polygon
 
 -- its walls
 abbrev pub outer_walls : List Point → List Segment
-outer_walls points = walls_round false points
+outer_walls points = walls_round Clockwise points
 
 -- and its corners
 abbrev pub outer_corners : List Point → List Corner
-outer_corners points = corners_round false points
+outer_corners points = corners_round Clockwise points

@@ -25,6 +25,7 @@
 ghost use Rattle.std.specs.Prelude.{Contains, List, false, pos, true, ◌≡◌};
 ghost use Rattle.plane_spec.specs.declared.Corner.{Corner};
 ghost use Rattle.plane_spec.specs.declared.Point.{Point};
+ghost use Rattle.plane_spec.specs.declared.Orientation.TheVariants.{Counterclockwise, Clockwise};
 ghost use Rattle.plane_spec.specs.Cones.{is_in_cone};
 ghost use Rattle.plane_spec.specs.Polygons.{is_simple};
 ghost use Rattle.plane_spec.specs.Vectors.{vector};
@@ -37,12 +38,12 @@ ghost use Rattle.cone_laws.specs.Off.{LeadsOff};
 /// direction of its cone, the outer polygon's walls don't go round: there is what is outside.
 pub fn the_cone_of_a_corner_leads_to_the_left()
     ensures into { (points : List Point) (c : Corner) (d : Point) → is_simple points ≡ true
-        → Contains (corners_round true points) c → is_in_cone c d ≡ true
-        → GoesRoundNear (walls_round true points) c.here d (pos 1) }
+        → Contains (corners_round Counterclockwise points) c → is_in_cone c d ≡ true
+        → GoesRoundNear (walls_round Counterclockwise points) c.here d (pos 1) }
     ensures out_of { (points : List Point) (c : Corner) (d : Point) → is_simple points ≡ true
-        → Contains (corners_round true points) c → LeadsOff (vector c.prev c.here) (vector c.here c.next) d
-        → is_in_cone c d ≡ false → GoesRoundNear (walls_round true points) c.here d (pos 0) }
+        → Contains (corners_round Counterclockwise points) c → LeadsOff (vector c.prev c.here) (vector c.here c.next) d
+        → is_in_cone c d ≡ false → GoesRoundNear (walls_round Counterclockwise points) c.here d (pos 0) }
     ensures into_outer { (points : List Point) (c : Corner) (d : Point) → is_simple points ≡ true
-        → Contains (corners_round false points) c → is_in_cone c d ≡ true
-        → GoesRoundNear (walls_round false points) c.here d (pos 0) }
+        → Contains (corners_round Clockwise points) c → is_in_cone c d ≡ true
+        → GoesRoundNear (walls_round Clockwise points) c.here d (pos 0) }
 {}

@@ -12,10 +12,12 @@ use Rattle.std.proofs.lemmas.Int.{ints}
 use Rattle.std.proofs.lemmas.Bool.{and_parts}
 use Rattle.std.proofs.lemmas.List.Elements.{All-head, All-tail, Contains-get_or}
 use Rattle.std.proofs.lemmas.List.Elements.{Contains-append_left, Contains-append_right}
+use Rattle.plane_spec.specs.declared.Orientation.{Orientation}
 use Rattle.plane_spec.specs.declared.Point.{Point}
 use Rattle.plane_spec.specs.declared.PlanBox.{PlanBox}
 use Rattle.plane_spec.specs.declared.Segment.{Segment}
 use Rattle.plane_spec.specs.declared.Corner.{Corner}
+use Rattle.plane_spec.specs.declared.Orientation.TheVariants.{Counterclockwise}
 use Rattle.plane_spec.specs.Vectors.{same_point}
 use Rattle.plane_spec.specs.Boxes.{box_of_points}
 use Rattle.plane_spec.specs.Polygons.{edges_to, edges_of, has_repeat, is_nothing}
@@ -158,7 +160,7 @@ places_along (p ∷ q ∷ points) =
 -- the corners of an obstacle stand at its points, whichever way round these go
 places_of_obstacle : (o : Obstacle) → places (corners_of_obstacle o) ≡ o.points
 unfolding corners_round
-places_of_obstacle o = by (goes_round true o.points)
+places_of_obstacle o = by (goes_round Counterclockwise o.points)
   where
     by : (t : Bool)
         → places (cond t (corners_along (edges_of o.points)) (map turned_corner (corners_along (edges_of o.points))))

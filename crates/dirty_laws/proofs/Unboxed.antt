@@ -10,6 +10,7 @@ use Rattle.std.specs.List.{flat_map}
 use Rattle.std.proofs.lemmas.List.Elements.{All-nil, All-cons, All-head, All-tail, All-weaker}
 use Rattle.plane_spec.specs.declared.Point.{Point}
 use Rattle.plane_spec.specs.declared.PlanBox.{PlanBox}
+use Rattle.plane_spec.specs.declared.Orientation.TheVariants.{Counterclockwise}
 use Rattle.plane_spec.specs.Boxes.{box_of_points}
 use Rattle.plane_spec.specs.Polygons.{edges_of}
 use Rattle.plan_spec.specs.declared.kinds.Screen.{Screen}
@@ -40,7 +41,7 @@ no_points (p ∷ points) h = cc
 -- obstacles without points have no walls
 no_walls : (o : Obstacle) → o.points ≡ [] → walls_of_obstacle o ≡ []
 unfolding walls_round
-no_walls o e = ap (λ ps. walls_round true ps) e ∙ by (goes_round true [])
+no_walls o e = ap (λ ps. walls_round Counterclockwise ps) e ∙ by (goes_round Counterclockwise [])
   where
     by : (t : Bool) → cond t (edges_of []) (map turned_edge (edges_of [])) ≡ []
     by true = refl
@@ -49,7 +50,7 @@ no_walls o e = ap (λ ps. walls_round true ps) e ∙ by (goes_round true [])
 -- nor corners
 no_corners : (o : Obstacle) → o.points ≡ [] → corners_of_obstacle o ≡ []
 unfolding corners_round
-no_corners o e = ap (λ ps. corners_round true ps) e ∙ by (goes_round true [])
+no_corners o e = ap (λ ps. corners_round Counterclockwise ps) e ∙ by (goes_round Counterclockwise [])
   where
     by : (t : Bool) → cond t (corners_along (edges_of [])) (map turned_corner (corners_along (edges_of []))) ≡ []
     by true = refl
