@@ -1,8 +1,8 @@
 -- The first line of bytes, and a line without its return.
-use Rattle.std.proofs.Common.{◌≡◌, ℕ, ◌+◌, ◌<◌, Some, None, Bool, true, false, List, [], ◌∷◌, length, take, drop, ◌++◌, ◌≢◌, cond, eqb, Option, MatchOption, unwrap_or, Bor, refl, sym, ap, ◌∙◌, arith}
+use Rattle.std.proofs.Common.{◌≡◌, ℕ, ◌+◌, ◌<◌, Some, None, false, List, [], ◌∷◌, length, take, drop, eqb, refl, ap, ◌∙◌, arith}
 use Rattle.std.specs.List.{slice_split, position}
 use Rattle.std.proofs.lemmas.List.Splits.{slice_split_first, slice_split_none, length-slice_split}
-use Rattle.text_spec.specs.Lines.{lines_of, without_empty_last, without_return, is_newline}
+use Rattle.text_spec.specs.Lines.{lines_of, without_empty_last, is_newline}
 use Rattle.plan_text.proofs.Places.{found, not_found, none_passes}
 
 pub no_lines : lines_of [] ≡ []

@@ -1,10 +1,12 @@
 -- A plan, read line by line.
-use Rattle.std.proofs.Common.{◌≡◌, ℕ, ◌+◌, ◌<◌, ◌≤◌, List, [], ◌∷◌, ◌++◌, length, map, false, Option, Some, None, is_none, Ok, Err, refl, sym, ap, ◌∙◌, append_assoc, arith}
+use Rattle.std.proofs.Common.{◌≡◌, ℕ, ◌+◌, ◌<◌, ◌≤◌, List, [], ◌∷◌, ◌++◌, length, map, false, Option, Some, None}
+use Rattle.std.proofs.Common.{is_none, Ok, Err, refl, sym, ap, ◌∙◌, append_assoc, arith}
 use Rattle.std.proofs.lemmas.List.{append-nil, map-append}
 use Rattle.text_spec.specs.Lines.{lines_of}
 use Rattle.plan_spec.specs.declared.kinds.Item.{Item}
 use Rattle.report_spec.specs.declared.readings.TextWhy.TheVariants.{Kind}
-use Rattle.report_spec.specs.PlanText.{PlanReading, item_before, read_next, read_plan_line, read_plan_lines, read_plan_text, items_read, numbers_read}
+use Rattle.report_spec.specs.PlanText.{PlanReading, item_before, read_next, read_plan_line, read_plan_lines}
+use Rattle.report_spec.specs.PlanText.{read_plan_text, items_read, numbers_read}
 use Rattle.report_spec.specs.declared.plan_line.Version.{Version}
 use Rattle.report_spec.specs.declared.plan_line.PlanLine.{PlanLine}
 use Rattle.report_spec.specs.declared.plan_line.PlanLine.TheVariants.{Blank, Header, Item as OfItem}

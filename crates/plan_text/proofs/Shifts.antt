@@ -16,7 +16,19 @@ use Rattle.report_spec.specs.declared.arguments.Count.{Count}
 use Rattle.report_spec.specs.Shapes.{is_count, Fields, at, fields_with, number_before, numbers_of, read_fields, read_fields_by}
 use Rattle.report_spec.specs.PlanText.{ok_map}
 use Rattle.report_spec.specs.declared.script_line.ScriptWord.{ScriptWord}
-use Rattle.report_spec.specs.declared.script_line.ScriptWord.TheVariants.{Add as AddWord, Addbox as AddboxWord, Remove as RemoveWord, Move as MoveWord, Addscreen as AddscreenWord, Removescreen as RemovescreenWord, Addroute as AddrouteWord, Removeroute as RemoverouteWord, Depth as DepthWord, Isovist as IsovistWord, Turns as TurnsWord}
+use Rattle.report_spec.specs.declared.script_line.ScriptWord.TheVariants.{
+  Add as AddWord,
+  Addbox as AddboxWord,
+  Remove as RemoveWord,
+  Move as MoveWord,
+  Addscreen as AddscreenWord,
+  Removescreen as RemovescreenWord,
+  Addroute as AddrouteWord,
+  Removeroute as RemoverouteWord,
+  Depth as DepthWord,
+  Isovist as IsovistWord,
+  Turns as TurnsWord,
+}
 use Rattle.report_spec.specs.ScriptText.{script_shape, line_of}
 use Rattle.plan_text.specs.declared.faults.ReadLineFault.{ReadLineFault}
 use Rattle.plan_text.specs.Readings.{ReadsLine, HasShiftInLine}

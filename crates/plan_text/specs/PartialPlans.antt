@@ -8,4 +8,5 @@ use Rattle.plan_text.specs.declared.plans.PartialPlan.{PartialPlan}
 abbrev pub with_line : ℕ → PlanLine → PartialPlan → PartialPlan
 with_line number Blank draft = draft
 with_line number (Header version) draft = record draft { header = Some version }
-with_line number (Item item) draft = record draft { items = draft.items ++ item ∷ []; lines = draft.lines ++ number ∷ [] }
+with_line number (Item item) draft =
+    record draft { items = draft.items ++ item ∷ []; lines = draft.lines ++ number ∷ [] }

@@ -11,29 +11,31 @@ use Rattle.report_spec.specs.declared.readings.TextWhy.TheVariants.{Long}
 use Rattle.report_spec.specs.ScriptText.{read_script_line}
 use Rattle.report_spec.specs.PlanText.{read_plan_text, items_read, numbers_read}
 use Rattle.plan_text.specs.declared.faults.ReadLineFault.{ReadLineFault}
-use Rattle.plan_text.specs.declared.faults.ReadLineFault.TheVariants.{Bad, NoMemory}
+use Rattle.plan_text.specs.declared.faults.ReadLineFault.TheVariants as line_fault
 use Rattle.plan_text.specs.declared.faults.ReadPlanFault.{ReadPlanFault}
-use Rattle.plan_text.specs.declared.faults.ReadPlanFault.TheVariants.{Bad as BadLine, NoMemory as NoRoom}
+use Rattle.plan_text.specs.declared.faults.ReadPlanFault.TheVariants as plan_fault
 use Rattle.plan_text.specs.declared.plans.PlanText.{PlanText}
 
--- the items with the numbers of their lines, or the first line outside the grammar and why it is; want of memory alone is
--- free
+-- the items with the numbers of their lines, or the first line outside the grammar and why it is; where there is no
+-- memory nothing is said
 abbrev pub ReadsPlan : List ℕ → Result PlanText ReadPlanFault → Type 0
 ReadsPlan bytes (Ok text) =
-    (items : List (ℕ × Item)) × (read_plan_text bytes ≡ Ok items) × (text.plan.items ≡ items_read items) × (text.lines ≡ numbers_read bytes items)
-ReadsPlan bytes (Err (BadLine line why)) = read_plan_text bytes ≡ Err (line, why)
-ReadsPlan bytes (Err NoRoom) = Unit {0}
+    (items : List (ℕ × Item)) × (read_plan_text bytes ≡ Ok items) × (text.plan.items ≡ items_read items)
+    × (text.lines ≡ numbers_read bytes items)
+ReadsPlan bytes (Err (plan_fault.Bad line why)) = read_plan_text bytes ≡ Err (line, why)
+ReadsPlan bytes (Err plan_fault.NoMemory) = Unit {0}
 
 -- what was read is an obstacle to be added
 abbrev pub is_add : Result Line TextWhy → Bool
 is_add (Ok (Edit (Add name points))) = true
 is_add _ = false
 
--- the reading of a line of a script; want of memory is answered in place of an obstacle to be added, and of nothing else
+-- the reading of a line of a script; that there is no memory is answered in place of an obstacle to be added, and of
+-- nothing else
 abbrev pub ReadsLine : Result Line TextWhy → Result Line ReadLineFault → Type 0
 ReadsLine reading (Ok line) = reading ≡ Ok line
-ReadsLine reading (Err (Bad why)) = reading ≡ Err why
-ReadsLine reading (Err NoMemory) = is_add reading ≡ true
+ReadsLine reading (Err (line_fault.Bad why)) = reading ≡ Err why
+ReadsLine reading (Err line_fault.NoMemory) = is_add reading ≡ true
 
 -- how a line of a script is read that is given without its newline and its carriage return
 abbrev pub reading_of_shown : List ℕ → Result Line TextWhy

@@ -1,5 +1,5 @@
-//! The shapes of what follows a keyword. The first of these that holds is told: a wrong number of words, a wrong name, a
-//! wrong number.
+//! What follows a keyword, by its shape. The first of these that holds is told: a wrong number of words, a wrong name,
+//! a wrong number.
 
 ghost use Rattle.std.specs.Prelude.{◌≡◌, true, false};
 ghost use Rattle.text_spec.specs.Words.{words_of};
