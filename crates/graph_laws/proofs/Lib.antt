@@ -12,3 +12,4 @@ pub mod Visibility
 pub mod SameGraphs
 pub mod Bounds
 pub mod GridPoints
+pub mod SameEdges

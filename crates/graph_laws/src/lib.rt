@@ -14,15 +14,15 @@
 //! | [`measures_are_bounded`] | depths, connectivity and reach are at most the number of nodes, and a total the square of one less | `Graphs` |
 //! | [`measures_stand_at_their_nodes`] | the list of measures has those of each node, at its number | `Graphs` |
 //! | [`same_graphs_measure_the_same`] | graphs that are the same below their count have the same depths, measures and edges | `Graphs` |
-//! | [`same_simple_graphs_are_equal`] | where graphs join nodes alone, that makes them equal | `Graphs` |
+//! | [`same_simple_graphs_are_equal`] | where graphs join nodes alone, that makes them equal, and so does one list of edges | `Graphs` |
 //! | [`grid_points_are_numbered_by_rows`] | number `row * cols + col` is the point in that row and column, and each point has its number alone | `Grid` |
 //! | [`the_visibility_graph_is_simple`] | what sees is seen, and the graph's edges are the listed pairs that see each other | `Grid`, `Sight` |
 //! | [`the_crossing_graph_is_simple`] | what meets is met | `Axial` |
 //! | [`turn_depth_is_least`] | the computed turn depth of a piece is the least cost of a walk to it, or none where there is no walk | `Routes` |
 //! | [`turn_depth_is_unique`] | a piece has one turn depth | `Routes` |
 //!
-//! Proofs of code cite the laws by the lemmas in `proofs/`: `Depths`, `Bounds`, `SameGraphs`, `GridPoints`,
-//! `SimpleGraphs`, `Visibility` and `Turns`.
+//! Proofs of code cite the laws by the lemmas in `proofs/`: `Depths`, `Bounds`, `SameGraphs`, `SameEdges`,
+//! `GridPoints`, `SimpleGraphs`, `Visibility` and `Turns`.
 #![tactic(auto)]
 
 ghost use Rattle.std.specs.Prelude.{◌≡◌, ◌<◌, ◌≤◌, ◌+◌, ◌-◌, ◌*◌, ◌≤ℤ◌, pos, unsigned_abs, ℕ, List, Option, None, Some, length, get_or};
@@ -79,10 +79,12 @@ pub fn same_graphs_measure_the_same()
     ensures edges { (g h : Graph) → IsSameGraph g h → edges_of g ≡ edges_of h }
 {}
 
-/// Simple graphs that are the same below their count are equal, since neither joins any other number. So are graphs
-/// with as many nodes that join the same numbers.
+/// Simple graphs that are the same below their count are equal, since neither joins any other number. So are simple
+/// graphs with as many nodes and the same edges, and graphs with as many nodes that join the same numbers.
 pub fn same_simple_graphs_are_equal()
     ensures simple { (g h : Graph) → IsSimpleGraph g → IsSimpleGraph h → IsSameGraph g h → g ≡ h }
+    ensures edges { (g h : Graph) → IsSimpleGraph g → IsSimpleGraph h → g.count ≡ h.count
+        → edges_of g ≡ edges_of h → g ≡ h }
     ensures joins { (g h : Graph) → g.count ≡ h.count → ((i j : ℕ) → g.joins i j ≡ h.joins i j) → g ≡ h }
 {}
 

@@ -1,14 +1,21 @@
 -- Depths and measures of small graphs, and what an edit leaves clean.
 use Rattle.std.specs.Prelude.{◌≡◌, refl, ℕ, ◌==◌, ◌&&◌, ◌||◌, List, [], ◌∷◌, Some, None, pos, true, false}
 use Rattle.std.specs.List.{list_any}
-use Rattle.plane_spec.specs.Fractions.{fraction, whole, reduced, common_divisor}
-use Rattle.plane_spec.specs.Boxes.{is_left_of, does_meet_box, with_points}
-use Rattle.plan_spec.specs.declared.changes.Edit.TheVariants.{Add}
+use Rattle.plane_spec.specs.Segments.{is_on_segment, cross_properly}
+use Rattle.plane_spec.specs.Polygons.{edges_to, is_counterclockwise}
+use Rattle.plane_spec.specs.Cones.{is_in_cone}
+use Rattle.plane_spec.specs.Fractions.{fraction, whole, reduced, common_divisor, along}
+use Rattle.plane_spec.specs.Boxes.{is_left_of, does_meet_box, does_extent_meet_box, with_points}
+use Rattle.plan_spec.specs.declared.changes.Edit.TheVariants.{Add, AddRoute}
+use Rattle.plan_spec.specs.Scene.{Scene, walls_round, corners_round, scene_of}
+use Rattle.plan_spec.specs.Sight.{leaves_wall, corner_stops, is_blocked, are_in_sight}
+use Rattle.plan_spec.specs.Stops.{line_hit, corner_hit, start_hit, stop_of}
+use Rattle.plan_spec.specs.Axial.{AxialLine, axial_lines}
 use Rattle.plan_spec.specs.Graphs.{Graph, graph_where, edges_of, depth_of, depths_of, measures_of}
 use Rattle.plan_spec.specs.Grid.{grid_points}
 use Rattle.plan_spec.specs.Edits.{changed_boxes}
-use Rattle.plan_spec.specs.Dirty.{is_dirty_pair, is_dirty_row}
-use Rattle.plan_spec.proofs.Figures.{at, box, room, grid}
+use Rattle.plan_spec.specs.Dirty.{is_dirty_pair, is_dirty_row, is_dirty_line, is_dirty_corner, dirty_corners, dirty_corner_count}
+use Rattle.plan_spec.proofs.Figures.{at, box, room, room_with, middle, grid}
 
 -- the graph of so many nodes with these edges
 abbrev graph_of_edges : ℕ → List (ℕ × ℕ) → Graph
@@ -59,3 +66,21 @@ a_box_in_the_middle_leaves_the_last_row_clean = refl
 a_box_in_the_middle_makes_the_row_of_its_centre_dirty : is_dirty_row (changed_boxes room (Add [] (box 4 4 6 6))) (grid_points (Some (grid 5 3 3))) 4 ≡ true
 unfolding is_dirty_pair changed_boxes with_points does_meet_box is_left_of grid_points
 a_box_in_the_middle_makes_the_row_of_its_centre_dirty = refl
+
+-- the room's walls, corners and axial lines
+abbrev bare : Scene
+bare = scene_of room
+
+abbrev bare_lines : List AxialLine
+bare_lines = axial_lines bare
+
+-- the old corners see the new ones
+a_new_box_makes_each_corner_dirty :
+    dirty_corner_count (changed_boxes room (Add [] (box 4 4 6 6))) bare bare_lines (scene_of (room_with middle)) ≡ 8
+unfolding dirty_corners is_dirty_corner is_dirty_line is_dirty_pair changed_boxes with_points does_meet_box does_extent_meet_box is_left_of axial_lines are_in_sight is_blocked leaves_wall corner_stops stop_of line_hit corner_hit start_hit is_in_cone walls_round corners_round is_counterclockwise edges_to is_on_segment cross_properly along reduced common_divisor
+a_new_box_makes_each_corner_dirty = refl
+
+a_new_route_makes_no_corner_dirty :
+    dirty_corners (changed_boxes room (AddRoute [] (at 1 1) (at 9 9))) bare bare_lines bare ≡ []
+unfolding dirty_corners is_dirty_corner is_dirty_line is_dirty_pair changed_boxes with_points does_meet_box does_extent_meet_box is_left_of axial_lines are_in_sight is_blocked leaves_wall corner_stops stop_of line_hit corner_hit start_hit is_in_cone walls_round corners_round is_counterclockwise edges_to is_on_segment cross_properly along reduced common_divisor
+a_new_route_makes_no_corner_dirty = refl

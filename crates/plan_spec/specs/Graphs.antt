@@ -29,6 +29,7 @@ graph_where count test =
 abbrev pub nodes : Graph → List ℕ
 nodes graph = range_with_len 0 graph.count
 
+-- the graph joins the two
 abbrev pub is_edge : Graph → ℕ × ℕ → Bool
 is_edge graph e = graph.joins e.0 e.1
 

@@ -1,6 +1,5 @@
 pub mod Sides
 pub mod Ways
-pub mod Mutual
 pub mod Along
 pub mod Nearest
 pub mod Sound

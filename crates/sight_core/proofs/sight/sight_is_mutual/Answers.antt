@@ -1,5 +1,5 @@
-use Rattle.sight_core.proofs.Mutual.{sight-turned}
+use Rattle.plan_laws.proofs.MutualSight.{sight_turned}
 use Rattle.sight_core.proofs.sight.sight_is_mutual.Goals as goal
 
 pub returns : goal.returns
-returns c = sight-turned
+returns c = sight_turned
