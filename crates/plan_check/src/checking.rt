@@ -6,9 +6,9 @@ ghost use Rattle.plan_spec.specs.Plan.{with_item};
 ghost use Rattle.plan_spec.specs.Refusals.{checked, why_not_item};
 ghost use Rattle.plan_check.specs.Faults.{IfBad};
 
-use crate::plan_parts::copied_points;
 use crate::draft::Draft;
 use crate::plan::Plan;
+use crate::plan_parts::copied_points;
 use crate::refusals::why_not_item;
 use plan_spec::{Item, PlanData, Why};
 use std::alloc::Global;

@@ -6,9 +6,9 @@ ghost use Rattle.plan_spec.specs.Edits as edits;
 ghost use Rattle.plan_spec.specs.Refusals as refusals;
 ghost use Rattle.plan_spec.specs.Edits.{HasShift, IsShift};
 
-use crate::plan_parts::copied_points;
 use crate::draft::Draft;
 use crate::place_refusals::why_not_polygon_in;
+use crate::plan_parts::copied_points;
 use crate::refusals::{why_not_obstacle, why_not_route, why_not_screen};
 use crate::shape_refusals::all_in_range;
 use crate::shifts::shifted_points;

@@ -73,7 +73,8 @@ fn has_points(grid: GridSpec) -> bool
     is_from_one(MOST_STEP, grid.step) && 1 <= grid.cols && 1 <= grid.rows
 }
 
-/// Whether the step is at least 1 and not too long, there is at least one column and one row, and all points are in range.
+/// Whether the step is at least 1 and not too long, there is at least one column and one row, and all points are in
+/// range.
 #[tactic(auto, unfolding(plan_spec::specs::Accepted::is_grid_in_range))]
 pub(crate) fn is_grid_in_range(grid: GridSpec) -> bool
     ensures { result ≡ accepted.is_grid_in_range grid }

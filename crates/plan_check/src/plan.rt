@@ -139,7 +139,7 @@ impl Plan {
     /// The plan after the edit; this one is untouched. A new obstacle, screen or route goes last, a removal closes up, a
     /// move keeps the place.
     ///
-    /// `Err(Refused)` names the first cause for which the edit is refused. The shift of a move has at most nine digits.
+    /// `Err(Refused)` names the first cause for which the edit is refused. The shift of a move is at most `MOST_SHIFT`.
     ///
     /// Cost: a copy of the plan, and the tests of what is new against each part.
     pub fn with(&self, alloc: Global, edit: &Edit) -> Result<Plan, EditFault>
@@ -156,7 +156,7 @@ impl Plan {
     }
 
     /// The boxes of the obstacle, or of the screen's ends, before and after the edit, where there is one; a route has
-    /// none. Where nothing refuses the edit they are in range. The shift of a move has at most nine digits.
+    /// none. Where nothing refuses the edit they are in range. The shift of a move is at most `MOST_SHIFT`.
     pub fn changed(&self, edit: &Edit) -> Changed
         requires shift { HasShift edit.now }
         ensures boxes { result ≡ changed_boxes self.now edit.now }

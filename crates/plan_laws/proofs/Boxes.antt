@@ -13,11 +13,11 @@ use Rattle.plan_spec.specs.declared.changes.Edit.{Edit}
 use Rattle.plan_spec.specs.declared.changes.Edit.TheVariants.{Add, Remove, Move, AddScreen, RemoveScreen, AddRoute, RemoveRoute}
 use Rattle.plan_spec.specs.Plan.{Obstacle, Plan, obstacle, screen, with_item, is_obstacle_named, is_screen_named}
 use Rattle.plan_spec.specs.Accepted.{lies_within, polygons_meet, line_meets_polygon, is_sound}
-use Rattle.plan_spec.specs.Edits.{shifted_point, points_named, ends_named, why_not_moved, why_not_edit, edited, changed_boxes}
+use Rattle.plan_spec.specs.Edits.{others_of, moved_points, shifted_point, points_named, ends_named, why_not_moved, why_not_edit, edited, changed_boxes}
 use Rattle.plan_spec.specs.Ranges.{IsPolygonInRange, IsLineInRange, IsBoxInRange, AreBoxesInRange}
 use Rattle.plan_laws.proofs.Ranges.{points_in_range, obstacles_in_range, sound_obstacles, sound_screens}
 use Rattle.plan_laws.proofs.Adding.Items.{no_cause}
-use Rattle.plan_laws.proofs.Edits.Refused.{others_of, moved_points, fits_when_moved, none_of_move, edited_is_sound}
+use Rattle.plan_laws.proofs.Edits.Refused.{fits_when_moved, none_of_move, edited_is_sound}
 
 -- ---- the box of points in range
 

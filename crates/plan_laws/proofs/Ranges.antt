@@ -41,13 +41,17 @@ points_in_range points h = each_is is_in_range InRange point_in_range points h
 pub limits_are : (p : Plan) → is_within_limits p ≡ true → IsWithinLimits p
 unfolding is_within_limits
 limits_are p h =
-    let counts = first_of_both (nat_le (length p.obstacles) MOST_OBSTACLES && nat_le (length p.screens) MOST_SCREENS) (nat_le (length p.routes) MOST_ROUTES && nat_le (corner_count p) MOST_CORNERS) h in
-    let rest = second_of_both (nat_le (length p.obstacles) MOST_OBSTACLES && nat_le (length p.screens) MOST_SCREENS) (nat_le (length p.routes) MOST_ROUTES && nat_le (corner_count p) MOST_CORNERS) h in
+    let obstacles = nat_le (length p.obstacles) MOST_OBSTACLES in
+    let screens = nat_le (length p.screens) MOST_SCREENS in
+    let routes = nat_le (length p.routes) MOST_ROUTES in
+    let corners = nat_le (corner_count p) MOST_CORNERS in
+    let counts = first_of_both (obstacles && screens) (routes && corners) h in
+    let rest = second_of_both (obstacles && screens) (routes && corners) h in
     record {
-      obstacles = leb-true _ _ (first_of_both (nat_le (length p.obstacles) MOST_OBSTACLES) (nat_le (length p.screens) MOST_SCREENS) counts);
-      screens = leb-true _ _ (second_of_both (nat_le (length p.obstacles) MOST_OBSTACLES) (nat_le (length p.screens) MOST_SCREENS) counts);
-      routes = leb-true _ _ (first_of_both (nat_le (length p.routes) MOST_ROUTES) (nat_le (corner_count p) MOST_CORNERS) rest);
-      corners = leb-true _ _ (second_of_both (nat_le (length p.routes) MOST_ROUTES) (nat_le (corner_count p) MOST_CORNERS) rest);
+      obstacles = leb-true _ _ (first_of_both obstacles screens counts);
+      screens = leb-true _ _ (second_of_both obstacles screens counts);
+      routes = leb-true _ _ (first_of_both routes corners rest);
+      corners = leb-true _ _ (second_of_both routes corners rest);
     }
 
 pub sound_limits : (p : Plan) → is_sound p ≡ true → IsWithinLimits p
@@ -55,12 +59,15 @@ sound_limits p h = limits_are p (parts_of_sound p h).limits
 
 -- ---- polygons
 
-polygon_in_range : (points : List Point) → is_polygon points ≡ true → length points ≤ MOST_CORNERS → IsPolygonInRange points
+polygon_in_range : (points : List Point)
+    → is_polygon points ≡ true → length points ≤ MOST_CORNERS → IsPolygonInRange points
 polygon_in_range points h few =
     let simple = second_of_both (list_all is_in_range points) (is_simple points) h in
     record {
       in_range = points_in_range points (first_of_both (list_all is_in_range points) (is_simple points) h);
-      at_least = leb-true _ _ (first_of_both (nat_le 3 (length points)) (not (has_repeat points) && crosses_nowhere points) simple);
+      at_least =
+          leb-true _ _
+          (first_of_both (nat_le 3 (length points)) (not (has_repeat points) && crosses_nowhere points) simple);
       at_most = few;
     }
 

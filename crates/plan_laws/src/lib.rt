@@ -75,8 +75,8 @@ pub fn the_boxes_of_an_edit()
     ensures { (p : Plan) (e : Edit) → is_sound p ≡ true → why_not_edit p e ≡ None → AreBoxesInRange (changed_boxes p e) }
 {}
 
-/// Where an edit that nothing refuses makes one plan of another, sound one, the plan after it is sound, and the boxes in
-/// which it changes something are in range.
+/// Where an edit that nothing refuses makes one plan of another, sound one, the plan after it is sound, and the boxes
+/// in which it changes something are in range.
 pub fn the_edit_between_two_plans()
     ensures sound { (before after : Plan) (boxes : Changed) → IsEditBetween before after boxes → is_sound after ≡ true }
     ensures boxes { (before after : Plan) (boxes : Changed) → IsEditBetween before after boxes → AreBoxesInRange boxes }

@@ -120,8 +120,8 @@ is_within_limits plan =
     (nat_le (length plan.obstacles) MOST_OBSTACLES && nat_le (length plan.screens) MOST_SCREENS)
     && (nat_le (length plan.routes) MOST_ROUTES && nat_le (corner_count plan) MOST_CORNERS)
 
--- the outer polygon is simple, the obstacles and the screens stand in it, apart from each other, the grid and the routes
--- are sound by themselves, wherever they lie, and no limit is passed
+-- the outer polygon is simple, the obstacles and the screens stand in it, apart from each other, the grid and the
+-- routes are sound by themselves, wherever they lie, and no limit is passed
 unfoldable pub is_sound : Plan → Bool
 is_sound plan =
     (is_polygon plan.outer && is_grid_sound plan.grid)

@@ -49,6 +49,14 @@ points_named name obstacles = flat_map (λ o. o.points) (filter (is_obstacle_nam
 abbrev pub without_obstacle : List ℕ → List Obstacle → List Obstacle
 without_obstacle name obstacles = filter (λ o. not (is_obstacle_named name o)) obstacles
 
+-- the plan without the obstacle of this name
+abbrev pub others_of : Plan → List ℕ → Plan
+others_of plan name = with_obstacles plan (without_obstacle name plan.obstacles)
+
+-- the points of the obstacle of this name, moved by dx and dy
+abbrev pub moved_points : Plan → List ℕ → ℤ → ℤ → List Point
+moved_points plan name dx dy = map (shifted_point dx dy) (points_named name plan.obstacles)
+
 -- what the edit removes or moves is there
 abbrev pub is_there : Plan → Edit → Bool
 is_there plan (Remove name) = list_any (is_obstacle_named name) plan.obstacles
@@ -72,7 +80,7 @@ why_not_edit plan (Add name points) = why_not_obstacle plan name points
 why_not_edit plan (Remove name) = when (not (list_any (is_obstacle_named name) plan.obstacles)) Missing
 why_not_edit plan (Move name dx dy) = first_cause (
     when (not (list_any (is_obstacle_named name) plan.obstacles)) Missing
-    ∷ why_not_moved (with_obstacles plan (without_obstacle name plan.obstacles)) (map (shifted_point dx dy) (points_named name plan.obstacles))
+    ∷ why_not_moved (others_of plan name) (moved_points plan name dx dy)
     ∷ [])
 why_not_edit plan (AddScreen name from to) = why_not_screen plan name from to
 why_not_edit plan (RemoveScreen name) = when (not (list_any (is_screen_named name) plan.screens)) Missing
@@ -84,7 +92,7 @@ why_not_edit plan (RemoveRoute name) = when (not (list_any (is_route_named name)
 -- what is new stands last, what is removed closes up, what is moved keeps its place
 unfoldable pub edited : Plan → Edit → Plan
 edited plan (Add name points) = with_item plan (ObstacleItem name points)
-edited plan (Remove name) = with_obstacles plan (without_obstacle name plan.obstacles)
+edited plan (Remove name) = others_of plan name
 edited plan (Move name dx dy) = with_obstacles plan (map (λ o. if is_obstacle_named name o then shifted_obstacle dx dy o else o) plan.obstacles)
 edited plan (AddScreen name from to) = with_item plan (ScreenItem name from to)
 edited plan (RemoveScreen name) = with_screens plan (filter (λ s. not (is_screen_named name s)) plan.screens)
@@ -106,7 +114,7 @@ unfoldable pub changed_boxes : Plan → Edit → Changed
 changed_boxes plan (Add name points) = changed None (box_of_points points)
 changed_boxes plan (Remove name) = changed (box_of_points (points_named name plan.obstacles)) None
 changed_boxes plan (Move name dx dy) =
-    changed (box_of_points (points_named name plan.obstacles)) (box_of_points (map (shifted_point dx dy) (points_named name plan.obstacles)))
+    changed (box_of_points (points_named name plan.obstacles)) (box_of_points (moved_points plan name dx dy))
 changed_boxes plan (AddScreen name from to) = changed None (box_of_points (from ∷ to ∷ []))
 changed_boxes plan (RemoveScreen name) = changed (box_of_points (ends_named name plan.screens)) None
 changed_boxes plan (AddRoute name from to) = changed None None

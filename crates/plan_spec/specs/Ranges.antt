@@ -36,8 +36,8 @@ pub record IsFromTo (low high z : ℤ) : Type 0 where
   pub from : low ≤ℤ z
   pub to : z ≤ℤ high
 
--- a step that isn't too long, at least one column and one row, not too many points, the first and the last column and row
--- in range
+-- a step that isn't too long, at least one column and one row, not too many points, the first and the last column and
+-- row in range
 pub record IsGridInRange (g : GridSpec) : Type 0 where
   pub step : IsFromTo (pos 1) MOST_STEP g.step
   pub cols : IsFromTo (pos 1) (pos MOST_GRID_POINTS) g.cols

@@ -120,7 +120,7 @@ why_not_grid plan g = first_cause (
     ∷ when (not (is_grid_small g)) (Full GridPoints)
     ∷ [])
 
--- an obstacle is refused before the outer polygon, for its points, for where it stands, for its name, and for the limits
+-- an obstacle is refused before the outer polygon, for its points, for where it stands, for its name, and for limits
 unfoldable pub why_not_obstacle : Plan → List ℕ → List Point → Option Why
 why_not_obstacle plan name points = first_cause (
     when (not (has_outer plan)) Order
@@ -131,7 +131,7 @@ why_not_obstacle plan name points = first_cause (
     ∷ when (nat_lt MOST_CORNERS (corner_count plan + length points)) (Full Corners)
     ∷ [])
 
--- a screen is refused before the outer polygon, for its ends, for where it stands, for its name, and for the limits
+-- a screen is refused before the outer polygon, for its ends, for where it stands, for its name, and for limits
 unfoldable pub why_not_screen : Plan → List ℕ → Point → Point → Option Why
 why_not_screen plan name from to = first_cause (
     when (not (has_outer plan)) Order
@@ -142,7 +142,7 @@ why_not_screen plan name from to = first_cause (
     ∷ when (nat_lt MOST_CORNERS (corner_count plan + 2)) (Full Corners)
     ∷ [])
 
--- a route is refused before the outer polygon, for its ends, for its name, for the limit, and for the route that it overlaps
+-- a route is refused before the outer polygon, for its ends, for its name, for the limit, and for what it overlaps
 unfoldable pub why_not_route : Plan → List ℕ → Point → Point → Option Why
 why_not_route plan name from to = first_cause (
     when (not (has_outer plan)) Order

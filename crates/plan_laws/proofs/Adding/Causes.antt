@@ -35,30 +35,36 @@ pub none_when : (test : Bool) (why : Why) → is_none (when test why) ≡ not te
 none_when true why = refl
 none_when false why = refl
 
-pub none_of_obstacles : (meets : Obstacle → Bool) (obstacles : List Obstacle) → is_none (first_obstacle (filter meets obstacles)) ≡ not (list_any meets obstacles)
+pub none_of_obstacles : (meets : Obstacle → Bool) (obstacles : List Obstacle)
+    → is_none (first_obstacle (filter meets obstacles)) ≡ not (list_any meets obstacles)
 none_of_obstacles meets [] = refl
 none_of_obstacles meets (o ∷ obstacles) = step (meets o) (none_of_obstacles meets obstacles)
   where
     step : (t : Bool) → is_none (first_obstacle (filter meets obstacles)) ≡ not (list_any meets obstacles)
-        → is_none (first_obstacle (cond t (o ∷ filter meets obstacles) (filter meets obstacles))) ≡ not (t || list_any meets obstacles)
+        → is_none (first_obstacle (cond t (o ∷ filter meets obstacles) (filter meets obstacles)))
+        ≡ not (t || list_any meets obstacles)
     step true h = refl
     step false h = h
 
-pub none_of_screens : (meets : Screen → Bool) (screens : List Screen) → is_none (first_screen (filter meets screens)) ≡ not (list_any meets screens)
+pub none_of_screens : (meets : Screen → Bool) (screens : List Screen)
+    → is_none (first_screen (filter meets screens)) ≡ not (list_any meets screens)
 none_of_screens meets [] = refl
 none_of_screens meets (s ∷ screens) = step (meets s) (none_of_screens meets screens)
   where
     step : (t : Bool) → is_none (first_screen (filter meets screens)) ≡ not (list_any meets screens)
-        → is_none (first_screen (cond t (s ∷ filter meets screens) (filter meets screens))) ≡ not (t || list_any meets screens)
+        → is_none (first_screen (cond t (s ∷ filter meets screens) (filter meets screens)))
+        ≡ not (t || list_any meets screens)
     step true h = refl
     step false h = h
 
-pub none_of_routes : (meets : Route → Bool) (routes : List Route) → is_none (first_route (filter meets routes)) ≡ not (list_any meets routes)
+pub none_of_routes : (meets : Route → Bool) (routes : List Route)
+    → is_none (first_route (filter meets routes)) ≡ not (list_any meets routes)
 none_of_routes meets [] = refl
 none_of_routes meets (r ∷ routes) = step (meets r) (none_of_routes meets routes)
   where
     step : (t : Bool) → is_none (first_route (filter meets routes)) ≡ not (list_any meets routes)
-        → is_none (first_route (cond t (r ∷ filter meets routes) (filter meets routes))) ≡ not (t || list_any meets routes)
+        → is_none (first_route (cond t (r ∷ filter meets routes) (filter meets routes)))
+        ≡ not (t || list_any meets routes)
     step true h = refl
     step false h = h
 
@@ -69,7 +75,8 @@ unfolding why_not_polygon
 none_of_polygon points =
     rw none_refuses
     (simp (none_when, not_below, not-not, and-true)
-    (and_left_comm (nat_le 3 (length points)) (list_all is_in_range points) (not (has_repeat points) && crosses_nowhere points)))
+    (and_left_comm (nat_le 3 (length points)) (list_all is_in_range points)
+    (not (has_repeat points) && crosses_nowhere points)))
 
 pub none_of_line : (from to : Point) → is_none (why_not_line from to) ≡ is_line from to
 unfolding why_not_line

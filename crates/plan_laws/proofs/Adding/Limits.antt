@@ -42,17 +42,27 @@ route_test_last o s r r' c = simp (and_assoc, and_comm)
 
 pub limits_with_obstacle : (p : Plan) (name : List ℕ) (points : List Point)
     → is_within_limits (with_obstacles p (p.obstacles ++ obstacle name points ∷ []))
-    ≡ (is_within_limits p && (not (nat_le MOST_OBSTACLES (length p.obstacles)) && not (nat_lt MOST_CORNERS (corner_count p + length points))))
+    ≡ (is_within_limits p
+    && (not (nat_le MOST_OBSTACLES (length p.obstacles)) && not (nat_lt MOST_CORNERS (corner_count p + length points))))
 unfolding is_within_limits
 limits_with_obstacle p name points =
-    rw (one_more MOST_OBSTACLES (length p.obstacles) _ (length_push p.obstacles (obstacle name points)), more_corners MOST_CORNERS (corner_count p) (length points) _ (corners_with_obstacle p name points), obstacle_tests_last)
+    rw (
+      one_more MOST_OBSTACLES (length p.obstacles) _ (length_push p.obstacles (obstacle name points)),
+      more_corners MOST_CORNERS (corner_count p) (length points) _ (corners_with_obstacle p name points),
+      obstacle_tests_last,
+    )
 
 pub limits_with_screen : (p : Plan) (name : List ℕ) (from to : Point)
     → is_within_limits (with_screens p (p.screens ++ screen name from to ∷ []))
-    ≡ (is_within_limits p && (not (nat_le MOST_SCREENS (length p.screens)) && not (nat_lt MOST_CORNERS (corner_count p + 2))))
+    ≡ (is_within_limits p
+    && (not (nat_le MOST_SCREENS (length p.screens)) && not (nat_lt MOST_CORNERS (corner_count p + 2))))
 unfolding is_within_limits
 limits_with_screen p name from to =
-    rw (one_more MOST_SCREENS (length p.screens) _ (length_push p.screens (screen name from to)), more_corners MOST_CORNERS (corner_count p) 2 _ (corners_with_screen p name from to), screen_tests_last)
+    rw (
+      one_more MOST_SCREENS (length p.screens) _ (length_push p.screens (screen name from to)),
+      more_corners MOST_CORNERS (corner_count p) 2 _ (corners_with_screen p name from to),
+      screen_tests_last,
+    )
 
 pub limits_with_route : (p : Plan) (name : List ℕ) (from to : Point)
     → is_within_limits (with_routes p (p.routes ++ route name from to ∷ []))

@@ -79,7 +79,8 @@ fits_as_obstacle p name points =
     rw none_refuses (simp (none_when, none_of_polygon, none_of_polygon_in, not-not, and_assoc, and-true))
 
 -- an obstacle that isn't refused has a name of its own
-pub new_obstacle : (p : Plan) (name : List ℕ) (points : List Point) → why_not_obstacle p name points ≡ None → list_any (is_obstacle_named name) p.obstacles ≡ false
+pub new_obstacle : (p : Plan) (name : List ℕ) (points : List Point)
+    → why_not_obstacle p name points ≡ None → list_any (is_obstacle_named name) p.obstacles ≡ false
 new_obstacle p name points none =
     let fits = sym (fits_as_obstacle p name points) ∙ ap is_none none in
     grind arith

@@ -29,12 +29,14 @@ first_outer p points none = by (has_outer p) (second_outer p points)
     by false refused = refl
 
 -- the first outer polygon passes each test for which it might be refused
-pub fits_as_outer : (points : List Point) → is_none (why_not_outer empty_plan points) ≡ (is_polygon points && nat_le (length points) MOST_CORNERS)
+pub fits_as_outer : (points : List Point)
+    → is_none (why_not_outer empty_plan points) ≡ (is_polygon points && nat_le (length points) MOST_CORNERS)
 unfolding why_not_outer
 fits_as_outer points =
     rw none_refuses (simp (none_when, none_of_polygon, not_below, and-true) (simp zero-add))
 
-corners_alone : (points : List Point) → nat_le (corner_count (with_outer empty_plan points)) MOST_CORNERS ≡ nat_le (length points) MOST_CORNERS
+corners_alone : (points : List Point)
+    → nat_le (corner_count (with_outer empty_plan points)) MOST_CORNERS ≡ nat_le (length points) MOST_CORNERS
 corners_alone points = grind (arith, nat_tests)
 
 -- with an outer polygon alone, a plan is sound where the polygon isn't refused

@@ -60,7 +60,8 @@ fits_as_route p name from to =
     rw none_refuses (simp (none_when, none_of_line, none_of_routes, not-not, and-true))
 
 -- a route that isn't refused has a name of its own
-pub new_route : (p : Plan) (name : List ℕ) (from to : Point) → why_not_route p name from to ≡ None → list_any (is_route_named name) p.routes ≡ false
+pub new_route : (p : Plan) (name : List ℕ) (from to : Point)
+    → why_not_route p name from to ≡ None → list_any (is_route_named name) p.routes ≡ false
 new_route p name from to none =
     let fits = sym (fits_as_route p name from to) ∙ ap is_none none in
     grind arith

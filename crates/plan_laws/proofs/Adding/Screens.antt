@@ -66,7 +66,8 @@ fits_as_screen p name from to =
     rw none_refuses (simp (none_when, none_of_line, none_of_line_in, not-not, and_assoc, and-true))
 
 -- a screen that isn't refused has a name of its own
-pub new_screen : (p : Plan) (name : List ℕ) (from to : Point) → why_not_screen p name from to ≡ None → list_any (is_screen_named name) p.screens ≡ false
+pub new_screen : (p : Plan) (name : List ℕ) (from to : Point)
+    → why_not_screen p name from to ≡ None → list_any (is_screen_named name) p.screens ≡ false
 new_screen p name from to none =
     let fits = sym (fits_as_screen p name from to) ∙ ap is_none none in
     grind arith

@@ -13,7 +13,7 @@ use Rattle.plan_spec.specs.declared.refusals.Why.{Why}
 use Rattle.plan_spec.specs.declared.refusals.Why.TheVariants.{Missing}
 use Rattle.plan_spec.specs.Plan.{Obstacle, Plan, with_obstacles, is_obstacle_named, is_screen_named, is_route_named}
 use Rattle.plan_spec.specs.Accepted.{is_polygon, lies_within, polygons_meet, line_meets_polygon, is_sound}
-use Rattle.plan_spec.specs.Edits.{is_there, shifted_point, shifted_obstacle, points_named, without_obstacle, why_not_moved, why_not_edit, edited}
+use Rattle.plan_spec.specs.Edits.{is_there, others_of, moved_points, shifted_point, shifted_obstacle, points_named, without_obstacle, why_not_moved, why_not_edit, edited}
 use Rattle.plan_laws.proofs.Lists.{list_all_middle}
 use Rattle.plan_laws.proofs.Names.{NameSplit, split_at_name}
 use Rattle.plan_laws.proofs.Parts.{parts_of_sound, parts_of_obstacles}
@@ -30,21 +30,16 @@ use Rattle.plan_laws.proofs.Edits.Moving.{sound_with_other_points, points_of_nam
 pub fits_when_moved : (others : Plan) (points : List Point)
     → is_none (why_not_moved others points)
     ≡ (list_all is_in_range points && (lies_within others.outer points
-    && (not (list_any (λ x. polygons_meet x.points points) others.obstacles) && not (list_any (λ s. line_meets_polygon s.from s.to points) others.screens))))
+    && (not (list_any (λ x. polygons_meet x.points points) others.obstacles)
+    && not (list_any (λ s. line_meets_polygon s.from s.to points) others.screens))))
 unfolding why_not_moved
 fits_when_moved others points = rw none_refuses (simp (none_when, none_of_polygon_in, not-not, and-true))
-
--- the plan without the obstacle of this name, and that obstacle's points moved
-abbrev pub others_of : Plan → List ℕ → Plan
-others_of p name = with_obstacles p (without_obstacle name p.obstacles)
-
-abbrev pub moved_points : Plan → List ℕ → ℤ → ℤ → List Point
-moved_points p name dx dy = map (shifted_point dx dy) (points_named name p.obstacles)
 
 -- a move isn't refused exactly where there is such an obstacle and the shifted polygon isn't refused
 pub none_of_move : (p : Plan) (name : List ℕ) (dx dy : ℤ)
     → is_none (why_not_edit p (Move name dx dy))
-    ≡ (list_any (is_obstacle_named name) p.obstacles && is_none (why_not_moved (others_of p name) (moved_points p name dx dy)))
+    ≡ (list_any (is_obstacle_named name) p.obstacles
+    && is_none (why_not_moved (others_of p name) (moved_points p name dx dy)))
 unfolding why_not_edit
 none_of_move p name dx dy = rw none_refuses (simp (none_when, not-not, and-true))
 

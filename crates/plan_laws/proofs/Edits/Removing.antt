@@ -21,9 +21,13 @@ use Rattle.plan_laws.proofs.Ranges.{limits_are}
 pub within_limits : (p : Plan) → IsWithinLimits p → is_within_limits p ≡ true
 unfolding is_within_limits
 within_limits p l =
-    and_from (nat_le (length p.obstacles) MOST_OBSTACLES && nat_le (length p.screens) MOST_SCREENS) (nat_le (length p.routes) MOST_ROUTES && nat_le (corner_count p) MOST_CORNERS)
-    (and_from (nat_le (length p.obstacles) MOST_OBSTACLES) (nat_le (length p.screens) MOST_SCREENS) (le-leb _ _ l.obstacles) (le-leb _ _ l.screens))
-    (and_from (nat_le (length p.routes) MOST_ROUTES) (nat_le (corner_count p) MOST_CORNERS) (le-leb _ _ l.routes) (le-leb _ _ l.corners))
+    let obstacles = nat_le (length p.obstacles) MOST_OBSTACLES in
+    let screens = nat_le (length p.screens) MOST_SCREENS in
+    let routes = nat_le (length p.routes) MOST_ROUTES in
+    let corners = nat_le (corner_count p) MOST_CORNERS in
+    and_from (obstacles && screens) (routes && corners)
+    (and_from obstacles screens (le-leb _ _ l.obstacles) (le-leb _ _ l.screens))
+    (and_from routes corners (le-leb _ _ l.routes) (le-leb _ _ l.corners))
 
 fewer : {X : Type 0} (q : X → Bool) (xs : List X) → length (filter q xs) ≤ length xs
 fewer q xs = omega (arith, length-filter q xs, count_by-le-length q xs)

@@ -27,7 +27,8 @@ cause_of_move plan name dx dy others points cause there others_are points_are is
     ∙ ap₂ why_not_moved others_are points_are
     ∙ alone (list_any (is_obstacle_named name) plan.obstacles) _ there
   where
-    alone : (there : Bool) (cause : Option Why) → there ≡ true → cause ≡ first_cause (when (not there) Missing ∷ cause ∷ [])
+    alone : (there : Bool) (cause : Option Why)
+        → there ≡ true → cause ≡ first_cause (when (not there) Missing ∷ cause ∷ [])
     alone true None e = refl
     alone true (Some why) e = refl
     alone false cause e = cc
@@ -44,7 +45,8 @@ why_not_moved-requires c =
 pub returns : goal.returns
 returns c =
     let moved = simp (to_z-of_z, c.ranges.dx, c.ranges.dy) at c.in_ok-moved.ensures in
-    cause_of_move c.args.draft.now c.args.name.now c.args.dx c.args.dy c.remove_obstacle.new.self c.as_slice.result.now _
+    cause_of_move c.args.draft.now c.args.name.now c.args.dx c.args.dy
+    c.remove_obstacle.new.self c.as_slice.result.now _
     (sym c.in-Some.ensures.found)
     (rw (c.remove_obstacle.ensures, c.in_ok-others.ensures) refl)
     (c.as_slice.ensures ∙ moved ∙ ap (map (shifted_point c.args.dx c.args.dy)) c.in-Some.ensures.points)

@@ -5,4 +5,5 @@ use Rattle.plan_laws.proofs.Ranges.{outer_in_range}
 use Rattle.plan_check.proofs.place_refusals.why_not_polygon_in.Goals as goal
 
 pub lies_within-requires-clause-outer_in : goal.lies_within-requires-clause-outer_in
-lies_within-requires-clause-outer_in c = subst (All InRange) (sym c.outer.ensures) (outer_in_range c.args.draft.now c.requires.sound)
+lies_within-requires-clause-outer_in c =
+    subst (All InRange) (sym c.outer.ensures) (outer_in_range c.args.draft.now c.requires.sound)
