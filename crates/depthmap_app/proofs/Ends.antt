@@ -21,7 +21,8 @@ pub read-same : (known : Option (List ℕ)) (items bytes : List ℕ) → bytes �
 read-same known items bytes same all short = subst (IsRead known) (sym same) (record { all = all; short = short })
 
 -- what holds of the bytes that were read holds of those that are known
-of-known : (known : Option (List ℕ)) (bytes : List ℕ) (P : List ℕ → Type 0) → IsRead known bytes → P bytes → IfSome known P
+of-known : (known : Option (List ℕ)) (bytes : List ℕ) (P : List ℕ → Type 0) → IsRead known bytes → P bytes
+    → IfSome known P
 of-known None bytes P read p = tt
 of-known (Some told) bytes P read p = subst P (read.all) p
 
@@ -34,7 +35,8 @@ pub answered-known : (known before after : Option (List ℕ)) (bytes : List ℕ)
     → plan_in_file bytes ≡ Ok plan → after ≡ with_end before (output_of plan)
     → IfSome known (λ told. IsAnswered told before after)
 answered-known known before after bytes plan read held written =
-    of-known known bytes (λ told. IsAnswered told before after) read (plan, record { short = read.short; held = held }, written)
+    of-known known bytes (λ told. IsAnswered told before after) read
+    (plan, record { short = read.short; held = held }, written)
 
 pub part-known : (known before after : Option (List ℕ)) (bytes : List ℕ) (plan : Plan) → IsRead known bytes
     → plan_in_file bytes ≡ Ok plan → PutsFront before after (output_of plan)
@@ -52,7 +54,8 @@ at_most-known known before after bytes plan read held written =
 
 -- ---- where the bytes hold a plan and nothing failed
 
-no_plan : (plan : Plan) (line : ℕ) (reason : Reason) (found : PlanFound) → found ≡ Ok plan → found ≡ Err (line, reason) → ⊥
+no_plan : (plan : Plan) (line : ℕ) (reason : Reason) (found : PlanFound) → found ≡ Ok plan
+    → found ≡ Err (line, reason) → ⊥
 no_plan plan line reason found e f = none (sym e ∙ f)
   where
     none : ◌≡◌ {A = PlanFound} (Ok plan) (Err (line, reason)) → ⊥
@@ -65,36 +68,44 @@ some_bytes : (told : List ℕ) → Some told ≡ None → ⊥
 some_bytes told e = cc
 
 -- a file of which one byte too many was taken is too long
-too_long : (bytes : List ℕ) (left : Option (List ℕ)) → TakesTooMany (Some bytes) left → length bytes ≤ MOST_PLAN_BYTES → ⊥
+too_long : (bytes : List ℕ) (left : Option (List ℕ)) → TakesTooMany (Some bytes) left
+    → length bytes ≤ MOST_PLAN_BYTES → ⊥
 too_long bytes None takes short = some_bytes bytes takes.2
 too_long bytes (Some rest) takes short =
     omega (arith, short, takes.1, ap length (same_bytes bytes (takes.0 ++ rest) takes.2), length-append takes.0 rest)
 
-complete : (bytes : List ℕ) (before after rest left said said_after : Option (List ℕ)) (fails fails_after : ℕ) (old new : Faults)
-    (status : Status) → (status ≡ BadWords → ⊥) → Writes (Some bytes) before after status
-    → TakesPlan (Some bytes) rest left status → (status ≡ BadPlan → SaysWhy (Some bytes) said said_after fails fails_after)
+complete : (bytes : List ℕ) (before after rest left said said_after : Option (List ℕ)) (fails fails_after : ℕ)
+    (old new : Faults) (status : Status) → (status ≡ BadWords → ⊥) → Writes (Some bytes) before after status
+    → TakesPlan (Some bytes) rest left status
+    → (status ≡ BadPlan → SaysWhy (Some bytes) said said_after fails fails_after)
     → Counts old new status → IsComplete bytes old new status
 complete bytes before after rest left said said_after fails fails_after old new Done named w t s c = λ _ _ _. inl refl
-complete bytes before after rest left said said_after fails fails_after old new DoneWithRefusals named w t s c = absurd w
-complete bytes before after rest left said said_after fails fails_after old new BadWords named w t s c = absurd (named refl)
+complete bytes before after rest left said said_after fails fails_after old new DoneWithRefusals named w t s c =
+    absurd w
+complete bytes before after rest left said said_after fails fails_after old new BadWords named w t s c =
+    absurd (named refl)
 complete bytes before after rest left said said_after fails fails_after old new BadPlan named w t s c =
     λ plan holds _. absurd (no_plan plan (s refl).0 (s refl).1 (plan_in_file bytes) holds.held (s refl).2.refused)
 complete bytes before after rest left said said_after fails fails_after old new ReadFault named w t s c =
     λ _ _ same. absurd (omega (arith, c.0, ap (λ f. f.files) same))
 complete bytes before after rest left said said_after fails fails_after old new WriteFault named w t s c =
     λ _ _ same. absurd (omega (arith, c.2, ap (λ f. f.out) same))
-complete bytes before after rest left said said_after fails fails_after old new NoMemory named w t s c = λ _ _ _. inr refl
+complete bytes before after rest left said said_after fails fails_after old new NoMemory named w t s c =
+    λ _ _ _. inr refl
 complete bytes before after rest left said said_after fails fails_after old new TooLong named w t s c =
     λ _ holds _. absurd (too_long bytes left t holds.short)
 
-pub complete-known : (known before after rest left said said_after : Option (List ℕ)) (fails fails_after : ℕ) (old new : Faults)
-    (status : Status) → (status ≡ BadWords → known ≡ None) → Writes known before after status
-    → TakesPlan known rest left status → (status ≡ BadPlan → SaysWhy known said said_after fails fails_after) → Counts old new status
+pub complete-known : (known before after rest left said said_after : Option (List ℕ)) (fails fails_after : ℕ)
+    (old new : Faults) (status : Status) → (status ≡ BadWords → known ≡ None) → Writes known before after status
+    → TakesPlan known rest left status → (status ≡ BadPlan → SaysWhy known said said_after fails fails_after)
+    → Counts old new status
     → IfSome known (λ bytes. IsComplete bytes old new status)
 complete-known None before after rest left said said_after fails fails_after old new status named w t s c = tt
 complete-known (Some bytes) before after rest left said said_after fails fails_after old new status named w t s c =
-    complete bytes before after rest left said said_after fails fails_after old new status (λ e. some_bytes bytes (named e)) w t s c
+    complete bytes before after rest left said said_after fails fails_after old new status
+    (λ e. some_bytes bytes (named e)) w t s c
 
 -- without a name nothing is known of a file
-pub nothing-known : (name : Option (List ℕ)) (holds : List ℕ → Option (List ℕ)) → name ≡ None → option_and_then holds name ≡ None
+pub nothing-known : (name : Option (List ℕ)) (holds : List ℕ → Option (List ℕ)) → name ≡ None
+    → option_and_then holds name ≡ None
 nothing-known name holds e = ap (option_and_then holds) e

@@ -60,12 +60,14 @@ IsSilent before after faults faults_after = (after ≡ before) × (faults_after 
 -- the message was written; or a front of it, and then the count of faults rose
 abbrev pub IsSaid : Option (List ℕ) → Option (List ℕ) → ℕ → ℕ → List ℕ → Type 0
 IsSaid before after faults faults_after message =
-    ((after ≡ with_end before message) × (faults_after ≡ faults)) ⊎ (PutsFront before after message × (faults < faults_after))
+    ((after ≡ with_end before message) × (faults_after ≡ faults))
+    ⊎ (PutsFront before after message × (faults < faults_after))
 
 -- the bytes that are known hold no plan, and the line at fault was said with its reason
 abbrev pub SaysWhy : Option (List ℕ) → Option (List ℕ) → Option (List ℕ) → ℕ → ℕ → Type 0
 SaysWhy known before after faults faults_after =
-    (line : ℕ) × (reason : Reason) × IfSome known (λ bytes. IsRefused bytes line reason) × IsSaid before after faults faults_after (plan_message line reason)
+    (line : ℕ) × (reason : Reason) × IfSome known (λ bytes. IsRefused bytes line reason)
+    × IsSaid before after faults faults_after (plan_message line reason)
 
 -- what was said
 abbrev pub Says : Option (List ℕ) → Option (List ℕ) → Option (List ℕ) → ℕ → ℕ → Status → Type 0
@@ -108,4 +110,5 @@ Counts old new _ = new ≡ old
 
 -- where the bytes hold a plan and nothing failed, all was done or there was no memory
 abbrev pub IsComplete : List ℕ → Faults → Faults → Status → Type 0
-IsComplete bytes old new status = (plan : Plan) → HoldsPlan bytes plan → new ≡ old → (status ≡ Done) ⊎ (status ≡ NoMemory)
+IsComplete bytes old new status =
+    (plan : Plan) → HoldsPlan bytes plan → new ≡ old → (status ≡ Done) ⊎ (status ≡ NoMemory)

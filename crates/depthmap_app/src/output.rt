@@ -16,7 +16,7 @@ use std::alloc::Global;
 pub enum PrintFault {
     /// The sink failed.
     Write,
-    /// The memory ran out.
+    /// Out of memory.
     NoMemory,
 }
 

@@ -18,7 +18,7 @@ pub enum Status {
     ReadFault,
     /// The output couldn't be written.
     WriteFault,
-    /// The memory ran out.
+    /// Out of memory.
     NoMemory,
     /// The file or the script is longer than its limit.
     TooLong,

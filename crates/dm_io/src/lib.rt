@@ -13,7 +13,7 @@
 //! | [`Gate`], [`NoGate`] | what is told of each row that a worker claims |
 //! | [`MemSource`], [`MemFiles`], [`MemSink`] | the same in memory, where chosen calls fail |
 //! | [`StdSource`], [`StdSink`], [`DirFiles`] | standard input, output and error, and the files of the working folder |
-//! | [`NoMemory`] | the memory ran out |
+//! | [`NoMemory`] | out of memory |
 #![tactic(auto)]
 
 mod calls;

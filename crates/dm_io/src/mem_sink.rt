@@ -7,7 +7,7 @@ use std::alloc::Global;
 use text_spec::NoMemory;
 
 /// Holds what is put, up to its room. The calls whose numbers are listed, counted from 0, fail, and so do those that find
-/// no room; no others do.
+/// no room; no others do. So the count of faults never rises where none is listed and there is room for all that is put.
 #[derive(Drop)]
 pub struct MemSink {
     held: Vec<u8>,

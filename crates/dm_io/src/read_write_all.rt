@@ -12,7 +12,7 @@ pub enum AllFault {
     Failed,
     /// The source gave more bytes than the limit.
     Over,
-    /// There was no memory.
+    /// Out of memory.
     NoMemory,
 }
 

@@ -12,5 +12,6 @@ returns-clause-complete g c =
     let name = file_in c.args.words.now in
     let holds = g.F.Files.holds c.args.files.now in
     complete-known (told_file c.args.words.now holds) _ _ _ _ _ _ _ _ _ _ c.answer-status.result
-    (λ e. nothing-known name holds (c.answer-status.ensures.bad_words.0 e)) c.answer-status.ensures.writes c.answer-status.ensures.takes c.answer-status.ensures.why
+    (λ e. nothing-known name holds (c.answer-status.ensures.bad_words.0 e)) c.answer-status.ensures.writes
+    c.answer-status.ensures.takes c.answer-status.ensures.why
     (c.answer-status.ensures.counts (g.S.Source.faults c.args.script.now))
