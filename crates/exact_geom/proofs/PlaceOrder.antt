@@ -1,8 +1,8 @@
 -- The order of points whose coordinates are fractions.
 --
--- Values are compared by products across. Multiplied by the third denominator, which is positive, two comparisons in a row
--- speak of the same products, so the order of values is transitive and equal values compare alike. Points are compared
--- by one coordinate and then the other, which keeps both.
+-- Values are compared by products across. Multiplied by the third denominator, which is positive, two comparisons
+-- in a row speak of the same products, so the order of values is transitive and equal values compare alike. Points
+-- are compared by one coordinate and then the other, which keeps both.
 use Rattle.std.proofs.Common.{◌≡◌, refl, sym, ◌∙◌, ap, arith, Bool, true, false, ℤ, pos, ◌-ℤ◌, ◌*ℤ◌, ◌≤ℤ◌, ◌<ℤ◌, ◌↔◌}
 use Rattle.std.specs.Prelude.{◌&&◌, int_lt, if◌then◌else◌}
 use Rattle.std.specs.Ordering.{int_eq, ordering_reverse, ordering_then}
@@ -53,7 +53,8 @@ before_one_way a b h k =
     absurd (omega (arith, ints, first, second))
 
 -- of equal values the same ones are less
-after_alike : (a b c : Fraction) → pos 1 ≤ℤ a.den → pos 1 ≤ℤ b.den → a.num *ℤ b.den ≡ b.num *ℤ a.den → is_before a c ≡ is_before b c
+after_alike : (a b c : Fraction) → pos 1 ≤ℤ a.den → pos 1 ≤ℤ b.den → a.num *ℤ b.den ≡ b.num *ℤ a.den
+    → is_before a c ≡ is_before b c
 after_alike a b c a_up b_up e =
     sym (same_test (a.num *ℤ c.den) (c.num *ℤ a.den) b.den b_up)
     ∙ ap (λ t. int_lt t ((c.num *ℤ a.den) *ℤ b.den))
@@ -61,7 +62,8 @@ after_alike a b c a_up b_up e =
     ∙ ap (λ t. int_lt ((b.num *ℤ c.den) *ℤ a.den) t) (product_turned c.num a.den b.den)
     ∙ same_test (b.num *ℤ c.den) (c.num *ℤ b.den) a.den a_up
 
-before_alike : (a b c : Fraction) → pos 1 ≤ℤ a.den → pos 1 ≤ℤ b.den → a.num *ℤ b.den ≡ b.num *ℤ a.den → is_before c a ≡ is_before c b
+before_alike : (a b c : Fraction) → pos 1 ≤ℤ a.den → pos 1 ≤ℤ b.den → a.num *ℤ b.den ≡ b.num *ℤ a.den
+    → is_before c a ≡ is_before c b
 before_alike a b c a_up b_up e =
     sym (same_test (c.num *ℤ a.den) (a.num *ℤ c.den) b.den b_up)
     ∙ ap (λ t. int_lt t ((a.num *ℤ c.den) *ℤ b.den)) (product_turned c.num a.den b.den)
@@ -80,7 +82,8 @@ value_reversed : (f g : Fraction) → value_order_of g f ≡ ordering_reverse (v
 value_reversed f g =
     rw (by_tests g f, by_tests f g) (by_cases (is_before f g) (is_before g f) (λ h k. before_one_way f g h k))
   where
-    by_cases : (less more : Bool) → (less ≡ true → more ≡ true → ⊥) → order_by more less ≡ ordering_reverse (order_by less more)
+    by_cases : (less more : Bool) → (less ≡ true → more ≡ true → ⊥)
+        → order_by more less ≡ ordering_reverse (order_by less more)
     by_cases true true never = absurd (never refl refl)
     by_cases true false never = refl
     by_cases false true never = refl
@@ -105,7 +108,8 @@ value_transitive a b c a_up b_up c_up h k = is_less a c (before_transitive a b c
 equal_is : (f g : Fraction) → value_order_of f g ≡ Equal → f.num *ℤ g.den ≡ g.num *ℤ f.den
 equal_is f g h = by_cases (is_before f g) (is_before g f) refl refl (sym (by_tests f g) ∙ h)
   where
-    by_cases : (less more : Bool) → less ≡ is_before f g → more ≡ is_before g f → order_by less more ≡ Equal → f.num *ℤ g.den ≡ g.num *ℤ f.den
+    by_cases : (less more : Bool) → less ≡ is_before f g → more ≡ is_before g f → order_by less more ≡ Equal
+        → f.num *ℤ g.den ≡ g.num *ℤ f.den
     by_cases true more d e k = cc
     by_cases false true d e k = cc
     by_cases false false d e k = omega (arith, ints, d, e)
@@ -116,7 +120,8 @@ is_equal f g h =
     let not_more : is_before g f ≡ false = grind (arith, ints) in
     by_tests f g ∙ ap (λ t. order_by t (is_before g f)) not_less ∙ ap (λ t. order_by false t) not_more
 
-value_alike : (a b c : Fraction) → pos 1 ≤ℤ a.den → pos 1 ≤ℤ b.den → value_order_of a b ≡ Equal → value_order_of a c ≡ value_order_of b c
+value_alike : (a b c : Fraction) → pos 1 ≤ℤ a.den → pos 1 ≤ℤ b.den → value_order_of a b ≡ Equal
+    → value_order_of a c ≡ value_order_of b c
 value_alike a b c a_up b_up h =
     let e = equal_is a b h in
     by_tests a c
@@ -124,7 +129,8 @@ value_alike a b c a_up b_up h =
     ∙ ap (λ t. order_by (is_before b c) t) (before_alike a b c a_up b_up e)
     ∙ sym (by_tests b c)
 
-value_alike_too : (a b c : Fraction) → pos 1 ≤ℤ b.den → pos 1 ≤ℤ c.den → value_order_of b c ≡ Equal → value_order_of a c ≡ value_order_of a b
+value_alike_too : (a b c : Fraction) → pos 1 ≤ℤ b.den → pos 1 ≤ℤ c.den → value_order_of b c ≡ Equal
+    → value_order_of a c ≡ value_order_of a b
 value_alike_too a b c b_up c_up h =
     value_reversed c a ∙ ap ordering_reverse (sym (value_alike b c a b_up c_up h)) ∙ sym (value_reversed b a)
 

@@ -8,3 +8,6 @@ pub mod Counts
 pub mod StopBounds
 pub mod Widths
 pub mod NearWall
+pub mod OnwardWalls
+pub mod OnwardCorners
+pub mod Onward

@@ -1,9 +1,9 @@
 -- The nearest wall or screen, found by the least hit of all.
 --
--- A wall is nearest where it is hit and no hit of another comes before its own. The order of hits is a weak one, so some
--- hit comes before h exactly where the least of all hits does. So the first nearest wall is the first that is hit and not
--- after the least hit; and the first of the walls and screens is the first of the walls or, where none is, the first of
--- the screens.
+-- A wall is nearest where it is hit and no hit of another comes before its own. The order of hits is a weak one, so
+-- some hit comes before h exactly where the least of all hits does. So the first nearest wall is the first that is
+-- hit and not after the least hit; and the first of the walls and screens is the first of the walls or, where none
+-- is, the first of the screens.
 use Rattle.std.proofs.Common.{◌≡◌, ◌≢◌, ℕ, zero, ◌+◌, ◌<◌, Bool, true, false, List, [], ◌∷◌, ◌++◌, length, map, refl, sym, ap, ◌∙◌, arith, add-one, pos, ◌≤ℤ◌, ◌-ℤ◌}
 use Rattle.std.specs.Prelude.{⊤, All, not, ◌&&◌, ◌||◌, int_lt, Option, Some, None, if◌then◌else◌}
 use Rattle.std.specs.Option.{option_map}
@@ -29,8 +29,8 @@ use Rattle.sight_core.proofs.StopBounds.{passed, All-filter_map}
 
 -- ---- hits stand over positive denominators
 
-record IsOver (f : Fraction) : Type 0 where
-  den : pos 1 ≤ℤ f.den
+pub record IsOver (f : Fraction) : Type 0 where
+  pub den : pos 1 ≤ℤ f.den
 
 line_is_over : (p d : Point) (w : Segment) (t : Fraction) → line_hit p d w ≡ Some t → IsOver t
 unfolding line_hit
@@ -44,7 +44,7 @@ line_is_over p d w t e =
           (across_apart p d w across);
     })
 
-hits_are_over : (p d : Point) (lines : List Segment) → All IsOver (filter_map (line_hit p d) lines)
+pub hits_are_over : (p d : Point) (lines : List Segment) → All IsOver (filter_map (line_hit p d) lines)
 hits_are_over p d lines = All-filter_map (λ w. ⊤) IsOver (line_hit p d) (λ w _ t e. line_is_over p d w t e) lines (λ k x h. tt)
 
 -- ---- some hit comes before h exactly where the least does
@@ -73,7 +73,7 @@ no_worse x y h x_up y_up h_up not_before rest = by_tests (is_before x h) (is_bef
     by_tests false true d e =
         let follows = before_follows y x h y_up.den x_up.den h_up.den not_before e in cc
 
-any_before_best : (h x : Fraction) (xs : List Fraction) → IsOver h → IsOver x → All IsOver xs
+pub any_before_best : (h x : Fraction) (xs : List Fraction) → IsOver h → IsOver x → All IsOver xs
     → (is_before x h || list_any (λ other. is_before other h) xs) ≡ is_before (best_of is_before x xs) h
 any_before_best h x [] h_up x_up up = or_false (is_before x h)
 any_before_best h x (y ∷ ys) h_up x_up up =
@@ -100,7 +100,8 @@ any_before h m (x ∷ xs) h_up up e =
 
 -- ---- so a wall is nearest where it isn't hit after the least
 
-pub nearest_is : (p d : Point) (lines : List Segment) (m : Fraction) → least is_before (filter_map (line_hit p d) lines) ≡ Some m
+pub nearest_is : (p d : Point) (lines : List Segment) (m : Fraction)
+    → least is_before (filter_map (line_hit p d) lines) ≡ Some m
     → (w : Segment) → is_nearest p d lines w ≡ is_hit_by p d m w
 nearest_is p d lines m e w = by_hit (line_hit p d w) refl
   where
@@ -146,7 +147,8 @@ counted_on test n i (x ∷ xs) k h = by_test (test x) h (λ e. counted_on test n
     by_test true e later = let same : i ≡ k = cc in ap (λ t. Some (n + t)) same
     by_test false e later = ap (λ m. position_from test m xs) (omega arith) ∙ later e
 
-none_counted_on : {X : Type 0} (test : X → Bool) (i j : ℕ) (xs : List X) → position_from test i xs ≡ None → position_from test j xs ≡ None
+none_counted_on : {X : Type 0} (test : X → Bool) (i j : ℕ) (xs : List X) → position_from test i xs ≡ None
+    → position_from test j xs ≡ None
 none_counted_on test i j [] h = refl
 none_counted_on test i j (x ∷ xs) h = by_test (test x) h (λ e. none_counted_on test (i + 1) (j + 1) xs e)
   where
@@ -157,7 +159,8 @@ none_counted_on test i j (x ∷ xs) h = by_test (test x) h (λ e. none_counted_o
     by_test false e later = later e
 
 -- tests that agree pass first at one place
-first_agree : {X : Type 0} (f g : X → Bool) → ((x : X) → f x ≡ g x) → (i : ℕ) (xs : List X) → position_from f i xs ≡ position_from g i xs
+first_agree : {X : Type 0} (f g : X → Bool) → ((x : X) → f x ≡ g x) → (i : ℕ) (xs : List X)
+    → position_from f i xs ≡ position_from g i xs
 first_agree f g agree i [] = refl
 first_agree f g agree i (x ∷ xs) =
     ap (λ b. if b then Some i else position_from f (i + 1) xs) (agree x)

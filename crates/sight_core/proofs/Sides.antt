@@ -41,7 +41,7 @@ nothing_apart s t m n hs ht e (inr h) =
     let none = nothing_between t s n m ht hs (sym e) h.0 h.1 in
     record { first = none.second; second = none.first }
 
-parallel_y : (dx dy ux uy vx vy : ℤ) → vx *ℤ uy -ℤ vy *ℤ ux ≡ pos 0 → (dx *ℤ uy -ℤ dy *ℤ ux) *ℤ vy ≡ (dx *ℤ vy -ℤ dy *ℤ vx) *ℤ uy
+pub parallel_y : (dx dy ux uy vx vy : ℤ) → vx *ℤ uy -ℤ vy *ℤ ux ≡ pos 0 → (dx *ℤ uy -ℤ dy *ℤ ux) *ℤ vy ≡ (dx *ℤ vy -ℤ dy *ℤ vx) *ℤ uy
 parallel_y dx dy ux uy vx vy flat = rw (cross_of_three dx dy vx vy ux uy, flat) (omega (arith, ints))
 
 neg_cancelled : (y z : ℤ) → neg_ℤ y ≡ neg_ℤ z → y ≡ z
@@ -52,7 +52,7 @@ minus_exchanged m n z =
     let e : m -ℤ n ≡ neg_ℤ (n -ℤ m) = omega (arith, ints) in
     rw e (neg_times (n -ℤ m) z)
 
-parallel_x : (dx dy ux uy vx vy : ℤ) → vx *ℤ uy -ℤ vy *ℤ ux ≡ pos 0 → (dx *ℤ uy -ℤ dy *ℤ ux) *ℤ vx ≡ (dx *ℤ vy -ℤ dy *ℤ vx) *ℤ ux
+pub parallel_x : (dx dy ux uy vx vy : ℤ) → vx *ℤ uy -ℤ vy *ℤ ux ≡ pos 0 → (dx *ℤ uy -ℤ dy *ℤ ux) *ℤ vx ≡ (dx *ℤ vy -ℤ dy *ℤ vx) *ℤ ux
 parallel_x dx dy ux uy vx vy flat =
     let e = parallel_y dy dx uy ux vy vx (omega (arith, ints)) in
     let left = minus_exchanged (dy *ℤ ux) (dx *ℤ uy) vx in
@@ -74,13 +74,13 @@ between-true m a b h = grind (arith, ints)
 
 -- ---- points
 
-flat_at : (p a b : Point) → orient_of a b p ≡ pos 0 → (b.x -ℤ p.x) *ℤ (a.y -ℤ p.y) -ℤ (b.y -ℤ p.y) *ℤ (a.x -ℤ p.x) ≡ pos 0
+pub flat_at : (p a b : Point) → orient_of a b p ≡ pos 0 → (b.x -ℤ p.x) *ℤ (a.y -ℤ p.y) -ℤ (b.y -ℤ p.y) *ℤ (a.x -ℤ p.x) ≡ pos 0
 flat_at p a b e =
     let around = orient_cycled p.x p.y a.x a.y b.x b.y in
     cross_exchanged (a.x -ℤ p.x) (a.y -ℤ p.y) (b.x -ℤ p.x) (b.y -ℤ p.y) ∙ ap neg_ℤ (sym around ∙ e)
 
 -- p lies on the segment from a to b: then these aren't strictly left of p, both of them, seen in any direction
-not_left_of_both : (p a b : Point) (dx dy : ℤ) → is_on_segment p a b ≡ true
+pub not_left_of_both : (p a b : Point) (dx dy : ℤ) → is_on_segment p a b ≡ true
     → pos 0 <ℤ (dx *ℤ (a.y -ℤ p.y) -ℤ dy *ℤ (a.x -ℤ p.x)) → pos 0 <ℤ (dx *ℤ (b.y -ℤ p.y) -ℤ dy *ℤ (b.x -ℤ p.x)) → ⊥
 unfolding is_on_segment
 not_left_of_both p a b dx dy on ha hb =
@@ -93,7 +93,7 @@ not_left_of_both p a b dx dy on ha hb =
 cross-turned : (dx dy ux uy : ℤ) → neg_ℤ dx *ℤ uy -ℤ neg_ℤ dy *ℤ ux ≡ neg_ℤ (dx *ℤ uy -ℤ dy *ℤ ux)
 cross-turned dx dy ux uy = rw (neg_times dx uy, neg_times dy ux) (omega (arith, ints))
 
-not_right_of_both : (p a b : Point) (dx dy : ℤ) → is_on_segment p a b ≡ true
+pub not_right_of_both : (p a b : Point) (dx dy : ℤ) → is_on_segment p a b ≡ true
     → (dx *ℤ (a.y -ℤ p.y) -ℤ dy *ℤ (a.x -ℤ p.x)) <ℤ pos 0 → (dx *ℤ (b.y -ℤ p.y) -ℤ dy *ℤ (b.x -ℤ p.x)) <ℤ pos 0 → ⊥
 not_right_of_both p a b dx dy on ha hb =
     not_left_of_both p a b (neg_ℤ dx) (neg_ℤ dy) on

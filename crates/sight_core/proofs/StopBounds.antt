@@ -127,7 +127,7 @@ hits_are_stops scene p d sound p_in d_in =
     All-append IsStop (filter_map (line_hit p d) (lines_of_scene scene)) (filter_map (corner_hit p d) scene.corners ++ filter_map (start_hit p d) scene.walls) lines
     (All-append IsStop (filter_map (corner_hit p d) scene.corners) (filter_map (start_hit p d) scene.walls) corners starts)
 
-best_is : {X : Type 0} (P : X → Type 0) (beats : X → X → Bool) (x : X) (xs : List X) → P x → All P xs → P (best_of beats x xs)
+pub best_is : {X : Type 0} (P : X → Type 0) (beats : X → X → Bool) (x : X) (xs : List X) → P x → All P xs → P (best_of beats x xs)
 best_is P beats x [] here rest = here
 best_is P beats x (y ∷ xs) here rest =
     best_is P beats _ xs (cond_both (beats y x) y x P (λ _. All-head P y xs rest) (λ _. here)) (All-tail P y xs rest)

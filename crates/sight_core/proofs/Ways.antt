@@ -63,7 +63,7 @@ both_by false true true t = refl
 both_by false true false t = refl
 both_by false false s t = refl
 
-any-or : {X : Type 0} (f g : X → Bool) (xs : List X) → (list_any f xs || list_any g xs) ≡ list_any (λ x. f x || g x) xs
+pub any-or : {X : Type 0} (f g : X → Bool) (xs : List X) → (list_any f xs || list_any g xs) ≡ list_any (λ x. f x || g x) xs
 any-or f g [] = refl
 any-or f g (x ∷ xs) = both_by (f x) (g x) (list_any f xs) (list_any g xs) ∙ ap (λ t. (f x || g x) || t) (any-or f g xs)
 
@@ -71,7 +71,7 @@ or_grouped : (x y z : Bool) → ((x || y) || z) ≡ (x || (y || z))
 or_grouped true y z = refl
 or_grouped false y z = refl
 
-any-append : {X : Type 0} (f : X → Bool) (xs ys : List X) → list_any f (xs ++ ys) ≡ (list_any f xs || list_any f ys)
+pub any-append : {X : Type 0} (f : X → Bool) (xs ys : List X) → list_any f (xs ++ ys) ≡ (list_any f xs || list_any f ys)
 any-append f [] ys = refl
 any-append f (x ∷ xs) ys = ap (λ t. f x || t) (any-append f xs ys) ∙ sym (or_grouped (f x) (list_any f xs) (list_any f ys))
 

@@ -9,7 +9,8 @@ use Rattle.plane_spec.specs.Vectors.{cross_of, vector}
 use Rattle.plan_spec.specs.Stops.{is_across}
 
 -- the difference of its ends is the segment's own vector
-pub width_is : (p d : Point) (w : Segment) → cross_of d (vector p w.b) -ℤ cross_of d (vector p w.a) ≡ cross_of d (vector w.a w.b)
+pub width_is : (p d : Point) (w : Segment)
+    → cross_of d (vector p w.b) -ℤ cross_of d (vector p w.a) ≡ cross_of d (vector w.a w.b)
 width_is p d w =
     let by = times_minus d.x w.b.y p.y in
     let bx = times_minus d.y w.b.x p.x in
@@ -23,7 +24,8 @@ width_is p d w =
 apart : (s t : ℤ) → are_opposite s t ≡ true → t -ℤ s ≢ pos 0
 apart s t h = grind (arith, ints)
 
-pub across_apart : (p d : Point) (w : Segment) → is_across p d w ≡ true → cross_of d (vector p w.b) -ℤ cross_of d (vector p w.a) ≢ pos 0
+pub across_apart : (p d : Point) (w : Segment) → is_across p d w ≡ true
+    → cross_of d (vector p w.b) -ℤ cross_of d (vector p w.a) ≢ pos 0
 across_apart p d w h = apart (cross_of d (vector p w.a)) (cross_of d (vector p w.b)) h
 
 -- a segment across a line isn't in the line's direction

@@ -1,5 +1,5 @@
 -- The first of the least fractions, sought one after another.
-use Rattle.std.specs.Prelude.{pos, ◌≤ℤ◌, Bool, false, not, List, Option, Some, None, if◌then◌else◌}
+use Rattle.std.specs.Prelude.{pos, ◌-ℤ◌, ◌≤ℤ◌, Bool, false, not, List, Option, Some, None, if◌then◌else◌}
 use Rattle.std.specs.List.{best_of, filter_map}
 use Rattle.plane_spec.specs.declared.Point.{Point}
 use Rattle.plane_spec.specs.declared.Segment.{Segment}
@@ -43,3 +43,7 @@ is_no_later (Some hit) other = not (is_before other hit)
 -- the wall or screen is hit, and not after the other hit
 abbrev pub is_hit_by : Point → Point → Fraction → Segment → Bool
 is_hit_by p d other w = is_no_later (line_hit p d w) other
+
+-- a step that is one less
+abbrev pub one_less : Fraction → Fraction
+one_less t = record { num = t.num -ℤ t.den; den = t.den }

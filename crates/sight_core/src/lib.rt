@@ -14,6 +14,7 @@
 //! | [`nearer`] | the hit that comes first |
 //! | [`stop`], [`near_wall`] | how far a ray reaches, and which wall or screen it meets first |
 //! | [`stops_are_small`] | a stop has small parts and is never behind |
+//! | [`stops_go_on`] | the stop from a later point of a ray, by the stop from its beginning |
 //! | [`near_walls_are_numbered`] | the number of a nearest wall is below that of walls and screens |
 //! | [`is_open`] | whether a point is open: in the outer polygon, and inside no obstacle |
 //! | [`types_are_shared`] | a scene may be moved to a thread and shared between threads |
@@ -45,4 +46,4 @@ pub use openness::is_open;
 pub use plane_spec::{Corner, Segment as Wall};
 pub use scene::{Scene, scene_of, types_are_shared};
 pub use sight::{free, sight_is_mutual};
-pub use stops::{near_wall, near_walls_are_numbered, stop, stops_are_small};
+pub use stops::{near_wall, near_walls_are_numbered, stop, stops_are_small, stops_go_on};

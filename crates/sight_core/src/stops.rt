@@ -1,12 +1,14 @@
 //! How far a ray reaches.
 
-ghost use Rattle.std.specs.Prelude.{All, IfSome, Some, ◌≡◌, ◌≤ℤ◌, ◌<◌, ◌+◌, ℕ, length, pos};
-ghost use Rattle.std.specs.List.{filter_map, position};
+ghost use Rattle.std.specs.Prelude.{All, IfSome, Some, ◌≡◌, ◌≤ℤ◌, ◌<◌, ◌+◌, ℕ, length, pos, true, false};
+ghost use Rattle.std.specs.List.{filter_map, list_any, position};
+ghost use Rattle.std.specs.Option.{option_map};
 ghost use Rattle.exact_geom.specs.Parts.{HasStopParts};
 ghost use Rattle.plane_spec.specs.declared.Point.{Point};
-ghost use Rattle.plane_spec.specs.Fractions.{Fraction};
-ghost use Rattle.plane_spec.specs.Vectors.{InRange, IsDirected, IsDirection};
+ghost use Rattle.plane_spec.specs.Fractions.{Fraction, reduced};
+ghost use Rattle.plane_spec.specs.Vectors.{InRange, IsDirected, IsDirection, vector};
 ghost use Rattle.plan_spec.specs.Scene.{Scene};
+ghost use Rattle.plan_spec.specs.Sight.{are_in_sight, is_on_middle};
 ghost use Rattle.plan_spec.specs.Stops as stops;
 ghost use Rattle.sight_core.specs.Hits as hits;
 ghost use Rattle.sight_core.specs.Scenes.{IsOfSoundPlan};
@@ -161,4 +163,13 @@ pub fn near_wall(scene: &Scene, p: Point, d: Point) -> Option<u32>
 /// The number of the nearest wall or screen is below the number of walls and screens, in any scene.
 pub fn near_walls_are_numbered()
     ensures { (scene : Scene) (p d : Point) (k : ℕ) → stops.near_wall_of scene p d ≡ Some k → k < length scene.walls + length scene.screens }
+{}
+
+/// The stop from a later point of a ray that its beginning sees: the stop from the beginning, less one step, or none with it.
+/// So one sweep at each of two points that see each other gives the stops of the line through both. The later point isn't
+/// on a screen, but for its ends.
+///
+/// Proofs cite this law from `proofs/Onward.antt`.
+pub fn stops_go_on()
+    ensures { (scene : Scene) (p q : Point) → are_in_sight scene p q ≡ true → list_any (is_on_middle q) scene.screens ≡ false → stops.stop_of scene q (vector p q) ≡ option_map (λ t. reduced (hits.one_less t)) (stops.stop_of scene p (vector p q)) }
 {}
