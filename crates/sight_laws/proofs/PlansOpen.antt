@@ -6,7 +6,7 @@ use Rattle.std.proofs.lemmas.Bool.{and_from, and_parts, not-true}
 use Rattle.std.proofs.lemmas.List.Elements.{All-contains_itself}
 use Rattle.std.proofs.lemmas.List.Folds.{list_any_none}
 use Rattle.std.proofs.lemmas.List.Sums.{AllPass-from_list_all}
-use Rattle.plan_laws.proofs.Lists.{list_all_weaker, list_all_and}
+use Rattle.list_laws.proofs.Tests.{list_all_weaker, list_all_and}
 use Rattle.plan_laws.proofs.Parts.{parts_of_sound, parts_of_obstacles}
 use Rattle.plane_spec.specs.declared.Point.{Point}
 use Rattle.plane_spec.specs.Vectors.{is_in_range}

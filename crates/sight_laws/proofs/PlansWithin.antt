@@ -7,7 +7,7 @@ use Rattle.std.proofs.lemmas.Bool.{and_parts, or_cases, cases_Bool}
 use Rattle.int_laws.proofs.Ring.{product_swapped}
 use Rattle.int_laws.proofs.Signs.{not_negative_product, negative_product, tested_positive}
 use Rattle.int_laws.proofs.Tests.{tested_equal, at_most_tested}
-use Rattle.plan_laws.proofs.Lists.{list_all_weaker}
+use Rattle.list_laws.proofs.Tests.{list_all_weaker}
 use Rattle.plane_spec.specs.declared.Point.{Point}
 use Rattle.plane_spec.specs.declared.Segment.{Segment}
 use Rattle.plane_spec.specs.Vectors.{vector, dot_of, orient_of, same_point, lies_left}

@@ -10,7 +10,7 @@ use Rattle.std.proofs.lemmas.List.Folds.{list_all-map, list_any-append}
 use Rattle.std.proofs.lemmas.List.Sums.{AllPass-from_list_all, list_all-from_AllPass}
 use Rattle.std.proofs.lemmas.Simd.{map-map}
 use Rattle.int_laws.proofs.Tests.{tested_at_most}
-use Rattle.plan_laws.proofs.Lists.{list_any_map}
+use Rattle.list_laws.proofs.Tests.{list_any_map}
 use Rattle.plane_spec.specs.declared.Point.{Point}
 use Rattle.plane_spec.specs.declared.Segment.{Segment}
 use Rattle.plane_spec.specs.declared.Corner.{Corner}

@@ -11,8 +11,8 @@ use Rattle.plan_spec.specs.declared.kinds.Item.TheVariants.{Screen as ScreenItem
 use Rattle.plan_spec.specs.Plan.{Plan, screen, with_screens, with_item, has_outer, corner_count, is_screen_named}
 use Rattle.plan_spec.specs.Accepted.{is_line, line_lies_within, line_meets_polygon, screens_apart, do_obstacles_stand, do_screens_stand, do_routes_stand, is_sound}
 use Rattle.plan_spec.specs.Refusals.{why_not_screen}
-use Rattle.plan_laws.proofs.Tests.{and_left_comm}
-use Rattle.plan_laws.proofs.Lists.{list_all_push, list_all_and, list_all_not}
+use Rattle.list_laws.proofs.Conditions.{and_left_comm}
+use Rattle.list_laws.proofs.Tests.{list_all_push, list_all_and, list_all_not}
 use Rattle.plan_laws.proofs.Pairs.{each_two_push}
 use Rattle.plan_laws.proofs.Adding.Causes.{none_after_test, none_after_obstacles, none_after_screens, outer_test_drops}
 use Rattle.plan_laws.proofs.Adding.Limits.{limits_with_screen}
