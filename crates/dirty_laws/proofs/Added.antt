@@ -42,7 +42,8 @@ use Rattle.box_laws.specs.Boxes.{IsIn}
 use Rattle.box_laws.proofs.Parts.{outer_corners}
 use Rattle.box_laws.proofs.Held.{held_in}
 use Rattle.box_laws.proofs.Blocking.{second_meets}
-use Rattle.dirty_laws.proofs.ClosingUp.{obstacle_alone, only_one_has, places, part_in_middle, screens_last}
+use Rattle.plan_laws.proofs.Names.{obstacle_alone}
+use Rattle.dirty_laws.proofs.ClosingUp.{only_one_has, places, part_in_middle, screens_last}
 
 -- ---- two corners of the box
 

@@ -30,10 +30,10 @@ use Rattle.plan_spec.specs.Accepted.{obstacles_apart, polygons_meet, screens_apa
 use Rattle.plan_spec.specs.Scene.{scene_of, corners_round, corners_of_obstacle, ends_of_screen}
 use Rattle.plan_spec.specs.Edits.{changed, changed_boxes, edited, points_named, ends_named, without_obstacle}
 use Rattle.plan_spec.specs.Axial.{here_of}
-use Rattle.plan_laws.proofs.Parts.{parts_of_sound, parts_of_obstacles, parts_of_screens}
+use Rattle.plan_laws.proofs.Names.{obstacle_alone, screen_alone}
 use Rattle.list_laws.proofs.Tests.{filter_none}
 use Rattle.list_laws.proofs.Elements.{each_part, second_part, where_passed}
-use Rattle.list_laws.proofs.Single.{Single, single, all_but_single}
+use Rattle.list_laws.proofs.Single.{Single, all_but_single}
 use Rattle.box_laws.specs.Boxes.{IsIn, OfCorner}
 use Rattle.box_laws.proofs.Held.{held_in}
 use Rattle.box_laws.proofs.Parts.{obstacle_corners_held, outer_corners}
@@ -74,44 +74,7 @@ all_met_in box (p ∷ points) h =
     let both = and_parts (does_meet_box p p box) (list_all (λ p. does_meet_box p p box) points) h in
     All-cons (IsIn box) p points (in_where_met box p both.0) (all_met_in box points both.1)
 
--- ---- the one obstacle or screen of a name
-
--- two names that differ aren't both the third
-not_both_named : (first second name : List ℕ) → bytes_eq first second ≡ false → bytes_eq first name ≡ true
-    → bytes_eq second name ≡ false
-not_both_named first second name differ here =
-    false_from_ne_true (bytes_eq second name)
-    (λ there. both_ways (bytes_eq first second) differ
-    ((bytes_eq-Decides first second).1
-    ((bytes_eq-Decides first name).0 here ∙ sym ((bytes_eq-Decides second name).0 there))))
-
--- an obstacle of a name is the only one in a sound plan
-pub obstacle_alone : (plan : Plan) (name : List ℕ) → is_sound plan ≡ true
-    → list_any (is_obstacle_named name) plan.obstacles ≡ true → Single (is_obstacle_named name) plan.obstacles
-obstacle_alone plan name sound there =
-    single (is_obstacle_named name) obstacles_apart only plan.obstacles
-    (parts_of_obstacles plan (parts_of_sound plan sound).obstacles).apart there
-  where
-    only : (o q : Obstacle) → obstacles_apart o q ≡ true → is_obstacle_named name o ≡ true
-        → is_obstacle_named name q ≡ false
-    only o q e here =
-        not_both_named o.name q.name name
-        (not-true (bytes_eq o.name q.name)
-        (and_parts (not (polygons_meet o.points q.points)) (not (bytes_eq o.name q.name)) e).1) here
-
--- and so is a screen
-screen_alone : (plan : Plan) (name : List ℕ) → is_sound plan ≡ true
-    → list_any (is_screen_named name) plan.screens ≡ true → Single (is_screen_named name) plan.screens
-screen_alone plan name sound there =
-    single (is_screen_named name) screens_apart only plan.screens
-    (parts_of_screens plan (parts_of_sound plan sound).screens).apart there
-  where
-    only : (s t : Screen) → screens_apart s t ≡ true → is_screen_named name s ≡ true
-        → is_screen_named name t ≡ false
-    only s t e here =
-        not_both_named s.name t.name name
-        (not-true (bytes_eq s.name t.name)
-        (and_parts (not (do_touch s.from s.to t.from t.to)) (not (bytes_eq s.name t.name)) e).1) here
+-- ---- the one of a name
 
 -- what holds of all of a name holds of the only one
 pub only_one_has : {X : Type 0} (P : X → Type 0) (test : X → Bool) (xs : List X) → (s : Single test xs)

@@ -1,5 +1,3 @@
-pub mod Tests
-pub mod Lists
 pub mod Pairs
 pub mod Adding
 pub mod Checking

@@ -7,7 +7,7 @@ use Rattle.plane_spec.specs.declared.Point.{Point}
 use Rattle.plane_spec.specs.Polygons.{edges_of, edges_touch, borders_touch, is_inside}
 use Rattle.plane_spec.proofs.Laws.{touching_is_symmetric}
 use Rattle.plan_spec.specs.Accepted.{polygons_meet}
-use Rattle.plan_laws.proofs.Lists.{list_any_agree, list_any_turned}
+use Rattle.list_laws.proofs.Tests.{list_any_agree, list_any_turned}
 
 pub borders_turned : (points others : List Point) → borders_touch points others ≡ borders_touch others points
 borders_turned points others =

@@ -5,11 +5,11 @@ use Rattle.std.proofs.Common.{refl, sym, ap, ◌∙◌}
 use Rattle.std.proofs.lemmas.Bool.{and_from, and_parts}
 use Rattle.std.proofs.lemmas.List.{map-append}
 use Rattle.std.proofs.Math.Bool.{and_assoc}
-use Rattle.plan_laws.proofs.Tests.{and_left_comm}
+use Rattle.list_laws.proofs.Conditions.{and_left_comm}
 use Rattle.std.proofs.lemmas.List.Folds.{list_all-append, list_all-map}
 use Rattle.plane_spec.specs.Lists.{pairs, with_each, numbered_pairs}
 use Rattle.plan_spec.specs.Accepted.{each_two}
-use Rattle.plan_laws.proofs.Lists.{list_all_push, list_all_middle, list_all_filter}
+use Rattle.list_laws.proofs.Tests.{list_all_push, list_all_middle, list_all_filter}
 
 pub each_two_cons : {X : Type 0} (r : X → X → Bool) (x : X) (xs : List X) → each_two r (x ∷ xs) ≡ (list_all (r x) xs && each_two r xs)
 each_two_cons r x xs =

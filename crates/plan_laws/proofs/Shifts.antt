@@ -13,7 +13,7 @@ use Rattle.plane_spec.specs.Vectors.{orient_of, same_point}
 use Rattle.plane_spec.specs.Segments.{is_on_segment, cross_properly, do_touch}
 use Rattle.plane_spec.specs.Polygons.{edges_to, edges_of, is_on_edge, is_on_border, passes_right, is_inside, borders_touch, is_nothing, has_repeat, may_stand, crosses_nowhere}
 use Rattle.plan_spec.specs.Edits.{shifted_point}
-use Rattle.plan_laws.proofs.Lists.{list_all_agree, list_any_map, list_any_agree, count_map}
+use Rattle.list_laws.proofs.Tests.{list_all_agree, list_any_map, list_any_agree, count_map}
 use Rattle.plan_laws.proofs.Pairs.{each_of_pair, beside_number, numbered_pairs_map}
 
 -- ---- coordinates

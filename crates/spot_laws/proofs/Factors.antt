@@ -3,7 +3,7 @@ use Rattle.std.proofs.Common.{◌≡◌, ◌∙◌, ℤ, pos, ◌*ℤ◌, ◌≤
 use Rattle.std.specs.Prelude.{int_lt, int_le}
 use Rattle.std.proofs.lemmas.Int.{ints, by_lt_z}
 use Rattle.int_laws.proofs.Ring.{times_zero, product_swapped, product_grouped}
-use Rattle.int_laws.proofs.Signs.{positive_product}
+use Rattle.int_laws.proofs.Signs.{positive_product, opposite_product}
 use Rattle.box_laws.proofs.Touching.{order_stays}
 use Rattle.box_laws.proofs.Crossing.{strictly_stays}
 
@@ -23,6 +23,10 @@ to_one z h = omega (arith, ints)
 pub outer_exchanged : (x y z : ℤ) → x *ℤ (y *ℤ z) ≡ z *ℤ (y *ℤ x)
 outer_exchanged x y z =
     sym (product_grouped x y z) ∙ product_swapped (x *ℤ y) z ∙ ap (λ t. z *ℤ t) (product_swapped x y)
+
+-- a product of one that isn't negative with one that isn't positive
+pub falling_product : (n d : ℤ) → pos 0 ≤ℤ n → d ≤ℤ pos 0 → (n *ℤ d) ≤ℤ pos 0
+falling_product n d h k = subst (λ z. z ≤ℤ pos 0) (product_swapped d n) (opposite_product d n k h)
 
 -- ---- a factor taken away
 

@@ -9,20 +9,19 @@
 -- left of the line through i and j exactly where it lies left of the line through k and l, and a box is on one side
 -- of the
 -- one exactly where it is of the other. In each coordinate the two extents are intervals between the same fractions.
-use Rattle.std.proofs.Common.{◌≡◌, ◌∙◌, Bool, not, ◌&&◌, ◌||◌, ℤ, pos, ◌+ℤ◌, ◌-ℤ◌, ◌*ℤ◌}
+use Rattle.std.proofs.Common.{◌≡◌, ◌∙◌, Bool, not, ◌&&◌, ℤ, pos, ◌+ℤ◌, ◌-ℤ◌, ◌*ℤ◌}
 use Rattle.std.proofs.Common.{◌≤ℤ◌, ◌<ℤ◌, ℕ, arith, refl, sym, ap, subst}
 use Rattle.std.specs.Prelude.{int_lt, int_le}
 use Rattle.std.proofs.lemmas.Int.{ints}
 use borrow.Author.Differences.{up, down}
-use Rattle.int_laws.proofs.Ring.{diff, is_diff, product_diff, minus_diff, sum_diff, same_diff, times_zero}
+use Rattle.int_laws.proofs.Ring.{diff, is_diff, product_diff, minus_diff, sum_diff, same_diff}
 use Rattle.int_laws.proofs.Ring.{product_swapped, orient_cycled}
-use Rattle.int_laws.proofs.Signs.{positive_product}
+use Rattle.int_laws.proofs.Signs.{positive_product, not_negative_product}
 use Rattle.plane_spec.specs.declared.Point.{Point}
 use Rattle.plane_spec.specs.declared.PlanBox.{PlanBox}
 use Rattle.plane_spec.specs.Vectors.{vector, orient_of}
 use Rattle.plane_spec.specs.Fractions.{Fraction}
 use Rattle.plane_spec.specs.Boxes.{is_left_of}
-use Rattle.box_laws.proofs.Touching.{order_stays}
 use Rattle.spot_laws.proofs.Spots.{Spot, spot_at, spots_overlap, spots_meet_box, IsPositive}
 use Rattle.spot_laws.proofs.Factors.{not_negative, same_sign, low_same, high_same}
 use Rattle.box_laws.proofs.Held.{overlap_turned}
@@ -101,15 +100,13 @@ factor_positive : (sd sn td tn : ℤ) → pos 0 <ℤ sd → pos 0 ≤ℤ sn → 
     → pos 0 <ℤ ((sd +ℤ sn) *ℤ (td +ℤ tn) -ℤ sn *ℤ tn)
 factor_positive sd sn td tn a b c d =
     subst (λ z. pos 0 <ℤ z) (sym (opened sd sn td tn))
-    (sum _ _ _ (positive_product sd td a c) (not_neg sd tn (not_negative _ a) d) (not_neg sn td b (not_negative _ c)))
+    (sum _ _ _ (positive_product sd td a c) (not_negative_product sd tn (not_negative _ a) d)
+    (not_negative_product sn td b (not_negative _ c)))
   where
     opened : (sd sn td tn : ℤ) → (sd +ℤ sn) *ℤ (td +ℤ tn) -ℤ sn *ℤ tn ≡ sd *ℤ td +ℤ (sd *ℤ tn +ℤ sn *ℤ td)
     opened sd sn td tn =
         rw (is_diff sd, is_diff sn, is_diff td, is_diff tn)
         (factor_diff (up sd) (down sd) (up sn) (down sn) (up td) (down td) (up tn) (down tn))
-
-    not_neg : (x y : ℤ) → pos 0 ≤ℤ x → pos 0 ≤ℤ y → pos 0 ≤ℤ (x *ℤ y)
-    not_neg x y h k = subst (λ z. z ≤ℤ (x *ℤ y)) (times_zero x) (order_stays x (pos 0) y h k)
 
     sum : (x y z : ℤ) → pos 0 <ℤ x → pos 0 ≤ℤ y → pos 0 ≤ℤ z → pos 0 <ℤ (x +ℤ (y +ℤ z))
     sum x y z h k l = omega (arith, ints)

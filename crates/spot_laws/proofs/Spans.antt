@@ -9,12 +9,13 @@
 -- segment from
 -- i to j lies on the extent, so a box that it meets the extent meets.
 use Rattle.std.proofs.Common.{◌≡◌, Bool, true, false, not, ◌&&◌, ◌||◌, ℤ, pos, neg_ℤ, ◌+ℤ◌, ◌-ℤ◌, ◌*ℤ◌}
-use Rattle.std.proofs.Common.{◌≤ℤ◌, ◌<ℤ◌, ℕ, arith, subst}
+use Rattle.std.proofs.Common.{◌≤ℤ◌, ◌<ℤ◌, ℕ, arith}
 use Rattle.std.specs.Prelude.{int_le}
 use Rattle.std.proofs.lemmas.Int.{ints, by_lt_z}
 use borrow.Author.Differences.{up, down}
-use Rattle.int_laws.proofs.Ring.{diff, is_diff, product_diff, sum_diff, same_diff, times_zero}
+use Rattle.int_laws.proofs.Ring.{diff, is_diff, product_diff, sum_diff, same_diff}
 use Rattle.int_laws.proofs.Ring.{product_swapped}
+use Rattle.int_laws.proofs.Signs.{not_negative_product}
 use Rattle.plane_spec.specs.declared.Point.{Point}
 use Rattle.plane_spec.specs.declared.PlanBox.{PlanBox}
 use Rattle.plane_spec.specs.Vectors.{vector}
@@ -22,7 +23,7 @@ use Rattle.plane_spec.specs.Fractions.{Fraction}
 use Rattle.plane_spec.specs.Boxes.{do_overlap, does_meet_box}
 use Rattle.box_laws.proofs.Touching.{order_stays, order_turns}
 use Rattle.spot_laws.proofs.Spots.{spot_at, spots_overlap, spots_meet_box, IsPositive, SpotIn, Cut}
-use Rattle.spot_laws.proofs.Factors.{not_negative, outer_exchanged, cancel_le}
+use Rattle.spot_laws.proofs.Factors.{not_negative, outer_exchanged, cancel_le, falling_product}
 
 -- the same over differences of naturals
 span_diff : (a b c d e f g h i j k l : ℕ) →
@@ -37,6 +38,10 @@ span td j yd yn d tn =
     rw (is_diff td, is_diff j, is_diff yd, is_diff yn, is_diff d, is_diff tn)
     (span_diff (up td) (down td) (up j) (down j) (up yd) (down yd) (up yn) (down yn) (up d) (down d) (up tn)
     (down tn))
+
+-- the order of integers
+through : (a b c : ℤ) → a ≤ℤ b → b ≤ℤ c → a ≤ℤ c
+through a b c h k = omega (arith, ints)
 
 -- upwards: what isn't below low at y stays so further on, at t
 further_up : (low j d yn yd tn td : ℤ) → pos 0 <ℤ yd → pos 0 <ℤ td → pos 0 ≤ℤ d → (yn *ℤ td) ≤ℤ (tn *ℤ yd)
@@ -66,22 +71,13 @@ behind_up : (high i j d yn yd sn sd : ℤ) → pos 0 <ℤ yd → pos 0 <ℤ sd �
 behind_up high i j d yn yd sn sd py ps sn_in yn_in pd ij h =
     let near : j ≤ℤ high = cancel_le yd j high py
     (low_part _ _ _ _ (product_swapped yd j) (product_swapped yd high)
-    (at_zero yn d (order_stays yn (pos 0) d yn_in pd)) h) in
-    let back = at_zero_down sn (neg_ℤ d) (order_stays sn (neg_ℤ d) (pos 0) sn_in (turned d pd)) in
+    (not_negative_product yn d yn_in pd) h) in
+    let back = falling_product sn (neg_ℤ d) sn_in (turned d pd) in
     let step = order_stays sd i high (not_negative _ ps) (through i j high ij near) in
     last _ _ _ _ _ (product_swapped sd i) (product_swapped sd high) back step
   where
-    through : (a b c : ℤ) → a ≤ℤ b → b ≤ℤ c → a ≤ℤ c
-    through a b c h k = omega (arith, ints)
-
     turned : (d : ℤ) → pos 0 ≤ℤ d → neg_ℤ d ≤ℤ pos 0
     turned d h = omega (arith, ints)
-
-    at_zero : (y d : ℤ) → (y *ℤ pos 0) ≤ℤ (y *ℤ d) → pos 0 ≤ℤ (y *ℤ d)
-    at_zero y d h = subst (λ z. z ≤ℤ (y *ℤ d)) (times_zero y) h
-
-    at_zero_down : (y d : ℤ) → (y *ℤ d) ≤ℤ (y *ℤ pos 0) → (y *ℤ d) ≤ℤ pos 0
-    at_zero_down y d h = subst (λ z. (y *ℤ d) ≤ℤ z) (times_zero y) h
 
     low_part : (yj jy yh hy : ℤ) → {z : ℤ} → yj ≡ jy → yh ≡ hy → pos 0 ≤ℤ z → (jy +ℤ z) ≤ℤ hy → yj ≤ℤ yh
     low_part yj jy yh hy e f g h = omega (arith, ints)
@@ -95,22 +91,13 @@ behind_down : (low i j d yn yd sn sd : ℤ) → pos 0 <ℤ yd → pos 0 <ℤ sd 
 behind_down low i j d yn yd sn sd py ps sn_in yn_in pd ij h =
     let near : low ≤ℤ j = cancel_le yd low j py
     (low_part _ _ _ _ (product_swapped yd j) (product_swapped yd low)
-    (at_zero_down yn d (order_stays yn d (pos 0) yn_in pd)) h) in
-    let back = at_zero sn (neg_ℤ d) (order_stays sn (pos 0) (neg_ℤ d) sn_in (turned d pd)) in
+    (falling_product yn d yn_in pd) h) in
+    let back = not_negative_product sn (neg_ℤ d) sn_in (turned d pd) in
     let step = order_stays sd low i (not_negative _ ps) (through low j i near ij) in
     last _ _ _ _ _ (product_swapped sd i) (product_swapped sd low) back step
   where
-    through : (a b c : ℤ) → a ≤ℤ b → b ≤ℤ c → a ≤ℤ c
-    through a b c h k = omega (arith, ints)
-
     turned : (d : ℤ) → d ≤ℤ pos 0 → pos 0 ≤ℤ neg_ℤ d
     turned d h = omega (arith, ints)
-
-    at_zero : (y d : ℤ) → (y *ℤ pos 0) ≤ℤ (y *ℤ d) → pos 0 ≤ℤ (y *ℤ d)
-    at_zero y d h = subst (λ z. z ≤ℤ (y *ℤ d)) (times_zero y) h
-
-    at_zero_down : (y d : ℤ) → (y *ℤ d) ≤ℤ (y *ℤ pos 0) → (y *ℤ d) ≤ℤ pos 0
-    at_zero_down y d h = subst (λ z. (y *ℤ d) ≤ℤ z) (times_zero y) h
 
     low_part : (yj jy yl ly : ℤ) → {z : ℤ} → yj ≡ jy → yl ≡ ly → z ≤ℤ pos 0 → ly ≤ℤ (jy +ℤ z) → yl ≤ℤ yj
     low_part yj jy yl ly e f g h = omega (arith, ints)
@@ -181,7 +168,7 @@ within_extent i j s t y box qs qt qy sn yn le p c =
 pub outer_up : (low j w n d : ℤ) → pos 0 <ℤ w → pos 0 ≤ℤ n → pos 0 ≤ℤ d → low ≤ℤ j → (low *ℤ w) ≤ℤ (j *ℤ w +ℤ n *ℤ d)
 outer_up low j w n d pw pn pd h =
     last _ _ _ _ _ (product_swapped w low) (product_swapped w j)
-    (subst (λ z. z ≤ℤ (n *ℤ d)) (times_zero n) (order_stays n (pos 0) d pn pd))
+    (not_negative_product n d pn pd)
     (order_stays w low j (not_negative _ pw) h)
   where
     last : (wl lw wj jw z : ℤ) → wl ≡ lw → wj ≡ jw → pos 0 ≤ℤ z → wl ≤ℤ wj → lw ≤ℤ (jw +ℤ z)
@@ -192,7 +179,7 @@ pub outer_down : (high j w n d : ℤ) → pos 0 <ℤ w → pos 0 ≤ℤ n → d 
     → (j *ℤ w +ℤ n *ℤ d) ≤ℤ (high *ℤ w)
 outer_down high j w n d pw pn pd h =
     last _ _ _ _ _ (product_swapped w high) (product_swapped w j)
-    (subst (λ z. (n *ℤ d) ≤ℤ z) (times_zero n) (order_stays n d (pos 0) pn pd))
+    (falling_product n d pn pd)
     (order_stays w j high (not_negative _ pw) h)
   where
     last : (wl lw wj jw z : ℤ) → wl ≡ lw → wj ≡ jw → z ≤ℤ pos 0 → wj ≤ℤ wl → (jw +ℤ z) ≤ℤ lw

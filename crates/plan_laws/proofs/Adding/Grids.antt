@@ -7,7 +7,7 @@ use Rattle.plan_spec.specs.declared.kinds.Item.TheVariants.{Grid}
 use Rattle.plan_spec.specs.Plan.{Plan, with_grid, with_item, has_outer}
 use Rattle.plan_spec.specs.Accepted.{is_polygon, is_grid_in_range, is_grid_small, is_grid_sound, do_obstacles_stand, do_screens_stand, do_routes_stand, is_within_limits, is_sound}
 use Rattle.plan_spec.specs.Refusals.{why_not_grid}
-use Rattle.plan_laws.proofs.Tests.{and_left_comm, not_or}
+use Rattle.list_laws.proofs.Conditions.{and_left_comm, not_or}
 use Rattle.plan_laws.proofs.Adding.Causes.{none_refuses, none_when, outer_test_drops}
 
 -- the grid passes each test for which it might be refused

@@ -11,8 +11,8 @@ use Rattle.plan_spec.specs.declared.limits.TheConstants.{MOST_OBSTACLES, MOST_CO
 use Rattle.plan_spec.specs.Plan.{Obstacle, Plan, obstacle, with_obstacles, with_item, has_outer, corner_count, is_obstacle_named}
 use Rattle.plan_spec.specs.Accepted.{is_polygon, lies_within, polygons_meet, line_meets_polygon, obstacles_apart, do_obstacles_stand, do_screens_stand, do_routes_stand, is_sound}
 use Rattle.plan_spec.specs.Refusals.{why_not_obstacle}
-use Rattle.plan_laws.proofs.Tests.{and_left_comm, not_or}
-use Rattle.plan_laws.proofs.Lists.{list_all_push, list_any_push, list_all_and, list_all_not, list_all_agree}
+use Rattle.list_laws.proofs.Conditions.{and_left_comm, not_or}
+use Rattle.list_laws.proofs.Tests.{list_all_push, list_any_push, list_all_and, list_all_not, list_all_agree}
 use Rattle.plan_laws.proofs.Pairs.{each_two_push}
 use Rattle.plan_laws.proofs.Adding.Causes.{none_refuses, none_when, none_of_polygon, none_of_polygon_in, outer_test_drops}
 use Rattle.plan_laws.proofs.Adding.Limits.{limits_with_obstacle}

@@ -12,8 +12,8 @@ use Rattle.plan_spec.specs.declared.limits.TheConstants.{MOST_SCREENS, MOST_CORN
 use Rattle.plan_spec.specs.Plan.{Plan, screen, with_screens, with_item, has_outer, corner_count, is_screen_named}
 use Rattle.plan_spec.specs.Accepted.{is_line, line_lies_within, line_meets_polygon, screens_apart, do_obstacles_stand, do_screens_stand, do_routes_stand, is_sound}
 use Rattle.plan_spec.specs.Refusals.{why_not_screen}
-use Rattle.plan_laws.proofs.Tests.{and_left_comm}
-use Rattle.plan_laws.proofs.Lists.{list_all_push, list_all_and, list_all_not}
+use Rattle.list_laws.proofs.Conditions.{and_left_comm}
+use Rattle.list_laws.proofs.Tests.{list_all_push, list_all_and, list_all_not}
 use Rattle.plan_laws.proofs.Pairs.{each_two_push}
 use Rattle.plan_laws.proofs.Adding.Causes.{none_refuses, none_when, none_of_line, none_of_line_in, outer_test_drops}
 use Rattle.plan_laws.proofs.Adding.Limits.{limits_with_screen}

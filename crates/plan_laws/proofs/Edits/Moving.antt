@@ -16,8 +16,8 @@ use Rattle.plan_spec.specs.declared.kinds.Screen.{Screen}
 use Rattle.plan_spec.specs.Plan.{Obstacle, Plan, obstacle, with_obstacles, corners_of_obstacle_count, is_obstacle_named}
 use Rattle.plan_spec.specs.Accepted.{each_two, is_polygon, lies_within, polygons_meet, line_meets_polygon, obstacles_apart, do_obstacles_stand, do_screens_stand, do_routes_stand, is_within_limits, is_sound}
 use Rattle.plan_spec.specs.Edits.{shifted_point, shifted_obstacle, points_named, without_obstacle}
-use Rattle.plan_laws.proofs.Tests.{not_or}
-use Rattle.plan_laws.proofs.Lists.{list_all_middle, list_any_middle, list_all_and, list_all_not, list_all_agree, list_any_agree, filter_none, filter_not_none, map_none}
+use Rattle.list_laws.proofs.Conditions.{not_or}
+use Rattle.list_laws.proofs.Tests.{list_all_middle, list_any_middle, list_all_and, list_all_not, list_all_agree, list_any_agree, filter_none, filter_not_none, map_none}
 use Rattle.plan_laws.proofs.Pairs.{each_two_middle}
 use Rattle.plan_laws.proofs.Shifts.{repeat_shifted, crosses_shifted}
 use Rattle.plan_laws.proofs.Meeting.{meeting_turned}

@@ -14,8 +14,9 @@ use Rattle.plan_spec.specs.declared.refusals.Why.TheVariants.{Missing}
 use Rattle.plan_spec.specs.Plan.{Obstacle, Plan, with_obstacles, is_obstacle_named, is_screen_named, is_route_named}
 use Rattle.plan_spec.specs.Accepted.{is_polygon, lies_within, polygons_meet, line_meets_polygon, is_sound}
 use Rattle.plan_spec.specs.Edits.{is_there, others_of, moved_points, shifted_point, shifted_obstacle, points_named, without_obstacle, why_not_moved, why_not_edit, edited}
-use Rattle.plan_laws.proofs.Lists.{list_all_middle}
-use Rattle.plan_laws.proofs.Names.{NameSplit, split_at_name}
+use Rattle.list_laws.proofs.Tests.{list_all_middle}
+use Rattle.list_laws.proofs.Single.{Single}
+use Rattle.plan_laws.proofs.Names.{obstacle_alone}
 use Rattle.plan_laws.proofs.Parts.{parts_of_sound, parts_of_obstacles}
 use Rattle.plan_laws.proofs.Adding.Causes.{none_refuses, none_when, none_of_polygon_in}
 use Rattle.plan_laws.proofs.Adding.Items.{no_cause, a_cause}
@@ -49,34 +50,34 @@ fits p points others =
     list_all is_in_range points && (lies_within p.outer points
     && (not (list_any (λ x. polygons_meet x.points points) others) && not (list_any (λ s. line_meets_polygon s.from s.to points) p.screens)))
 
-moved_where_split : (p : Plan) (name : List ℕ) (dx dy : ℤ) → is_sound p ≡ true → NameSplit name p.obstacles
+moved_where_split : (p : Plan) (name : List ℕ) (dx dy : ℤ) → is_sound p ≡ true → Single (is_obstacle_named name) p.obstacles
     → is_none (why_not_moved (others_of p name) (moved_points p name dx dy)) ≡ is_sound (edited p (Move name dx dy))
 unfolding edited fits
 moved_where_split p name dx dy h s =
-    let moved : List Point = map (shifted_point dx dy) s.here.points in
+    let moved : List Point = map (shifted_point dx dy) s.it.points in
     let points_is : map (shifted_point dx dy) (points_named name p.obstacles) ≡ moved =
     ap (λ os. map (shifted_point dx dy) (points_named name os)) s.is
-    ∙ ap (map (shifted_point dx dy)) (points_of_named name s.before s.here s.after s.named s.none_before s.none_after) in
+    ∙ ap (map (shifted_point dx dy)) (points_of_named name s.before s.it s.after s.passes s.none_before s.none_after) in
     let others_is : without_obstacle name p.obstacles ≡ s.before ++ s.after =
-    ap (without_obstacle name) s.is ∙ others_than_named name s.before s.here s.after s.named s.none_before s.none_after in
-    let obstacles_is : map (λ x. if is_obstacle_named name x then shifted_obstacle dx dy x else x) p.obstacles ≡ s.before ++ shifted_obstacle dx dy s.here ∷ s.after =
+    ap (without_obstacle name) s.is ∙ others_than_named name s.before s.it s.after s.passes s.none_before s.none_after in
+    let obstacles_is : map (λ x. if is_obstacle_named name x then shifted_obstacle dx dy x else x) p.obstacles ≡ s.before ++ shifted_obstacle dx dy s.it ∷ s.after =
     ap (map (λ x. if is_obstacle_named name x then shifted_obstacle dx dy x else x)) s.is
-    ∙ with_named_shifted name s.before s.here s.after s.named s.none_before s.none_after dx dy in
+    ∙ with_named_shifted name s.before s.it s.after s.passes s.none_before s.none_after dx dy in
     let polygon : Obstacle → Bool = λ x. is_polygon x.points && lies_within p.outer x.points in
-    let polygons = and_parts (polygon s.here) (list_all polygon (s.before ++ s.after))
-    (sym (list_all_middle polygon s.before s.here s.after) ∙ ap (list_all polygon) (sym s.is) ∙ (parts_of_obstacles p (parts_of_sound p h).obstacles).polygons) in
-    let here = and_parts (is_polygon s.here.points) (lies_within p.outer s.here.points) polygons.0 in
+    let polygons = and_parts (polygon s.it) (list_all polygon (s.before ++ s.after))
+    (sym (list_all_middle polygon s.before s.it s.after) ∙ ap (list_all polygon) (sym s.is) ∙ (parts_of_obstacles p (parts_of_sound p h).obstacles).polygons) in
+    let here = and_parts (is_polygon s.it.points) (lies_within p.outer s.it.points) polygons.0 in
     fits_when_moved (others_of p name) (moved_points p name dx dy)
     ∙ ap₂ (fits p) points_is others_is
     ∙ ap (λ t. t && (lies_within p.outer moved && (not (list_any (λ x. polygons_meet x.points moved) (s.before ++ s.after)) && not (list_any (λ s. line_meets_polygon s.from s.to moved) p.screens))))
-    (sym (polygon_shifted dx dy s.here.points here.0))
-    ∙ sym (sound_with_other_points p s.before s.here s.after moved (ap (λ os. is_sound (with_obstacles p os)) (sym s.is) ∙ h) (length-map s.here.points (shifted_point dx dy)))
+    (sym (polygon_shifted dx dy s.it.points here.0))
+    ∙ sym (sound_with_other_points p s.before s.it s.after moved (ap (λ os. is_sound (with_obstacles p os)) (sym s.is) ∙ h) (length-map s.it.points (shifted_point dx dy)))
     ∙ ap (λ os. is_sound (with_obstacles p os)) (sym obstacles_is)
 
 moved_where_there : (p : Plan) (name : List ℕ) (dx dy : ℤ) → is_sound p ≡ true → list_any (is_obstacle_named name) p.obstacles ≡ true
     → is_none (why_not_moved (others_of p name) (moved_points p name dx dy)) ≡ is_sound (edited p (Move name dx dy))
 moved_where_there p name dx dy h there =
-    moved_where_split p name dx dy h (split_at_name name p.obstacles (parts_of_obstacles p (parts_of_sound p h).obstacles).apart there)
+    moved_where_split p name dx dy h (obstacle_alone p name h there)
 
 -- ---- every edit
 

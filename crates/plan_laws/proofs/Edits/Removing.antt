@@ -11,7 +11,7 @@ use Rattle.plan_spec.specs.declared.limits.TheConstants.{MOST_OBSTACLES, MOST_SC
 use Rattle.plan_spec.specs.Plan.{Obstacle, Plan, with_obstacles, with_screens, with_routes, corner_count, corners_of_obstacle_count}
 use Rattle.plan_spec.specs.Accepted.{is_polygon, is_line, lies_within, line_lies_within, line_meets_polygon, obstacles_apart, screens_apart, routes_apart, is_within_limits, is_sound}
 use Rattle.plan_spec.specs.Ranges.{IsWithinLimits}
-use Rattle.plan_laws.proofs.Lists.{list_all_filter, list_any_filter, list_all_weaker}
+use Rattle.list_laws.proofs.Tests.{list_all_filter, list_any_filter, list_all_weaker}
 use Rattle.plan_laws.proofs.Pairs.{each_two_filter}
 use Rattle.plan_laws.proofs.Parts.{parts_of_sound, sound_from_parts, parts_of_obstacles, obstacles_from_parts, parts_of_screens, screens_from_parts, parts_of_routes, routes_from_parts}
 use Rattle.plan_laws.proofs.Ranges.{limits_are}

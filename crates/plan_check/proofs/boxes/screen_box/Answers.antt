@@ -4,7 +4,7 @@ use Rattle.std.proofs.Common.{sym, ap}
 use Rattle.plane_spec.specs.Boxes.{box_of_points}
 use Rattle.plan_spec.specs.declared.kinds.Screen.{Screen}
 use Rattle.plan_spec.specs.Plan.{is_screen_named}
-use Rattle.plan_laws.proofs.Lists.{filter_none}
+use Rattle.list_laws.proofs.Tests.{filter_none}
 use Rattle.plan_check.proofs.boxes.screen_box.Goals as goal
 
 pub returns-in-None : goal.returns-in-None
