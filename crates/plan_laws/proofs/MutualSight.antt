@@ -12,7 +12,7 @@ use Rattle.plane_spec.specs.Segments.{are_opposite, cross_properly}
 use Rattle.plan_spec.specs.Scene.{Scene, lines_of_scene}
 use Rattle.plan_spec.specs.Sight.{crosses, leaves_wall, enters_wall, corner_stops, corner_blocks, is_blocked, are_in_sight}
 use Rattle.int_laws.proofs.Ring.{orient_cycled, orient_exchanged}
-use Rattle.plan_laws.proofs.Lists.{list_any_agree}
+use Rattle.list_laws.proofs.Tests.{list_any_agree}
 
 -- ---- points and signs
 

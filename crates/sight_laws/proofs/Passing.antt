@@ -20,7 +20,7 @@ use Rattle.plane_spec.specs.Polygons.{is_on_edge, is_inside, is_simple, has_repe
 use Rattle.plane_spec.specs.Cones.{is_in_cone}
 use Rattle.plan_spec.specs.Scene.{Scene, walls_round, corners_round, lines_of_scene}
 use Rattle.plan_spec.specs.Sight.{crosses, is_on_middle, leaves_wall, enters_wall, corner_stops, corner_blocks, is_blocked}
-use Rattle.plan_laws.proofs.Lists.{list_any_agree}
+use Rattle.list_laws.proofs.Tests.{list_any_agree}
 use Rattle.plane_laws.specs.Enlarged.{enlarged, part_way}
 use Rattle.plane_laws.proofs.Tests.{clash, not_false}
 use Rattle.plane_laws.proofs.Members.{IsIn, source, mapped}

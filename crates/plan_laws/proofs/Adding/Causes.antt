@@ -14,7 +14,7 @@ use Rattle.plan_spec.specs.declared.refusals.Why.{Why}
 use Rattle.plan_spec.specs.Plan.{Obstacle, Plan, has_outer}
 use Rattle.plan_spec.specs.Accepted.{is_polygon, is_line, lies_within, polygons_meet, line_lies_within, line_meets_polygon, is_sound}
 use Rattle.plan_spec.specs.Refusals.{when, first_cause, first_obstacle, first_screen, first_route, why_not_polygon, why_not_line, why_not_polygon_in, why_not_line_in}
-use Rattle.plan_laws.proofs.Tests.{and_left_comm}
+use Rattle.list_laws.proofs.Conditions.{and_left_comm}
 
 -- ---- tests on numbers
 
