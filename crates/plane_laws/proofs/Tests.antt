@@ -16,9 +16,5 @@ and_swapped true false = refl
 and_swapped false true = refl
 and_swapped false false = refl
 
-pub not_false : (t : Bool) → not t ≡ true → t ≡ false
-not_false true h = sym h
-not_false false h = refl
-
 pub clash : {t : Bool} → t ≡ false → t ≡ true → ⊥
 clash h i = let absurdity : true ≡ false = sym i ∙ h in cc

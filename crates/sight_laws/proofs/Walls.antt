@@ -44,7 +44,8 @@ next_wall points v there = by_turn (is_counterclockwise points) there
 pub over_walls : (points : List Point) (x : Point) → is_on_or_inside x points ≡ true
     → (w : Segment) → IsIn (walls_round true points) w → pos 0 ≤ℤ height w x
 over_walls points x h w there =
-    tested_at_most (pos 0) (height w x) (each_passes (λ w. int_le (pos 0) (orient_of w.a w.b x)) (walls_round true points) w h there)
+    tested_at_most (pos 0) (height w x) (each_passes (λ w. int_le (pos 0) (orient_of w.a w.b x))
+    (walls_round true points) w h there)
 
 pub from_over_walls : (points : List Point) (x : Point)
     → ((w : Segment) → IsIn (walls_round true points) w → pos 0 ≤ℤ height w x) → is_on_or_inside x points ≡ true
@@ -68,7 +69,9 @@ convex_walls points h w v w_there v_there =
     (start v v_there, subst (λ t. pos 0 ≤ℤ height w t) next.2 (start next.0 next.1))
   where
     start : (v : Segment) → IsIn (walls_round true points) v → pos 0 ≤ℤ height w v.a
-    start v there = over_walls points v.a (each_passes (λ v. is_on_or_inside v.a points) (walls_round true points) v h there) w w_there
+    start v there =
+        over_walls points v.a (each_passes (λ v. is_on_or_inside v.a points)
+        (walls_round true points) v h there) w w_there
 
 -- ---- in a plane that is n times as large
 
@@ -86,11 +89,13 @@ convex_large n walls convex w v w_there v_there =
     wide : pos 0 ≤ℤ (pos n *ℤ pos n)
     wide = not_negative_product (pos n) (pos n) (omega (arith, ints)) (omega (arith, ints))
 
-    at : (f w : Segment) (y x : Point) → scaled_wall (pos n) (pos n) f ≡ w → enlarged n y ≡ x → pos 0 ≤ℤ height f y → pos 0 ≤ℤ height w x
+    at : (f w : Segment) (y x : Point) → scaled_wall (pos n) (pos n) f ≡ w → enlarged n y ≡ x → pos 0 ≤ℤ height f y
+        → pos 0 ≤ℤ height w x
     at f w y x e i h =
         subst (λ t. pos 0 ≤ℤ height t x) e
         (subst (λ t. pos 0 ≤ℤ height (scaled_wall (pos n) (pos n) f) t) i
-        (subst (λ t. pos 0 ≤ℤ t) (sym (height_large n f y)) (not_negative_product (pos n *ℤ pos n) (height f y) wide h)))
+        (subst (λ t. pos 0 ≤ℤ t) (sym (height_large n f y))
+        (not_negative_product (pos n *ℤ pos n) (height f y) wide h)))
 
 counterclockwise_enlarged : (n : ℕ) (points : List Point) → 0 < n
     → is_counterclockwise (map (enlarged n) points) ≡ is_counterclockwise points
