@@ -18,8 +18,8 @@ use Rattle.plane_spec.specs.declared.Segment.{Segment}
 use Rattle.plane_spec.specs.declared.Point.{Point}
 use Rattle.plane_spec.specs.Vectors.{cross_of}
 use Rattle.plane_spec.specs.Polygons.{doubled_area}
-use Rattle.plane_laws.proofs.Between.{in_order}
-use Rattle.plane_laws.proofs.Members.{IsIn}
+use Rattle.plane_laws.proofs.Points.Between.{in_order}
+use Rattle.plane_laws.proofs.Lists.Members.{IsIn}
 use Rattle.winding_laws.specs.Windings.{wind, winding}
 use Rattle.winding_laws.proofs.OneEdge.{wind_below, wind_above, turned, wind_turned}
 use Rattle.winding_laws.proofs.Closed.{rises_along, AreClosed}

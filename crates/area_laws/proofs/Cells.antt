@@ -9,7 +9,7 @@ use Rattle.plane_spec.specs.declared.Point.{Point}
 use Rattle.plane_spec.specs.declared.Segment.{Segment}
 use Rattle.plane_spec.specs.Vectors.{point, orient_of}
 use Rattle.plane_spec.specs.Segments.{is_between}
-use Rattle.plane_laws.proofs.Touching.{between_by}
+use Rattle.plane_laws.proofs.Segments.Touching.{between_by}
 use Rattle.winding_laws.specs.Windings.{wind}
 use Rattle.winding_laws.proofs.OneEdge.{wind_across}
 

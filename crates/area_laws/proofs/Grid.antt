@@ -10,8 +10,8 @@ use Rattle.int_laws.proofs.Signs.{positive_product, positive_factor, not_negativ
 use Rattle.plane_spec.specs.declared.Segment.{Segment}
 use Rattle.plane_spec.specs.Vectors.{cross_of}
 use Rattle.plane_spec.specs.Polygons.{doubled_area}
-use Rattle.plane_laws.proofs.Scaled.{cross_by, scaled_wall}
-use Rattle.plane_laws.proofs.Members.{IsIn, mapped, source}
+use Rattle.plane_laws.proofs.Points.Scaled.{cross_by, scaled_wall}
+use Rattle.plane_laws.proofs.Lists.Members.{IsIn, mapped, source}
 use Rattle.side_laws.proofs.Sound.{IsSound}
 use Rattle.side_laws.proofs.Scaled.{scaled_sound}
 use Rattle.area_laws.proofs.Cells.{IsOnGrid}

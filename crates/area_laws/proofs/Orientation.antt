@@ -21,9 +21,9 @@ use Rattle.plane_spec.specs.Segments.{is_on_segment}
 use Rattle.plane_spec.specs.Vectors.{point, same_point, cross_of, orient_of, vector}
 use Rattle.plane_spec.specs.Polygons.{is_on_edge, doubled_area}
 use Rattle.exact_geom.proofs.Orientation.{orient_of_first_exchanged}
-use Rattle.plane_laws.proofs.Between.{IsAlong, between, in_order}
-use Rattle.plane_laws.proofs.Members.{IsIn, each_fails, found}
-use Rattle.plane_laws.proofs.Touching.{on_turned}
+use Rattle.plane_laws.proofs.Points.Between.{IsAlong, between, in_order}
+use Rattle.plane_laws.proofs.Lists.Members.{IsIn, each_fails, found}
+use Rattle.plane_laws.proofs.Segments.Touching.{on_turned}
 use Rattle.winding_laws.specs.Windings.{wind, winding}
 use Rattle.winding_laws.proofs.Strips.{HasWinding, same_value}
 use Rattle.winding_laws.proofs.OneEdge.{turned, wind_turned, wind_above, wind_below}
@@ -92,7 +92,8 @@ beside edges k f x y sound rows there on =
     to_east d h = let a = times_zero d.x in let c = times_one d.y in omega (arith, ints, a, c, h)
 
     by_row : IsAlong f.a f.b (point x y) → same_point (point x y) f.b ≡ false
-        → winding (point (x -ℤ pos 1) y) edges -ℤ winding (point x y) edges ≡ wind (point (x -ℤ pos 1) y) f -ℤ wind (point x y) f
+        → winding (point (x -ℤ pos 1) y) edges -ℤ winding (point x y) edges
+        ≡ wind (point (x -ℤ pos 1) y) f -ℤ wind (point x y) f
         → AtRow f y → Beside k (winding (point (x -ℤ pos 1) y) edges) (winding (point x y) edges)
     by_row here short change (rises slope h l s) =
         let left = same_value edges (point x y) west (winding (point (x -ℤ pos 1) y) edges) k

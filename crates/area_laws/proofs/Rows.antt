@@ -12,9 +12,9 @@ use Rattle.plane_spec.specs.declared.Point.{Point}
 use Rattle.plane_spec.specs.Vectors.{point, orient_of}
 use Rattle.plane_spec.specs.Segments.{is_on_segment}
 use Rattle.plane_laws.specs.Enlarged.{enlarged_wall}
-use Rattle.plane_laws.proofs.Between.{high, low}
-use Rattle.plane_laws.proofs.Members.{IsIn}
-use Rattle.plane_laws.proofs.Touching.{on_by, on_turned}
+use Rattle.plane_laws.proofs.Points.Between.{high, low}
+use Rattle.plane_laws.proofs.Lists.Members.{IsIn}
+use Rattle.plane_laws.proofs.Segments.Touching.{on_by, on_turned}
 use Rattle.plane_laws.proofs.Tests.{clash}
 use Rattle.winding_laws.specs.Windings.{wind, winding, near}
 use Rattle.winding_laws.proofs.OneEdge.{turned, wind_above, wind_below, wind_turned}
@@ -136,7 +136,8 @@ west = point (neg_ℤ (pos 1)) (pos 0)
 
 rising_near : (n : ℕ) (f : Segment) (slope x y s : ℤ) → 1 < n → f.a.y <ℤ y → y <ℤ f.b.y
     → f.b.x -ℤ f.a.x ≡ slope *ℤ (f.b.y -ℤ f.a.y)
-    → wind (near n (point x y) (point s (pos 0))) (enlarged_wall n f) ≡ (if int_lt (pos n *ℤ x +ℤ s) (pos n *ℤ place_at f slope y) then pos 1 else pos 0)
+    → wind (near n (point x y) (point s (pos 0))) (enlarged_wall n f)
+    ≡ (if int_lt (pos n *ℤ x +ℤ s) (pos n *ℤ place_at f slope y) then pos 1 else pos 0)
 rising_near n f slope x y s some low high sl =
     let low_n = level_times n f.a.y y some low in
     wind_at (enlarged_wall n f) slope (near n (point x y) (point s (pos 0))) (omega (arith, ints, low_n))
@@ -286,7 +287,8 @@ free_step (f ∷ edges) x y rows off =
 pub one_step : (edges : List Segment) (f : Segment) (x y : ℤ) → Distinct edges
     → ((g : Segment) → IsIn edges g → AtRow g y) → IsIn edges f → is_on_segment (point x y) f.a f.b ≡ true
     → ((g : Segment) → IsIn edges g → (g ≡ f) ⊎ (is_on_segment (point x y) g.a g.b ≡ false))
-    → winding (point (x -ℤ pos 1) y) edges -ℤ winding (point x y) edges ≡ wind (point (x -ℤ pos 1) y) f -ℤ wind (point x y) f
+    → winding (point (x -ℤ pos 1) y) edges -ℤ winding (point x y) edges
+    ≡ wind (point (x -ℤ pos 1) y) f -ℤ wind (point x y) f
 one_step [] f x y distinct rows there on others = absurd there
 one_step (e ∷ edges) f x y distinct rows there on others =
     by_first (others e (inl refl)) there (λ later. one_step edges f x y distinct.1 (λ g h. rows g (inr h)) later on
@@ -298,7 +300,8 @@ one_step (e ∷ edges) f x y distinct rows there on others =
     not_twice same g h (inr i) = i
 
     here : e ≡ f
-        → winding (point (x -ℤ pos 1) y) (e ∷ edges) -ℤ winding (point x y) (e ∷ edges) ≡ wind (point (x -ℤ pos 1) y) f -ℤ wind (point x y) f
+        → winding (point (x -ℤ pos 1) y) (e ∷ edges) -ℤ winding (point x y) (e ∷ edges)
+        ≡ wind (point (x -ℤ pos 1) y) f -ℤ wind (point x y) f
     here same =
         let rest = free_step edges x y (λ g h. rows g (inr h)) (λ g h. not_twice same g h (others g (inr h))) in
         let first : wind (point (x -ℤ pos 1) y) e ≡ wind (point (x -ℤ pos 1) y) f = ap
@@ -308,8 +311,10 @@ one_step (e ∷ edges) f x y distinct rows there on others =
 
     by_first : (e ≡ f) ⊎ (is_on_segment (point x y) e.a e.b ≡ false) → (e ≡ f) ⊎ IsIn edges f
         → (IsIn edges f
-        → winding (point (x -ℤ pos 1) y) edges -ℤ winding (point x y) edges ≡ wind (point (x -ℤ pos 1) y) f -ℤ wind (point x y) f)
-        → winding (point (x -ℤ pos 1) y) (e ∷ edges) -ℤ winding (point x y) (e ∷ edges) ≡ wind (point (x -ℤ pos 1) y) f -ℤ wind (point x y) f
+        → winding (point (x -ℤ pos 1) y) edges -ℤ winding (point x y) edges
+        ≡ wind (point (x -ℤ pos 1) y) f -ℤ wind (point x y) f)
+        → winding (point (x -ℤ pos 1) y) (e ∷ edges) -ℤ winding (point x y) (e ∷ edges)
+        ≡ wind (point (x -ℤ pos 1) y) f -ℤ wind (point x y) f
     by_first (inl same) t again = here same
     by_first (inr off) (inl same) again = here same
     by_first (inr off) (inr later) again =

@@ -7,9 +7,9 @@ use Rattle.plane_spec.specs.declared.Segment.{Segment}
 use Rattle.plane_spec.specs.declared.Point.{Point}
 use Rattle.plane_spec.specs.Vectors.{cross_of, same_point, vector}
 use Rattle.plane_spec.specs.Cones.{corner, is_in_cone}
-use Rattle.plane_laws.proofs.Between.{IsAlong}
-use Rattle.plane_laws.proofs.Members.{IsIn, mapped}
-use Rattle.plane_laws.proofs.Directions.{cross_back}
+use Rattle.plane_laws.proofs.Points.Between.{IsAlong}
+use Rattle.plane_laws.proofs.Lists.Members.{IsIn, mapped}
+use Rattle.plane_laws.proofs.Points.Directions.{cross_back}
 use Rattle.winding_laws.proofs.OneEdge.{turned}
 use Rattle.winding_laws.proofs.Strips.{HasWinding, GoesRoundOff}
 use Rattle.winding_laws.proofs.Turned.{has_turned}

@@ -19,8 +19,8 @@ use Rattle.plane_spec.specs.declared.Point.{Point}
 use Rattle.plane_spec.specs.Vectors.{cross_of, dot_of, is_left, lies_left, orient_of, vector}
 use Rattle.plane_spec.specs.Cones.{corner, is_in_cone}
 use Rattle.exact_geom.proofs.Orientation.{orient_of_ends_exchanged}
-use Rattle.plane_laws.proofs.Heights.{along}
-use Rattle.plane_laws.proofs.Directions.{exchanged, cross_back, turn_is}
+use Rattle.plane_laws.proofs.Points.Heights.{along}
+use Rattle.plane_laws.proofs.Points.Directions.{exchanged, cross_back, turn_is}
 use Rattle.cone_laws.specs.Off.{LeadsOff}
 
 lagrange_diff : (a b c d e f g h i j k l : ℕ) →
@@ -65,7 +65,8 @@ some_way d w h =
 
 -- right of both walls where the corner turns right, and otherwise of at least one
 right_of : (b a d w : Point) → pos 0 <ℤ cross_of b w → pos 0 <ℤ cross_of a w → LeadsOff b a d
-    → (if int_lt (pos 0) (cross_of b a) then (int_lt (pos 0) (cross_of b d) && int_lt (pos 0) (cross_of a d)) else (int_lt (pos 0) (cross_of b d) || int_lt (pos 0) (cross_of a d))) ≡ false
+    → (if int_lt (pos 0) (cross_of b a) then (int_lt (pos 0) (cross_of b d) && int_lt (pos 0) (cross_of a d))
+    else (int_lt (pos 0) (cross_of b d) || int_lt (pos 0) (cross_of a d))) ≡ false
     → ((cross_of b a <ℤ pos 0) × ((cross_of b d <ℤ pos 0) × (cross_of a d <ℤ pos 0)))
     ⊎ ((pos 0 ≤ℤ cross_of b a) × ((cross_of b d <ℤ pos 0) ⊎ (cross_of a d <ℤ pos 0)))
 right_of b a d w bw aw off h =
@@ -181,7 +182,8 @@ in_turned_cone u v z d w uw zw off h =
         × ((cross_of (vector u v) d <ℤ pos 0) × (cross_of (vector v z) d <ℤ pos 0)))
         ⊎ ((pos 0 ≤ℤ cross_of (vector u v) (vector v z))
         × ((cross_of (vector u v) d <ℤ pos 0) ⊎ (cross_of (vector v z) d <ℤ pos 0)))
-        → (if lies_left z v u then (is_left (vector z v) d && is_left (vector v u) d) else (is_left (vector z v) d || is_left (vector v u) d)) ≡ true
+        → (if lies_left z v u then (is_left (vector z v) d && is_left (vector v u) d)
+        else (is_left (vector z v) d || is_left (vector v u) d)) ≡ true
     by_sides (inl k) =
         let t = turn_is u v z in let o = orient_of_ends_exchanged u v z in let s = k.0 in
         ap (λ t. if t then (is_left (vector z v) d && is_left (vector v u) d) else

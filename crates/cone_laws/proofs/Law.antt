@@ -8,7 +8,7 @@ use Rattle.plane_spec.specs.Vectors.{vector}
 use Rattle.plane_spec.specs.Polygons.{is_simple}
 use Rattle.plane_spec.specs.Cones.{corner, is_in_cone}
 use Rattle.plan_spec.specs.Scene.{walls_round, corners_round}
-use Rattle.plane_laws.proofs.Members.{IsIn, from_contains}
+use Rattle.plane_laws.proofs.Lists.Members.{IsIn, from_contains}
 use Rattle.winding_laws.specs.Windings.{GoesRoundNear}
 use Rattle.winding_laws.proofs.Strips.{HasWinding}
 use Rattle.side_laws.proofs.Sound.{SidesOf}

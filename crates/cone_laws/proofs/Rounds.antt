@@ -9,9 +9,9 @@ use Rattle.plane_spec.specs.Cones.{corner}
 use Rattle.plane_spec.specs.Polygons.{edges_to, edges_of, is_counterclockwise, is_simple}
 use Rattle.plan_spec.specs.Scene.{corners_after, last_edge, corners_along, turned_corner, turned_edge, corners_round}
 use Rattle.plan_spec.specs.Scene.{walls_round}
-use Rattle.plane_laws.proofs.Members.{IsIn, mapped, source}
+use Rattle.plane_laws.proofs.Lists.Members.{IsIn, mapped, source}
 use Rattle.plane_laws.proofs.Tests.{clash}
-use Rattle.plane_laws.proofs.Between.{on_end, same_ends, on_start}
+use Rattle.plane_laws.proofs.Points.Between.{on_end, same_ends, on_start}
 use Rattle.side_laws.proofs.Sound.{IsSound, SidesOf}
 use Rattle.side_laws.proofs.Sides.{wall}
 use Rattle.side_laws.proofs.Rights.{turned_sound}
@@ -225,7 +225,8 @@ obstacle_round points h =
     by_turn : (t : Bool) → (is_counterclockwise points ≡ true → IsSound (edges_of points) (pos 1))
         → (is_counterclockwise points ≡ false → IsSound (map turned_edge (edges_of points)) (pos 1))
         → is_counterclockwise points ≡ t
-        → IsRound points (if t then edges_of points else map turned_edge (edges_of points)) (if t then corners_along (edges_of points) else map turned_corner (corners_along (edges_of points))) (pos 1)
+        → IsRound points (if t then edges_of points else map turned_edge (edges_of points)) (if t
+        then corners_along (edges_of points) else map turned_corner (corners_along (edges_of points))) (pos 1)
     by_turn true up down e = as_they_are points (pos 1) (up e)
     by_turn false up down e = turned_about points (pos 1) (down e)
 
@@ -239,6 +240,7 @@ outer_round points h =
   where
     by_turn : (t : Bool) → (is_counterclockwise points ≡ true → IsSound (map turned_edge (edges_of points)) (pos 0))
         → (is_counterclockwise points ≡ false → IsSound (edges_of points) (pos 0)) → is_counterclockwise points ≡ t
-        → IsRound points (if not t then edges_of points else map turned_edge (edges_of points)) (if not t then corners_along (edges_of points) else map turned_corner (corners_along (edges_of points))) (pos 0)
+        → IsRound points (if not t then edges_of points else map turned_edge (edges_of points)) (if not t
+        then corners_along (edges_of points) else map turned_corner (corners_along (edges_of points))) (pos 0)
     by_turn true up down e = turned_about points (pos 0) (up e)
     by_turn false up down e = as_they_are points (pos 0) (down e)

@@ -10,10 +10,10 @@ use Rattle.plane_spec.specs.declared.Point.{Point}
 use Rattle.plane_spec.specs.Vectors.{point, same_point}
 use Rattle.plane_spec.specs.Segments.{is_between, is_on_segment, cross_properly, do_touch}
 use Rattle.plane_spec.proofs.Laws.{touching_is_symmetric}
-use Rattle.plane_laws.proofs.Between.{between, same_from_test}
+use Rattle.plane_laws.proofs.Points.Between.{between, same_from_test}
 use Rattle.plane_laws.specs.Enlarged.{enlarged}
-use Rattle.plane_laws.proofs.Scaled.{touch_scaled}
-use Rattle.plane_laws.proofs.Shared.{none_shared}
+use Rattle.plane_laws.proofs.Points.Scaled.{touch_scaled}
+use Rattle.plane_laws.proofs.Segments.Shared.{none_shared}
 
 -- an end of one that is on the other is a touch
 touch_of_third : (c s t u v : Bool) → u ≡ true → (c || ((s || t) || (u || v))) ≡ true

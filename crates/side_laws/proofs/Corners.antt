@@ -10,12 +10,13 @@ use Rattle.plane_spec.specs.declared.Segment.{Segment}
 use Rattle.plane_spec.specs.Vectors.{dot_of, vector, cross_of, orient_of, same_point}
 use Rattle.plane_spec.specs.Segments.{do_touch}
 use Rattle.exact_geom.proofs.Orientation.{orient_of_first_exchanged, orient_of_cycled}
-use Rattle.plane_laws.proofs.Between.{IsAlong, high, long, low_apart, mixed, high_apart, low, height_positive}
-use Rattle.plane_laws.proofs.Between.{height_none}
-use Rattle.plane_laws.proofs.Heights.{height, along, same_way, height_from, four}
-use Rattle.plane_laws.proofs.Directions.{exchanged, at_start, at_end, back_cross, cross_back, minus_cross, turn_is}
-use Rattle.plane_laws.proofs.Directions.{cross_none, at_both, none_cross}
-use Rattle.plane_laws.proofs.Touching.{changes, never_down, never_up}
+use Rattle.plane_laws.proofs.Points.Between.{IsAlong, high, long, low_apart, mixed, high_apart, low, height_positive}
+use Rattle.plane_laws.proofs.Points.Between.{height_none}
+use Rattle.plane_laws.proofs.Points.Heights.{height, along, same_way, height_from, four}
+use Rattle.plane_laws.proofs.Points.Directions.{exchanged, at_start, at_end, back_cross, cross_back, minus_cross}
+use Rattle.plane_laws.proofs.Points.Directions.{turn_is}
+use Rattle.plane_laws.proofs.Points.Directions.{cross_none, at_both, none_cross}
+use Rattle.plane_laws.proofs.Segments.Touching.{changes, never_down, never_up}
 use Rattle.winding_laws.proofs.Strips.{Clears, clears_left, clears_down, line_linear, clears_right, clears_up}
 use Rattle.winding_laws.proofs.Near.{linear, square, constant}
 

@@ -8,8 +8,8 @@ use Rattle.plane_spec.specs.declared.Segment.{Segment}
 use Rattle.plane_spec.specs.declared.Point.{Point}
 use Rattle.plane_spec.specs.Vectors.{cross_of, vector}
 use Rattle.plane_spec.specs.Polygons.{edges_of, crosses_nowhere, has_repeat, is_simple}
-use Rattle.plane_laws.proofs.Members.{IsIn, mapped, from_contains}
-use Rattle.plane_laws.proofs.Scaled.{scaled, scaled_wall}
+use Rattle.plane_laws.proofs.Lists.Members.{IsIn, mapped, from_contains}
+use Rattle.plane_laws.proofs.Points.Scaled.{scaled, scaled_wall}
 use Rattle.side_laws.specs.Sides.{GoesRoundOnLeft}
 use Rattle.side_laws.proofs.Sound.{IsSound}
 use Rattle.side_laws.proofs.Rights.{in_the_middle, middle, two_up, turned_sound}

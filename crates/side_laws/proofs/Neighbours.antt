@@ -5,8 +5,8 @@ use Rattle.std.proofs.Common.{ℕ, inl, refl, ap, arith, inr, subst, ◌≡◌, 
 use Rattle.plane_spec.specs.declared.Point.{Point}
 use Rattle.plane_spec.specs.declared.Segment.{Segment}
 use Rattle.plane_spec.specs.Polygons.{edges_to, edges_of}
-use Rattle.plane_laws.proofs.Numbers.{number_of, without_number}
-use Rattle.plane_laws.proofs.Members.{IsIn}
+use Rattle.plane_laws.proofs.Lists.Numbers.{number_of, without_number}
+use Rattle.plane_laws.proofs.Lists.Members.{IsIn}
 use Rattle.side_laws.proofs.Sides.{wall}
 
 -- ---- the edges before and after

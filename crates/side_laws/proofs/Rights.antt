@@ -19,11 +19,11 @@ use Rattle.plane_spec.specs.Segments.{do_touch, is_on_segment, is_between}
 use Rattle.plane_spec.specs.Vectors.{cross_of, same_point, vector, orient_of, point}
 use Rattle.exact_geom.proofs.Orientation.{orient_of_first_exchanged}
 use Rattle.plane_laws.specs.Enlarged.{enlarged, enlarged_wall}
-use Rattle.plane_laws.proofs.Touching.{touch_swapped}
-use Rattle.plane_laws.proofs.Between.{IsAlong, apart_back}
-use Rattle.plane_laws.proofs.Members.{IsIn, source, mapped}
-use Rattle.plane_laws.proofs.Directions.{at_both, exchanged, minus_cross, none_cross}
-use Rattle.plane_laws.proofs.Scaled.{scaled, scaled_wall, cross_scaled}
+use Rattle.plane_laws.proofs.Segments.Touching.{touch_swapped}
+use Rattle.plane_laws.proofs.Points.Between.{IsAlong, apart_back}
+use Rattle.plane_laws.proofs.Lists.Members.{IsIn, source, mapped}
+use Rattle.plane_laws.proofs.Points.Directions.{at_both, exchanged, minus_cross, none_cross}
+use Rattle.plane_laws.proofs.Points.Scaled.{scaled, scaled_wall, cross_scaled}
 use Rattle.winding_laws.specs.Windings.{strip, winding, near}
 use Rattle.winding_laws.proofs.Strips.{Clears, HasWinding, carried, line_linear, line_positive, side_positive}
 use Rattle.winding_laws.proofs.Strips.{clears_far, closed_enlarged, same_value}
@@ -94,7 +94,8 @@ one_crossed image p q (e ∷ edges) f distinct there differs others =
     only same g h (inr b) = b
 
     here : e ≡ f
-        → winding p (map image (e ∷ edges)) -ℤ winding q (map image (e ∷ edges)) ≡ rises_along (strip p q) (map image (e ∷ edges)) +ℤ pos 1
+        → winding p (map image (e ∷ edges)) -ℤ winding q (map image (e ∷ edges))
+        ≡ rises_along (strip p q) (map image (e ∷ edges)) +ℤ pos 1
     here same =
         let rest = all_balanced edges (λ g h. only same g h (others g (inr h))) in
         let own : Differs p q (image e) (pos 1) = subst (λ t. Differs p q (image t) (pos 1)) (sym same) differs in
@@ -102,8 +103,10 @@ one_crossed image p q (e ∷ edges) f distinct there differs others =
 
     by_first : (e ≡ f) ⊎ Balanced p q (image e) → (e ≡ f) ⊎ IsIn edges f
         → (IsIn edges f
-        → winding p (map image edges) -ℤ winding q (map image edges) ≡ rises_along (strip p q) (map image edges) +ℤ pos 1)
-        → winding p (map image (e ∷ edges)) -ℤ winding q (map image (e ∷ edges)) ≡ rises_along (strip p q) (map image (e ∷ edges)) +ℤ pos 1
+        → winding p (map image edges) -ℤ winding q (map image edges)
+        ≡ rises_along (strip p q) (map image edges) +ℤ pos 1)
+        → winding p (map image (e ∷ edges)) -ℤ winding q (map image (e ∷ edges))
+        ≡ rises_along (strip p q) (map image (e ∷ edges)) +ℤ pos 1
     by_first (inl same) t again = here same
     by_first (inr b) (inl same) again = here same
     by_first (inr b) (inr later) again = let rest = again later in omega (arith, ints, rest, b)

@@ -9,8 +9,8 @@ use Rattle.plane_spec.specs.declared.Point.{Point}
 use Rattle.plane_spec.specs.declared.Segment.{Segment}
 use Rattle.plane_spec.specs.Vectors.{cross_of, vector, point, same_point}
 use Rattle.plane_spec.specs.Segments.{is_on_segment, do_touch}
-use Rattle.plane_laws.proofs.Scaled.{cross_scaled, scaled, on_scaled, scaled_wall, touch_scaled, same_scaled}
-use Rattle.plane_laws.proofs.Members.{source, IsIn, mapped}
+use Rattle.plane_laws.proofs.Points.Scaled.{cross_scaled, scaled, on_scaled, scaled_wall, touch_scaled, same_scaled}
+use Rattle.plane_laws.proofs.Lists.Members.{source, IsIn, mapped}
 use Rattle.winding_laws.proofs.Closed.{AreClosed}
 use Rattle.winding_laws.proofs.Scaled.{has_scaled, rises_scaled}
 use Rattle.side_laws.proofs.Sides.{Inward, IsCornerOf, wall, KeepsApart, side_at}

@@ -25,10 +25,10 @@ use Rattle.plane_spec.specs.Segments.{is_on_segment, do_touch, is_between}
 use Rattle.plane_spec.specs.Cones.{corner, is_in_cone}
 use Rattle.exact_geom.proofs.Orientation.{orient_of_cycled}
 use Rattle.plane_laws.proofs.Tests.{clash}
-use Rattle.plane_laws.proofs.Directions.{exchanged, some_square, turn_is, cross_itself, minus_right, at_end}
-use Rattle.plane_laws.proofs.Touching.{on_by}
-use Rattle.plane_laws.proofs.Members.{IsIn}
-use Rattle.plane_laws.proofs.Between.{IsAlong, apart_back}
+use Rattle.plane_laws.proofs.Points.Directions.{exchanged, some_square, turn_is, cross_itself, minus_right, at_end}
+use Rattle.plane_laws.proofs.Segments.Touching.{on_by}
+use Rattle.plane_laws.proofs.Lists.Members.{IsIn}
+use Rattle.plane_laws.proofs.Points.Between.{IsAlong, apart_back}
 use Rattle.winding_laws.proofs.Strips.{HasWinding, GoesRoundOff, Clears, carried, clears_far}
 use Rattle.winding_laws.proofs.Closed.{AreClosed}
 use Rattle.side_laws.proofs.Corners.{turns_after, turns_before, clears_after, clears_before, clears_other, clears_own}
@@ -89,12 +89,14 @@ straight_on u v z apart straight u_off z_off =
 
     near_x : (u v z : Point)
         → dot_of (vector u v) (vector u v) *ℤ (z.x -ℤ v.x) ≡ dot_of (vector u v) (vector v z) *ℤ (v.x -ℤ u.x)
-        → dot_of (vector u v) (vector u v) *ℤ (z.x -ℤ u.x) ≡ (dot_of (vector u v) (vector u v) +ℤ dot_of (vector u v) (vector v z)) *ℤ (v.x -ℤ u.x)
+        → dot_of (vector u v) (vector u v) *ℤ (z.x -ℤ u.x)
+        ≡ (dot_of (vector u v) (vector u v) +ℤ dot_of (vector u v) (vector v z)) *ℤ (v.x -ℤ u.x)
     near_x u v z e = near_by_parts (dot_of (vector u v) (vector u v)) (dot_of (vector u v) (vector v z)) u.x v.x z.x e
 
     near_y : (u v z : Point)
         → dot_of (vector u v) (vector u v) *ℤ (z.y -ℤ v.y) ≡ dot_of (vector u v) (vector v z) *ℤ (v.y -ℤ u.y)
-        → dot_of (vector u v) (vector u v) *ℤ (z.y -ℤ u.y) ≡ (dot_of (vector u v) (vector u v) +ℤ dot_of (vector u v) (vector v z)) *ℤ (v.y -ℤ u.y)
+        → dot_of (vector u v) (vector u v) *ℤ (z.y -ℤ u.y)
+        ≡ (dot_of (vector u v) (vector u v) +ℤ dot_of (vector u v) (vector v z)) *ℤ (v.y -ℤ u.y)
     near_y u v z e = near_by_parts (dot_of (vector u v) (vector u v)) (dot_of (vector u v) (vector v z)) u.y v.y z.y e
 
     far_by : (k d u v z : ℤ) → k *ℤ (z -ℤ v) ≡ d *ℤ (v -ℤ u) → neg_ℤ d *ℤ (u -ℤ v) ≡ k *ℤ (z -ℤ v)
@@ -310,7 +312,8 @@ unfolding is_in_cone
 side_cone edges u v z e k closed c side h = by_turn (lies_left u v z) refl h
   where
     by_turn : (t : Bool) → lies_left u v z ≡ t
-        → (if t then (is_left (vector u v) e && is_left (vector v z) e) else (is_left (vector u v) e || is_left (vector v z) e)) ≡ true → GoesRoundOff edges v e k
+        → (if t then (is_left (vector u v) e && is_left (vector v z) e)
+        else (is_left (vector u v) e || is_left (vector v z) e)) ≡ true → GoesRoundOff edges v e k
     by_turn true turn k =
         let parts = and_parts (is_left (vector u v) e) (is_left (vector v z) e) k in
         side e (tested_positive (cross_of (vector u v) e) parts.0) (tested_positive (cross_of (vector v z) e) parts.1)

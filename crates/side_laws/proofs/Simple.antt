@@ -13,10 +13,10 @@ use Rattle.plane_spec.specs.Polygons.{edges_touch, edges_to, crosses_nowhere, ha
 use Rattle.plane_spec.specs.Polygons.{folds_back, is_nothing}
 use Rattle.plane_spec.specs.Lists.{numbered_pairs, pairs, with_each}
 use Rattle.plane_spec.specs.Vectors.{same_point}
-use Rattle.plane_laws.proofs.Members.{IsIn, each_passes, each_fails, in_left, in_right, mapped}
-use Rattle.plane_laws.proofs.Numbers.{two_edges, one_edge, number_of, without_number}
+use Rattle.plane_laws.proofs.Lists.Members.{IsIn, each_passes, each_fails, in_left, in_right, mapped}
+use Rattle.plane_laws.proofs.Lists.Numbers.{two_edges, one_edge, number_of, without_number}
 use Rattle.plane_laws.proofs.Tests.{clash}
-use Rattle.plane_laws.proofs.Between.{on_end, on_start}
+use Rattle.plane_laws.proofs.Points.Between.{on_end, on_start}
 use Rattle.plane_spec.proofs.Laws.{touching_is_symmetric}
 use Rattle.winding_laws.proofs.Closed.{polygon_closes}
 use Rattle.winding_laws.proofs.Settles.{some_winding}

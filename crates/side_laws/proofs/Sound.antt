@@ -12,12 +12,13 @@ use Rattle.plane_spec.specs.declared.Point.{Point}
 use Rattle.plane_spec.specs.Vectors.{same_point, dot_of, vector, point, cross_of}
 use Rattle.plane_spec.specs.Segments.{is_on_segment}
 use Rattle.exact_geom.proofs.Orientation.{orient_of_first_exchanged}
-use Rattle.plane_laws.proofs.Members.{IsIn}
-use Rattle.plane_laws.proofs.Between.{IsBetween, high, low, mixed, IsAlong, between, high_apart, long, on_again}
-use Rattle.plane_laws.proofs.Between.{weak_mean}
-use Rattle.plane_laws.proofs.Heights.{height}
-use Rattle.plane_laws.proofs.Directions.{some_square, back_cross, cross_none, exchanged}
-use Rattle.plane_laws.proofs.Shared.{none_shared}
+use Rattle.plane_laws.proofs.Lists.Members.{IsIn}
+use Rattle.plane_laws.proofs.Points.Between.{IsBetween, high, low, mixed, IsAlong, between, high_apart, long}
+use Rattle.plane_laws.proofs.Points.Between.{on_again}
+use Rattle.plane_laws.proofs.Points.Between.{weak_mean}
+use Rattle.plane_laws.proofs.Points.Heights.{height}
+use Rattle.plane_laws.proofs.Points.Directions.{some_square, back_cross, cross_none, exchanged}
+use Rattle.plane_laws.proofs.Segments.Shared.{none_shared}
 use Rattle.winding_laws.proofs.Closed.{AreClosed}
 use Rattle.winding_laws.proofs.OneEdge.{turned}
 use Rattle.side_laws.proofs.Sides.{IsCornerOf, KeepsApart, SideAt, wall, Inward}

@@ -12,10 +12,10 @@ use Rattle.plane_spec.specs.declared.Segment.{Segment}
 use Rattle.plane_spec.specs.declared.Point.{Point}
 use Rattle.plane_spec.specs.Vectors.{cross_of, vector}
 use Rattle.plane_spec.specs.Polygons.{edges_of, edges_to}
-use Rattle.plane_laws.proofs.Members.{IsIn, each_fails, found}
-use Rattle.plane_laws.proofs.Numbers.{without_number, number_of, one_edge}
+use Rattle.plane_laws.proofs.Lists.Members.{IsIn, each_fails, found}
+use Rattle.plane_laws.proofs.Lists.Numbers.{without_number, number_of, one_edge}
 use Rattle.plane_laws.proofs.Tests.{clash}
-use Rattle.plane_laws.proofs.Directions.{some_square}
+use Rattle.plane_laws.proofs.Points.Directions.{some_square}
 use Rattle.winding_laws.proofs.Closed.{rises_along, polygon_closes}
 use Rattle.side_laws.proofs.Neighbours.{IsNumbered, before_edge, starts}
 use Rattle.side_laws.proofs.Simple.{IsSimple, corner_of, real, true_if_not}

@@ -8,9 +8,9 @@ use Rattle.plane_spec.specs.declared.Segment.{Segment}
 use Rattle.plane_spec.specs.Vectors.{point, cross_of, vector, same_point}
 use Rattle.plane_spec.specs.Segments.{is_on_segment, do_touch, is_between}
 use Rattle.exact_geom.proofs.Orientation.{orient_of_first_exchanged}
-use Rattle.plane_laws.proofs.Touching.{on_either, touch_swapped, touch_turned}
-use Rattle.plane_laws.proofs.Members.{source, IsIn}
-use Rattle.plane_laws.proofs.Between.{IsAlong}
+use Rattle.plane_laws.proofs.Segments.Touching.{on_either, touch_swapped, touch_turned}
+use Rattle.plane_laws.proofs.Lists.Members.{source, IsIn}
+use Rattle.plane_laws.proofs.Points.Between.{IsAlong}
 use Rattle.winding_laws.proofs.OneEdge.{turned}
 use Rattle.side_laws.proofs.Sides.{IsCornerOf, wall, KeepsApart}
 use Rattle.side_laws.proofs.Sound.{Distinct}

@@ -13,11 +13,11 @@ use Rattle.plane_spec.specs.declared.Segment.{Segment}
 use Rattle.plane_spec.specs.Vectors.{vector, cross_of, orient_of}
 use Rattle.plane_spec.specs.Segments.{do_touch}
 use Rattle.plane_laws.specs.Enlarged.{enlarged, enlarged_wall}
-use Rattle.plane_laws.proofs.Members.{IsIn, source}
-use Rattle.plane_laws.proofs.Heights.{height, height_from}
-use Rattle.plane_laws.proofs.Directions.{turn_is}
-use Rattle.plane_laws.proofs.Apart.{free_left}
-use Rattle.plane_laws.proofs.Scaled.{orient_scaled}
+use Rattle.plane_laws.proofs.Lists.Members.{IsIn, source}
+use Rattle.plane_laws.proofs.Points.Heights.{height, height_from}
+use Rattle.plane_laws.proofs.Points.Directions.{turn_is}
+use Rattle.plane_laws.proofs.Segments.Apart.{free_left}
+use Rattle.plane_laws.proofs.Points.Scaled.{orient_scaled}
 use Rattle.winding_laws.specs.Windings.{winding, near}
 use Rattle.winding_laws.proofs.Closed.{same_winding}
 use Rattle.winding_laws.proofs.Near.{value_at}

@@ -16,9 +16,9 @@ use Rattle.plane_spec.specs.Cones.{corner, is_in_cone}
 use Rattle.plan_spec.specs.Scene.{turned_edge, turned_corner, walls_round, corners_round, corners_along}
 use Rattle.plan_spec.specs.Sight.{is_on_middle, leaves_wall, corner_stops, is_blocked}
 use Rattle.exact_geom.proofs.Orientation.{orient_of_first_exchanged}
-use Rattle.plane_laws.proofs.Members.{IsIn, source, mapped}
-use Rattle.plane_laws.proofs.Directions.{turn_is}
-use Rattle.plane_laws.proofs.Apart.{Crossing, rises, falls, crossing}
+use Rattle.plane_laws.proofs.Lists.Members.{IsIn, source, mapped}
+use Rattle.plane_laws.proofs.Points.Directions.{turn_is}
+use Rattle.plane_laws.proofs.Segments.Apart.{Crossing, rises, falls, crossing}
 use Rattle.cone_laws.proofs.Rounds.{CornerOf, all_corners, turned_from}
 use Rattle.polygon_laws.specs.Alone.{outer_alone}
 use Rattle.polygon_laws.proofs.Blocked.{InTheWay, crossed, left_behind, stopped}
@@ -48,7 +48,8 @@ unfolding walls_round corners_round
 corner_between points c there = by_turn (is_counterclockwise points) there
   where
     by_turn : (t : Bool)
-        → IsIn (if not t then corners_along (edges_of points) else map turned_corner (corners_along (edges_of points))) c
+        → IsIn (if not t then corners_along (edges_of points)
+        else map turned_corner (corners_along (edges_of points))) c
         → CornerOf (if not t then edges_of points else map turned_edge (edges_of points)) c
     by_turn true k =
         let o = source turned_corner (corners_along (edges_of points)) c k in
@@ -62,7 +63,8 @@ unfolding is_in_cone
 left_of_one u v z d h = by_turn (lies_left u v z) h
   where
     by_turn : (t : Bool)
-        → (if t then (is_left (vector u v) d && is_left (vector v z) d) else (is_left (vector u v) d || is_left (vector v z) d)) ≡ true
+        → (if t then (is_left (vector u v) d && is_left (vector v z) d)
+        else (is_left (vector u v) d || is_left (vector v z) d)) ≡ true
         → (pos 0 <ℤ cross_of (vector u v) d) ⊎ (pos 0 <ℤ cross_of (vector v z) d)
     by_turn true k =
         inl (tested_positive (cross_of (vector u v) d)

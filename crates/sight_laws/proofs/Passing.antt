@@ -25,14 +25,14 @@ use Rattle.plan_spec.specs.Sight.{is_blocked}
 use Rattle.plan_laws.proofs.Lists.{list_any_agree}
 use Rattle.plane_laws.specs.Enlarged.{enlarged, part_way}
 use Rattle.plane_laws.proofs.Tests.{clash}
-use Rattle.plane_laws.proofs.Members.{IsIn, source, mapped}
-use Rattle.plane_laws.proofs.Directions.{cross_none}
+use Rattle.plane_laws.proofs.Lists.Members.{IsIn, source, mapped}
+use Rattle.plane_laws.proofs.Points.Directions.{cross_none}
 use Rattle.exact_geom.proofs.Orientation.{orient_of_first_exchanged}
-use Rattle.plane_laws.proofs.Heights.{height, height_from}
-use Rattle.plane_laws.proofs.Between.{between, same_from_test, apart_back}
-use Rattle.plane_laws.proofs.Touching.{opposite_swapped, opposite_negated}
-use Rattle.plane_laws.proofs.Apart.{Crossing, rises, falls, crossing}
-use Rattle.plane_laws.proofs.Scaled.{scaled_wall}
+use Rattle.plane_laws.proofs.Points.Heights.{height, height_from}
+use Rattle.plane_laws.proofs.Points.Between.{between, same_from_test, apart_back}
+use Rattle.plane_laws.proofs.Segments.Touching.{opposite_swapped, opposite_negated}
+use Rattle.plane_laws.proofs.Segments.Apart.{Crossing, rises, falls, crossing}
+use Rattle.plane_laws.proofs.Points.Scaled.{scaled_wall}
 use Rattle.walk_laws.proofs.Walk.{height_of_step}
 use Rattle.polygon_laws.specs.Alone.{obstacle_alone}
 use Rattle.polygon_laws.specs.Through.{PassesInside}

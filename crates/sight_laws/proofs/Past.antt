@@ -16,7 +16,7 @@ use Rattle.plan_spec.specs.Scene.{scene_of, walls_round, corners_round, walls_of
 use Rattle.plan_spec.specs.Sight.{crosses, is_blocked, are_in_sight, is_open}
 use Rattle.plane_laws.specs.Enlarged.{part_way}
 use Rattle.plane_laws.proofs.Tests.{clash}
-use Rattle.plane_laws.proofs.Members.{IsIn, each_passes, each_fails, mapped, source, from_contains, to_contains}
+use Rattle.plane_laws.proofs.Lists.Members.{IsIn, each_passes, each_fails, mapped, source, from_contains, to_contains}
 use Rattle.polygon_laws.specs.Alone.{obstacle_alone, outer_alone}
 use Rattle.polygon_laws.specs.Through.{PassesOutside, SeesOver, enlarged_obstacle, enlarged_plan}
 use Rattle.polygon_laws.proofs.Blocked.{InTheWay}

@@ -12,11 +12,11 @@ use Rattle.plane_spec.specs.Polygons.{is_nothing, is_counterclockwise}
 use Rattle.plan_spec.specs.Scene.{turned_edge, walls_round}
 use Rattle.plane_laws.specs.Enlarged.{enlarged}
 use Rattle.plane_laws.proofs.Tests.{clash}
-use Rattle.plane_laws.proofs.Members.{IsIn, Found, found, each_fails, source, mapped}
-use Rattle.plane_laws.proofs.Numbers.{without_number}
-use Rattle.plane_laws.proofs.Heights.{height}
-use Rattle.plane_laws.proofs.Between.{between, weak_mean, apart_back}
-use Rattle.plane_laws.proofs.Scaled.{large, scaled_wall, same_scaled}
+use Rattle.plane_laws.proofs.Lists.Members.{IsIn, Found, found, each_fails, source, mapped}
+use Rattle.plane_laws.proofs.Lists.Numbers.{without_number}
+use Rattle.plane_laws.proofs.Points.Heights.{height}
+use Rattle.plane_laws.proofs.Points.Between.{between, weak_mean, apart_back}
+use Rattle.plane_laws.proofs.Points.Scaled.{large, scaled_wall, same_scaled}
 use Rattle.winding_laws.proofs.Parity.{is_odd, even_where_none, odd_where_once}
 use Rattle.winding_laws.proofs.Closed.{AreClosed, polygon_closes}
 use Rattle.winding_laws.proofs.Turned.{closed_turned}

@@ -14,10 +14,10 @@ use Rattle.plane_spec.specs.declared.Point.{Point}
 use Rattle.plane_spec.specs.declared.Segment.{Segment}
 use Rattle.plane_spec.specs.Vectors.{point, vector, cross_of, same_point}
 use Rattle.plane_spec.specs.Segments.{is_on_segment}
-use Rattle.plane_laws.proofs.Members.{IsIn}
-use Rattle.plane_laws.proofs.Heights.{height, height_from}
-use Rattle.plane_laws.proofs.Directions.{some_square}
-use Rattle.plane_laws.proofs.Separated.{separated}
+use Rattle.plane_laws.proofs.Lists.Members.{IsIn}
+use Rattle.plane_laws.proofs.Points.Heights.{height, height_from}
+use Rattle.plane_laws.proofs.Points.Directions.{some_square}
+use Rattle.plane_laws.proofs.Segments.Separated.{separated}
 use Rattle.winding_laws.specs.Windings.{winding, wind}
 use Rattle.winding_laws.proofs.Closed.{AreClosed, same_winding}
 use Rattle.winding_laws.proofs.Near.{Eventually, eventually_both, eventually_then, eventually_all, linear, value_at}

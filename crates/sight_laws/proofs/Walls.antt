@@ -11,9 +11,9 @@ use Rattle.plane_spec.specs.Vectors.{orient_of, lies_left}
 use Rattle.plane_spec.specs.Polygons.{edges_of, doubled_area, is_counterclockwise}
 use Rattle.plan_spec.specs.Scene.{turned_edge, walls_round}
 use Rattle.plane_laws.specs.Enlarged.{enlarged}
-use Rattle.plane_laws.proofs.Members.{IsIn, each_passes, all_pass, source, mapped}
-use Rattle.plane_laws.proofs.Heights.{height}
-use Rattle.plane_laws.proofs.Scaled.{large, scaled_wall, orient_scaled}
+use Rattle.plane_laws.proofs.Lists.Members.{IsIn, each_passes, all_pass, source, mapped}
+use Rattle.plane_laws.proofs.Points.Heights.{height}
+use Rattle.plane_laws.proofs.Points.Scaled.{large, scaled_wall, orient_scaled}
 use Rattle.side_laws.proofs.Sides.{wall}
 use Rattle.side_laws.proofs.Neighbours.{next_edge, edge_before}
 use Rattle.area_laws.proofs.Grid.{area_scaled}

@@ -6,10 +6,10 @@ use Rattle.int_laws.proofs.Ring.{dot_times, dot_times_across, product_swapped, t
 use Rattle.plane_spec.specs.declared.Point.{Point}
 use Rattle.plane_spec.specs.Vectors.{cross_of, dot_of, same_point, vector}
 use Rattle.plane_spec.specs.Segments.{is_on_segment, is_between}
-use Rattle.plane_laws.proofs.Directions.{exchanged, some_square}
-use Rattle.plane_laws.proofs.Touching.{on_by}
-use Rattle.plane_laws.proofs.Between.{on_end, between, on_again}
-use Rattle.plane_laws.proofs.Heights.{height_from}
+use Rattle.plane_laws.proofs.Points.Directions.{exchanged, some_square}
+use Rattle.plane_laws.proofs.Segments.Touching.{on_by}
+use Rattle.plane_laws.proofs.Points.Between.{on_end, between, on_again}
+use Rattle.plane_laws.proofs.Points.Heights.{height_from}
 
 -- from v, in line with the wall to z and not back: y is on the wall, or z is on the way to y
 pub along_wall : (v z y : Point) → same_point v z ≡ false → cross_of (vector v z) (vector v y) ≡ pos 0

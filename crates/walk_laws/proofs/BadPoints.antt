@@ -10,8 +10,8 @@ use Rattle.plane_spec.specs.Vectors.{vector, point}
 use Rattle.plane_spec.specs.Polygons.{is_on_edge}
 use Rattle.plane_spec.specs.Segments.{is_on_segment}
 use Rattle.plane_laws.specs.Enlarged.{part_way, enlarged}
-use Rattle.plane_laws.proofs.Scaled.{large, scaled_wall}
-use Rattle.plane_laws.proofs.Members.{IsIn, each_fails, found, mapped, source}
+use Rattle.plane_laws.proofs.Points.Scaled.{large, scaled_wall}
+use Rattle.plane_laws.proofs.Lists.Members.{IsIn, each_fails, found, mapped, source}
 use Rattle.winding_laws.specs.Windings.{winding}
 use Rattle.winding_laws.proofs.Strips.{HasWinding}
 use Rattle.side_laws.proofs.Sound.{IsSound}

@@ -7,7 +7,7 @@ use Rattle.int_laws.proofs.Signs.{positive_product}
 use Rattle.plane_spec.specs.declared.Point.{Point}
 use Rattle.plane_spec.specs.declared.Segment.{Segment}
 use Rattle.plane_spec.specs.Vectors.{cross_of, vector}
-use Rattle.plane_laws.proofs.Members.{IsIn}
+use Rattle.plane_laws.proofs.Lists.Members.{IsIn}
 use Rattle.walk_laws.proofs.Walk.{Divides, IsFine}
 
 -- a positive multiple

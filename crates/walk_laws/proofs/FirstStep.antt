@@ -11,9 +11,9 @@ use Rattle.plane_spec.specs.Vectors.{point, same_point, vector}
 use Rattle.plane_spec.specs.Segments.{do_touch, is_on_segment}
 use Rattle.plane_laws.specs.Enlarged.{enlarged, enlarged_wall, part_way}
 use Rattle.plane_laws.proofs.Tests.{clash}
-use Rattle.plane_laws.proofs.Between.{on_end, on_start}
-use Rattle.plane_laws.proofs.Scaled.{same_scaled}
-use Rattle.plane_laws.proofs.Members.{IsIn, source}
+use Rattle.plane_laws.proofs.Points.Between.{on_end, on_start}
+use Rattle.plane_laws.proofs.Points.Scaled.{same_scaled}
+use Rattle.plane_laws.proofs.Lists.Members.{IsIn, source}
 use Rattle.winding_laws.specs.Windings.{winding, near}
 use Rattle.winding_laws.proofs.Scaled.{wind_scaled}
 use Rattle.winding_laws.proofs.Closed.{AreClosed, same_winding}
@@ -103,7 +103,8 @@ pub kept : (edges : List Segment) → AreClosed edges → (n j : ℕ) (p q : Poi
     → ((f : Segment) → IsIn edges f → is_on_segment (part_way j n p q) (enlarged n f.a) (enlarged n f.b) ≡ false)
     → ((f : Segment) → IsIn edges f
     → is_on_segment (part_way (j + 1) n p q) (enlarged n f.a) (enlarged n f.b) ≡ false)
-    → winding (part_way j n p q) (map (enlarged_wall n) edges) ≡ winding (part_way (j + 1) n p q) (map (enlarged_wall n) edges)
+    → winding (part_way j n p q) (map (enlarged_wall n) edges)
+    ≡ winding (part_way (j + 1) n p q) (map (enlarged_wall n) edges)
 kept edges closed n j p q fine off off_too =
     same_winding (part_way j n p q) (part_way (j + 1) n p q) (map (enlarged_wall n) edges)
     (closed_enlarged n edges closed)

@@ -14,12 +14,12 @@ use Rattle.plane_spec.specs.declared.Segment.{Segment}
 use Rattle.plane_spec.specs.Cones.{corner, is_in_cone}
 use Rattle.plane_spec.specs.Vectors.{cross_of, same_point, vector, point, dot_of}
 use Rattle.plane_spec.specs.Segments.{is_on_segment}
-use Rattle.plane_laws.proofs.Between.{IsAlong, IsBetween, between, high, on_again, same_from_test}
-use Rattle.plane_laws.proofs.Members.{IsIn}
+use Rattle.plane_laws.proofs.Points.Between.{IsAlong, IsBetween, between, high, on_again, same_from_test}
+use Rattle.plane_laws.proofs.Lists.Members.{IsIn}
 use Rattle.plane_laws.proofs.Tests.{clash}
-use Rattle.plane_laws.proofs.Directions.{cross_back, at_end, back_cross, exchanged, some_square}
-use Rattle.plane_laws.proofs.Touching.{on_turned}
-use Rattle.plane_laws.proofs.Heights.{along, height_from}
+use Rattle.plane_laws.proofs.Points.Directions.{cross_back, at_end, back_cross, exchanged, some_square}
+use Rattle.plane_laws.proofs.Segments.Touching.{on_turned}
+use Rattle.plane_laws.proofs.Points.Heights.{along, height_from}
 use Rattle.winding_laws.proofs.Strips.{HasWinding, same_value}
 use Rattle.side_laws.proofs.Sound.{IsSound, SidesOf}
 use Rattle.side_laws.proofs.Sides.{wall}

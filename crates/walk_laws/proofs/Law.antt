@@ -9,11 +9,11 @@ use Rattle.plane_spec.specs.declared.Segment.{Segment}
 use Rattle.plane_spec.specs.Vectors.{same_point}
 use Rattle.plane_laws.specs.Enlarged.{part_way}
 use Rattle.plane_laws.proofs.Tests.{clash}
-use Rattle.plane_laws.proofs.Members.{from_contains}
+use Rattle.plane_laws.proofs.Lists.Members.{from_contains}
 use Rattle.walk_laws.specs.Steps.{MeetsAtEnds}
 use Rattle.walk_laws.proofs.Walk.{met_at_ends}
 use Rattle.walk_laws.proofs.Fine.{FineSteps, fine_steps}
-use Rattle.plane_laws.proofs.Between.{apart_from}
+use Rattle.plane_laws.proofs.Points.Between.{apart_from}
 
 pub steps_meet_at_ends : (edges : List Segment) (p q : Point) → same_point p q ≡ false
     → (n : ℕ) × (0 < n) × ((i : ℕ) (e : Segment) → Contains edges e → MeetsAtEnds n i p q e)

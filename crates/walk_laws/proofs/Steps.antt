@@ -14,13 +14,13 @@ use Rattle.plane_spec.specs.Segments.{is_between, do_touch, is_on_segment}
 use Rattle.plane_spec.specs.Vectors.{same_point, cross_of, dot_of, orient_of, point, vector}
 use Rattle.exact_geom.proofs.Orientation.{orient_of_first_exchanged}
 use Rattle.plane_laws.specs.Enlarged.{enlarged}
-use Rattle.plane_laws.proofs.Apart.{AreBefore, free_east, free_north, free_south, free_west}
+use Rattle.plane_laws.proofs.Segments.Apart.{AreBefore, free_east, free_north, free_south, free_west}
 use Rattle.plane_laws.proofs.Tests.{clash}
-use Rattle.plane_laws.proofs.Heights.{along, height_from}
-use Rattle.plane_laws.proofs.Directions.{at_end, back_cross, cross_back, exchanged, some_square}
-use Rattle.plane_laws.proofs.Between.{between}
-use Rattle.plane_laws.proofs.Touching.{changes, never_down, never_up}
-use Rattle.plane_laws.proofs.Shared.{on_line_x, on_line_y}
+use Rattle.plane_laws.proofs.Points.Heights.{along, height_from}
+use Rattle.plane_laws.proofs.Points.Directions.{at_end, back_cross, cross_back, exchanged, some_square}
+use Rattle.plane_laws.proofs.Points.Between.{between}
+use Rattle.plane_laws.proofs.Segments.Touching.{changes, never_down, never_up}
+use Rattle.plane_laws.proofs.Segments.Shared.{on_line_x, on_line_y}
 use Rattle.winding_laws.proofs.Near.{Eventually, eventually_then, linear, square}
 use Rattle.winding_laws.proofs.Strips.{Clears, clears_down, clears_left, clears_right, clears_up}
 use Rattle.walk_laws.proofs.Walk.{zero_by}

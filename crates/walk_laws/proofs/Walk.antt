@@ -20,8 +20,8 @@ use Rattle.plane_spec.specs.declared.Segment.{Segment}
 use Rattle.plane_spec.specs.Segments.{are_opposite, is_between, is_on_segment, cross_properly, do_touch}
 use Rattle.plane_spec.specs.Vectors.{cross_of, vector, orient_of, point}
 use Rattle.plane_laws.specs.Enlarged.{enlarged, part_way}
-use Rattle.plane_laws.proofs.Between.{in_order, IsBetween, between, on_end, on_start}
-use Rattle.plane_laws.proofs.Scaled.{opposite_scaled}
+use Rattle.plane_laws.proofs.Points.Between.{in_order, IsBetween, between, on_end, on_start}
+use Rattle.plane_laws.proofs.Points.Scaled.{opposite_scaled}
 use Rattle.plane_laws.proofs.Tests.{clash}
 use Rattle.winding_laws.proofs.Strips.{side_near}
 

@@ -11,8 +11,8 @@ use Rattle.plane_spec.specs.declared.Segment.{Segment}
 use Rattle.plane_spec.specs.Vectors.{cross_of, orient_of, vector}
 use Rattle.plane_spec.specs.Segments.{do_touch}
 use Rattle.exact_geom.proofs.Orientation.{orient_of_first_exchanged}
-use Rattle.plane_laws.proofs.Heights.{height_from}
-use Rattle.plane_laws.proofs.Touching.{line_y, never_down, changes, never_up, touch_turned, touch_swapped}
+use Rattle.plane_laws.proofs.Points.Heights.{height_from}
+use Rattle.plane_laws.proofs.Segments.Touching.{line_y, never_down, changes, never_up, touch_turned, touch_swapped}
 use Rattle.winding_laws.specs.Windings.{wind, strip}
 
 -- ---- three products that add up to nothing
@@ -340,7 +340,9 @@ wind_by low low_too left right =
     (if low_too && right then neg_ℤ (pos 1) else pos 0)
 
 pub wind_is : (x : Point) (e : Segment)
-    → wind x e ≡ wind_by (int_le e.a.y x.y) (int_le e.b.y x.y) (int_lt (pos 0) (orient_of e.a e.b x)) (int_lt (orient_of e.a e.b x) (pos 0))
+    → wind x e
+    ≡ wind_by (int_le e.a.y x.y) (int_le e.b.y x.y) (int_lt (pos 0) (orient_of e.a e.b x))
+    (int_lt (orient_of e.a e.b x) (pos 0))
 unfolding wind wind_by
 wind_is x e = rw (less_is x.y e.b.y) refl
 
@@ -373,7 +375,8 @@ strip_by low low_too left right =
     (if low_too then (if right then pos 1 else pos 0) else pos 0)
 
 strip_is : (p q v : Point)
-    → strip p q v ≡ strip_by (int_le v.y p.y) (int_le v.y q.y) (int_lt (pos 0) (orient_of p q v)) (int_lt (orient_of p q v) (pos 0))
+    → strip p q v
+    ≡ strip_by (int_le v.y p.y) (int_le v.y q.y) (int_lt (pos 0) (orient_of p q v)) (int_lt (orient_of p q v) (pos 0))
 unfolding strip strip_by
 strip_is p q v = refl
 

@@ -45,7 +45,8 @@ parity x [] = record { half = pos 0; is = refl }
 parity x (e ∷ edges) = step (adds x e) (parity x edges)
   where
     counted : (t : Bool) → passes_right x e ≡ t
-        → count_by (passes_right x) (e ∷ edges) ≡ (if t then 1 + count_by (passes_right x) edges else count_by (passes_right x) edges)
+        → count_by (passes_right x) (e ∷ edges) ≡ (if t then 1 + count_by (passes_right x) edges
+        else count_by (passes_right x) edges)
     counted true h = grind (arith, common_steps, sum_by-cons)
     counted false h = grind (arith, common_steps, sum_by-cons)
 

@@ -9,7 +9,7 @@ use Rattle.plane_spec.specs.declared.Point.{Point}
 use Rattle.plane_spec.specs.declared.Segment.{Segment}
 use Rattle.plane_spec.specs.Vectors.{orient_of}
 use Rattle.plane_laws.specs.Enlarged.{enlarged_wall}
-use Rattle.plane_laws.proofs.Scaled.{orient_scaled, scaled, scaled_wall}
+use Rattle.plane_laws.proofs.Points.Scaled.{orient_scaled, scaled, scaled_wall}
 use Rattle.winding_laws.specs.Windings.{wind, winding, near}
 use Rattle.winding_laws.proofs.Near.{eventually_then}
 use Rattle.winding_laws.proofs.Strips.{HasWinding}
@@ -60,7 +60,8 @@ enlarged_scaled n r s f =
     ) refl
 
 winding_scaled : (n : ℕ) (r s : ℤ) (x d : Point) (edges : List Segment) → pos 0 <ℤ r → pos 0 <ℤ s
-    → winding (near n (scaled r s x) (scaled r s d)) (map (enlarged_wall n) (map (scaled_wall r s) edges)) ≡ winding (near n x d) (map (enlarged_wall n) edges)
+    → winding (near n (scaled r s x) (scaled r s d)) (map (enlarged_wall n) (map (scaled_wall r s) edges))
+    ≡ winding (near n x d) (map (enlarged_wall n) edges)
 winding_scaled n r s x d [] h k = refl
 winding_scaled n r s x d (f ∷ edges) h k =
     let rest = winding_scaled n r s x d edges h k in

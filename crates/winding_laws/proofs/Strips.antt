@@ -12,14 +12,15 @@ use Rattle.plane_spec.specs.Vectors.{point, cross_of, orient_of, vector}
 use Rattle.plane_spec.specs.Segments.{do_touch, is_between, is_on_segment}
 use Rattle.exact_geom.proofs.Orientation.{orient_of_first_exchanged}
 use Rattle.plane_laws.specs.Enlarged.{enlarged, enlarged_wall}
-use Rattle.plane_laws.proofs.Apart.{free_left, free_right, free_up, free_down, AreBefore, free_east, free_north}
-use Rattle.plane_laws.proofs.Apart.{free_south, free_west}
-use Rattle.plane_laws.proofs.Members.{IsIn, source}
+use Rattle.plane_laws.proofs.Segments.Apart.{free_left, free_right, free_up, free_down, AreBefore, free_east}
+use Rattle.plane_laws.proofs.Segments.Apart.{free_north}
+use Rattle.plane_laws.proofs.Segments.Apart.{free_south, free_west}
+use Rattle.plane_laws.proofs.Lists.Members.{IsIn, source}
 use Rattle.winding_laws.specs.Windings.{winding, near}
 use Rattle.winding_laws.proofs.Near.{value_at, orient_near, Eventually, Leads, eventually_positive, eventually_then}
 use Rattle.winding_laws.proofs.Near.{eventually_both, linear, square, eventually_all}
 use Rattle.winding_laws.proofs.Closed.{rises_along, AreClosed, same_winding}
-use Rattle.plane_laws.proofs.Touching.{end_off}
+use Rattle.plane_laws.proofs.Segments.Touching.{end_off}
 
 -- ---- how a near point lies to a wall, and a wall's corner to two near points
 
@@ -37,7 +38,8 @@ values : (n : ℕ) (a b c b' c' : ℤ) → b ≡ b' → c ≡ c' → value_at n 
 values n a b c b' c' e f = rw (e, f) refl
 
 pub side_near : (n : ℕ) (a b p d : Point)
-    → orient_of (enlarged n a) (enlarged n b) (near n p d) ≡ value_at n (orient_of a b p) (cross_of (vector a b) d) (pos 0)
+    → orient_of (enlarged n a) (enlarged n b) (near n p d)
+    ≡ value_at n (orient_of a b p) (cross_of (vector a b) d) (pos 0)
 side_near n a b p d =
     ap (λ t. orient_of t (enlarged n b) (near n p d)) (sym (near_none n a))
     ∙ ap (λ t. orient_of (near n a none) t (near n p d)) (sym (near_none n b))
@@ -46,7 +48,8 @@ side_near n a b p d =
     (linear_part (b.x -ℤ a.x) (b.y -ℤ a.y) (p.x -ℤ a.x) (p.y -ℤ a.y) d.x d.y) (constant_part d.x d.y)
   where
     linear_part : (ux uy vx vy dx dy : ℤ)
-        → (ux *ℤ (dy -ℤ pos 0) -ℤ uy *ℤ (dx -ℤ pos 0)) +ℤ ((pos 0 -ℤ pos 0) *ℤ vy -ℤ (pos 0 -ℤ pos 0) *ℤ vx) ≡ ux *ℤ dy -ℤ uy *ℤ dx
+        → (ux *ℤ (dy -ℤ pos 0) -ℤ uy *ℤ (dx -ℤ pos 0)) +ℤ ((pos 0 -ℤ pos 0) *ℤ vy -ℤ (pos 0 -ℤ pos 0) *ℤ vx)
+        ≡ ux *ℤ dy -ℤ uy *ℤ dx
     linear_part ux uy vx vy dx dy =
         let a = times_minus ux dy (pos 0) in let b = times_minus uy dx (pos 0) in
         let c = times_zero ux in let d = times_zero uy in
@@ -62,7 +65,8 @@ abbrev pub line_linear : Point → Point → Point → Point → Point → ℤ
 line_linear p d q e a = cross_of (vector d e) (vector p a) -ℤ cross_of (vector p q) d
 
 pub line_near : (n : ℕ) (p d q e a : Point)
-    → orient_of (near n p d) (near n q e) (enlarged n a) ≡ value_at n (orient_of p q a) (line_linear p d q e a) (cross_of d e)
+    → orient_of (near n p d) (near n q e) (enlarged n a)
+    ≡ value_at n (orient_of p q a) (line_linear p d q e a) (cross_of d e)
 line_near n p d q e a =
     ap (λ t. orient_of (near n p d) (near n q e) t) (sym (near_none n a))
     ∙ orient_near n p d q e a none

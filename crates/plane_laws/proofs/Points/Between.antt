@@ -14,8 +14,8 @@ use Rattle.plane_spec.specs.declared.Point.{Point}
 use Rattle.plane_spec.specs.declared.Segment.{Segment}
 use Rattle.plane_spec.specs.Segments.{is_between, is_on_segment}
 use Rattle.plane_spec.specs.Vectors.{orient_of, dot_of, vector, same_point, cross_of, point}
-use Rattle.plane_laws.proofs.Heights.{times_steps, along, height, height_from}
-use Rattle.plane_laws.proofs.Directions.{at_start, at_end, some_square}
+use Rattle.plane_laws.proofs.Points.Heights.{times_steps, along, height, height_from}
+use Rattle.plane_laws.proofs.Points.Directions.{at_start, at_end, some_square}
 use Rattle.std.specs.Prelude.{false, true}
 
 -- ---- one coordinate

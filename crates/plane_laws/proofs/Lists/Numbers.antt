@@ -3,7 +3,7 @@ use Rattle.std.specs.Prelude.{List, [], ◌∷◌, map}
 use Rattle.std.specs.List.{enumerate_from}
 use Rattle.std.proofs.Common.{ap, arith, inl, inr, ℕ, ◌≡◌, ◌+◌, ◌≤◌, ◌⊎◌, ◌<◌}
 use Rattle.plane_spec.specs.Lists.{with_each, pairs}
-use Rattle.plane_laws.proofs.Members.{IsIn, from_append, in_pairs}
+use Rattle.plane_laws.proofs.Lists.Members.{IsIn, from_append, in_pairs}
 
 -- ---- numbers
 

@@ -19,11 +19,11 @@ use Rattle.plane_spec.specs.Vectors.{vector, cross_of, orient_of, same_point}
 use Rattle.plane_spec.specs.Segments.{is_on_segment, are_opposite, cross_properly, do_touch}
 use Rattle.exact_geom.proofs.Orientation.{orient_of_first_exchanged}
 use Rattle.plane_laws.proofs.Tests.{clash}
-use Rattle.plane_laws.proofs.Heights.{height, height_from}
-use Rattle.plane_laws.proofs.Between.{between, height_positive, weak_mean, on_start, on_end, same_from_test}
+use Rattle.plane_laws.proofs.Points.Heights.{height, height_from}
+use Rattle.plane_laws.proofs.Points.Between.{between, height_positive, weak_mean, on_start, on_end, same_from_test}
 use Rattle.int_laws.proofs.Tests.{tested_less}
-use Rattle.plane_laws.proofs.Touching.{line_x, line_y, changes}
-use Rattle.plane_laws.proofs.Apart.{all_false, Crossing, rises, falls, crossing}
+use Rattle.plane_laws.proofs.Segments.Touching.{line_x, line_y, changes}
+use Rattle.plane_laws.proofs.Segments.Apart.{all_false, Crossing, rises, falls, crossing}
 
 -- ---- two segments that cross, and a line
 
@@ -44,7 +44,8 @@ combined k s a ux uy x y bx by qx qy e f =
 
 -- the heights over the line of w at the point where the lines of a b and p q cross, by those of the ends of either
 crossing_height : (w : Segment) (a b p q : Point)
-    → orient_of p q b *ℤ height w a -ℤ orient_of p q a *ℤ height w b ≡ orient_of a b p *ℤ height w q -ℤ orient_of a b q *ℤ height w p
+    → orient_of p q b *ℤ height w a -ℤ orient_of p q a *ℤ height w b
+    ≡ orient_of a b p *ℤ height w q -ℤ orient_of a b q *ℤ height w p
 crossing_height w a b p q =
     by_parts (orient_of p q a) (orient_of p q b) (orient_of a b p) (orient_of a b q)
     (cross_of (vector p q) (vector a b)) (height w a) (height w b) (height w p) (height w q) (cross_of u (vector p a))
@@ -80,7 +81,8 @@ never_crossing w f p q a_left b_left p_right q_right c =
     by_sides (crossing (orient_of f.a f.b p) (orient_of f.a f.b q) parts.0)
     (crossing (orient_of p q f.a) (orient_of p q f.b) parts.1)
   where
-    here : orient_of p q f.b *ℤ height w f.a -ℤ orient_of p q f.a *ℤ height w f.b ≡ orient_of f.a f.b p *ℤ height w q -ℤ orient_of f.a f.b q *ℤ height w p
+    here : orient_of p q f.b *ℤ height w f.a -ℤ orient_of p q f.a *ℤ height w f.b
+        ≡ orient_of f.a f.b p *ℤ height w q -ℤ orient_of f.a f.b q *ℤ height w p
     here = crossing_height w f.a f.b p q
 
     change : orient_of f.a f.b p -ℤ orient_of f.a f.b q ≡ orient_of p q f.b -ℤ orient_of p q f.a

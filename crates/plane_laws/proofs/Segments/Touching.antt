@@ -13,8 +13,9 @@ use Rattle.plane_spec.specs.declared.Point.{Point}
 use Rattle.plane_spec.specs.Segments.{is_between, is_on_segment, are_opposite, cross_properly, do_touch}
 use Rattle.plane_spec.specs.Vectors.{orient_of, cross_of, vector}
 use Rattle.exact_geom.proofs.Orientation.{orient_of_cycled, orient_of_first_exchanged}
-use Rattle.plane_laws.proofs.Heights.{height_from}
-use Rattle.plane_laws.proofs.Tests.{or_swapped, clash}
+use Rattle.plane_laws.proofs.Points.Heights.{height_from}
+use Rattle.plane_laws.proofs.Tests.{clash}
+use Rattle.std.proofs.Math.Bool.{or_comm}
 
 between_up : (x a b k m : ℤ) → pos 0 <ℤ k → pos 0 ≤ℤ m → m ≤ℤ k → k *ℤ (x -ℤ a) ≡ m *ℤ (b -ℤ a) → a ≤ℤ b
     → is_between x a b ≡ true
@@ -81,13 +82,15 @@ met : (a b p : Point) → cross_of (vector p a) (vector a b) ≡ orient_of a b p
 met a b p = chained p.x p.y a.x a.y b.x b.y ∙ sym (orient_of_cycled p a b)
 
 pub line_y : (a b p q : Point)
-    → cross_of (vector p q) (vector a b) *ℤ (a.y -ℤ p.y) ≡ orient_of p q a *ℤ (b.y -ℤ a.y) +ℤ orient_of a b p *ℤ (q.y -ℤ p.y)
+    → cross_of (vector p q) (vector a b) *ℤ (a.y -ℤ p.y)
+    ≡ orient_of p q a *ℤ (b.y -ℤ a.y) +ℤ orient_of a b p *ℤ (q.y -ℤ p.y)
 line_y a b p q =
     cross_of_three (q.x -ℤ p.x) (q.y -ℤ p.y) (a.x -ℤ p.x) (a.y -ℤ p.y) (b.x -ℤ a.x) (b.y -ℤ a.y)
     ∙ ap (λ t. orient_of p q a *ℤ (b.y -ℤ a.y) +ℤ t *ℤ (q.y -ℤ p.y)) (met a b p)
 
 pub line_x : (a b p q : Point)
-    → cross_of (vector p q) (vector a b) *ℤ (a.x -ℤ p.x) ≡ orient_of p q a *ℤ (b.x -ℤ a.x) +ℤ orient_of a b p *ℤ (q.x -ℤ p.x)
+    → cross_of (vector p q) (vector a b) *ℤ (a.x -ℤ p.x)
+    ≡ orient_of p q a *ℤ (b.x -ℤ a.x) +ℤ orient_of a b p *ℤ (q.x -ℤ p.x)
 line_x a b p q =
     cross_across (q.x -ℤ p.x) (q.y -ℤ p.y) (a.x -ℤ p.x) (a.y -ℤ p.y) (b.x -ℤ a.x) (b.y -ℤ a.y)
     ∙ ap (λ t. orient_of p q a *ℤ (b.x -ℤ a.x) +ℤ t *ℤ (q.x -ℤ p.x)) (met a b p)
@@ -228,7 +231,7 @@ touch_swapped a b p q =
           (orient_of_first_exchanged p q a) (orient_of_first_exchanged p q b),
       on_either a p q,
       on_either b p q,
-      or_swapped (is_on_segment q a b) (is_on_segment p a b),
+      or_comm (is_on_segment q a b) (is_on_segment p a b),
     ) refl
 
 -- and those of the first
@@ -241,7 +244,7 @@ touch_turned a b p q =
           (orient_of_first_exchanged a b p) (orient_of_first_exchanged a b q),
       on_either p a b,
       on_either q a b,
-      or_swapped (is_on_segment b p q) (is_on_segment a p q),
+      or_comm (is_on_segment b p q) (is_on_segment a p q),
     ) refl
 
 pub never_down : (a b p q : Point) → do_touch a b p q ≡ false → pos 0 ≤ℤ orient_of a b p → orient_of a b q ≤ℤ pos 0

@@ -11,10 +11,10 @@ use Rattle.plane_spec.specs.declared.Segment.{Segment}
 use Rattle.plane_spec.specs.Vectors.{dot_of, same_point, vector, orient_of}
 use Rattle.plane_spec.specs.Segments.{is_on_segment, is_between, cross_properly, do_touch}
 use Rattle.exact_geom.proofs.Orientation.{orient_of_first_exchanged}
-use Rattle.plane_laws.proofs.Between.{IsBetween, high, low, mixed, parts_of, in_order, unequal, between}
-use Rattle.plane_laws.proofs.Heights.{height}
-use Rattle.plane_laws.proofs.Directions.{some_square}
-use Rattle.plane_laws.proofs.Touching.{on_by, on_turned, changes, never_down, never_up}
+use Rattle.plane_laws.proofs.Points.Between.{IsBetween, high, low, mixed, parts_of, in_order, unequal, between}
+use Rattle.plane_laws.proofs.Points.Heights.{height}
+use Rattle.plane_laws.proofs.Points.Directions.{some_square}
+use Rattle.plane_laws.proofs.Segments.Touching.{on_by, on_turned, changes, never_down, never_up}
 use Rattle.plane_laws.proofs.Tests.{clash}
 
 -- what is strictly on one side with both ends of a segment has all of it there

@@ -14,10 +14,9 @@ use Rattle.plane_spec.specs.declared.Point.{Point}
 use Rattle.plane_spec.specs.Segments.{is_between, is_on_segment, are_opposite, cross_properly, do_touch}
 use Rattle.plane_spec.specs.Vectors.{cross_of, orient_of, vector}
 use Rattle.exact_geom.proofs.Orientation.{orient_of_cycled, orient_of_first_exchanged}
-use Rattle.plane_laws.proofs.Between.{in_order, IsBetween, between}
-use Rattle.plane_laws.proofs.Touching.{touch_turned, changes, line_x, line_y}
-use Rattle.plane_laws.proofs.Tests.{and_swapped, or_swapped}
-use Rattle.plane_laws.proofs.Heights.{height_from}
+use Rattle.plane_laws.proofs.Points.Between.{in_order, IsBetween, between}
+use Rattle.plane_laws.proofs.Segments.Touching.{touch_turned, changes, line_x, line_y}
+use Rattle.plane_laws.proofs.Points.Heights.{height_from}
 
 -- ---- one coordinate
 
@@ -169,7 +168,8 @@ crossing s t h =
 -- by a coordinate for which the lines' equations hold
 not_crossing : (a b p q : Point) (x : Point → ℤ)
     → ((a b p q : Point)
-    → cross_of (vector p q) (vector a b) *ℤ (x a -ℤ x p) ≡ orient_of p q a *ℤ (x b -ℤ x a) +ℤ orient_of a b p *ℤ (x q -ℤ x p))
+    → cross_of (vector p q) (vector a b) *ℤ (x a -ℤ x p)
+    ≡ orient_of p q a *ℤ (x b -ℤ x a) +ℤ orient_of a b p *ℤ (x q -ℤ x p))
     → AreBefore (x p) (x q) (x a) (x b) → cross_properly a b p q ≡ false
 unfolding cross_properly
 not_crossing a b p q x line apart =
