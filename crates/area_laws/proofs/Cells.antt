@@ -9,7 +9,7 @@ use Rattle.plane_spec.specs.declared.Point.{Point}
 use Rattle.plane_spec.specs.declared.Segment.{Segment}
 use Rattle.plane_spec.specs.Vectors.{point, orient_of}
 use Rattle.plane_spec.specs.Segments.{is_between}
-use Rattle.plane_laws.proofs.Touching.{between_by}
+use Rattle.plane_laws.proofs.Segments.Touching.{between_by}
 use Rattle.winding_laws.specs.Windings.{wind}
 use Rattle.winding_laws.proofs.OneEdge.{wind_across}
 
@@ -52,23 +52,28 @@ orient_sloped e slope x h = by_parts (e.b.x -ℤ e.a.x) (e.b.y -ℤ e.a.y) (x.y 
         let sixth = product_swapped dy a in
         omega (arith, ints, first, second, third, fourth, fifth, sixth)
 
-pub wind_at : (e : Segment) (slope : ℤ) (x : Point) → e.a.y ≤ℤ x.y → x.y <ℤ e.b.y → e.b.x -ℤ e.a.x ≡ slope *ℤ (e.b.y -ℤ e.a.y)
+pub wind_at : (e : Segment) (slope : ℤ) (x : Point) → e.a.y ≤ℤ x.y → x.y <ℤ e.b.y
+    → e.b.x -ℤ e.a.x ≡ slope *ℤ (e.b.y -ℤ e.a.y)
     → wind x e ≡ (if int_lt x.x (place_at e slope x.y) then pos 1 else pos 0)
 wind_at e slope x low high h =
     wind_across x e low high
     ∙ ap (λ t. if t then pos 1 else pos 0)
     (agree (int_lt (pos 0) (orient_of e.a e.b x)) (int_lt x.x (place_at e slope x.y))
-    (λ t. let some = subst (λ z. pos 0 <ℤ z) (orient_sloped e slope x h) (tested_less (pos 0) (orient_of e.a e.b x) t) in
+    (λ t. let some = subst (λ z. pos 0 <ℤ z) (orient_sloped e slope x h)
+    (tested_less (pos 0) (orient_of e.a e.b x) t) in
     let factor = positive_factor (place_at e slope x.y -ℤ x.x) (e.b.y -ℤ e.a.y) some (omega (arith, ints, low, high)) in
     less_tested x.x (place_at e slope x.y) (omega (arith, ints, factor)))
     (λ t. let less = tested_less x.x (place_at e slope x.y) t in
-    let some = positive_product (place_at e slope x.y -ℤ x.x) (e.b.y -ℤ e.a.y) (omega (arith, ints, less)) (omega (arith, ints, low, high)) in
+    let some = positive_product (place_at e slope x.y -ℤ x.x) (e.b.y -ℤ e.a.y) (omega (arith, ints, less))
+    (omega (arith, ints, low, high)) in
     less_tested (pos 0) (orient_of e.a e.b x) (subst (λ z. pos 0 <ℤ z) (sym (orient_sloped e slope x h)) some)))
 
 -- at a height between its ends the edge is between them
-pub place_between : (e : Segment) (slope y : ℤ) → e.a.y ≤ℤ y → y <ℤ e.b.y → e.b.x -ℤ e.a.x ≡ slope *ℤ (e.b.y -ℤ e.a.y) → is_between (place_at e slope y) e.a.x e.b.x ≡ true
+pub place_between : (e : Segment) (slope y : ℤ) → e.a.y ≤ℤ y → y <ℤ e.b.y → e.b.x -ℤ e.a.x ≡ slope *ℤ (e.b.y -ℤ e.a.y)
+    → is_between (place_at e slope y) e.a.x e.b.x ≡ true
 place_between e slope y low high h =
-    between_by (place_at e slope y) e.a.x e.b.x (e.b.y -ℤ e.a.y) (y -ℤ e.a.y) (omega (arith, ints, low, high)) (omega (arith, ints, low)) (omega (arith, ints, high))
+    between_by (place_at e slope y) e.a.x e.b.x (e.b.y -ℤ e.a.y) (y -ℤ e.a.y) (omega (arith, ints, low, high))
+    (omega (arith, ints, low)) (omega (arith, ints, high))
     (by_parts (e.b.y -ℤ e.a.y) (y -ℤ e.a.y) slope e.a.x (e.b.x -ℤ e.a.x) h)
   where
     by_parts : (dy t c a dx : ℤ) → dx ≡ c *ℤ dy → dy *ℤ ((a +ℤ c *ℤ t) -ℤ a) ≡ t *ℤ dx

@@ -1,21 +1,25 @@
--- Each polygon, made wide enough, lies on a grid. So the left side of a simple polygon's walls tells which way round it goes.
+-- Each polygon, made wide enough, lies on a grid. So the left side of a simple polygon's walls tells which way round
+-- it goes.
 use Rattle.std.specs.Prelude.{List, map, [], ◌∷◌, unsigned_abs}
-use Rattle.std.proofs.Common.{arith, sym, ℤ, ◌≡◌, ◌*ℤ◌, pos, ◌⊎◌, ◌<◌, ◌-ℤ◌, ◌<ℤ◌, ap, inl, inr, neg_ℤ, subst, ◌∙◌, ℕ, ◌+◌, ◌≤ℤ◌, refl, ◌+ℤ◌}
+use Rattle.std.proofs.Common.{arith, sym, ℤ, ◌≡◌, ◌*ℤ◌, pos, ◌⊎◌, ◌<◌, ◌-ℤ◌, ◌<ℤ◌, ap, inl, inr, neg_ℤ, subst, ◌∙◌, ℕ}
+use Rattle.std.proofs.Common.{◌+◌, ◌≤ℤ◌, refl, ◌+ℤ◌}
 use Rattle.std.proofs.lemmas.Int.{ints, by_lt_z}
-use Rattle.int_laws.proofs.Ring.{times_sum, times_zero, neg_times, product_grouped, product_swapped, times_minus, times_neg, product_turned, sum_times}
+use Rattle.int_laws.proofs.Ring.{times_sum, times_zero, neg_times, product_grouped, product_swapped, times_minus}
+use Rattle.int_laws.proofs.Ring.{times_neg, product_turned, sum_times}
 use Rattle.int_laws.proofs.Signs.{positive_product, positive_factor, not_negative_product}
 use Rattle.plane_spec.specs.declared.Segment.{Segment}
 use Rattle.plane_spec.specs.Vectors.{cross_of}
 use Rattle.plane_spec.specs.Polygons.{doubled_area}
-use Rattle.plane_laws.proofs.Scaled.{cross_by, scaled_wall}
-use Rattle.plane_laws.proofs.Members.{IsIn, mapped, source}
+use Rattle.plane_laws.proofs.Points.Scaled.{cross_by, scaled_wall}
+use Rattle.plane_laws.proofs.Lists.Members.{IsIn, mapped, source}
 use Rattle.side_laws.proofs.Sound.{IsSound}
 use Rattle.side_laws.proofs.Scaled.{scaled_sound}
 use Rattle.area_laws.proofs.Cells.{IsOnGrid}
 use Rattle.area_laws.proofs.Orientation.{IsTurnedRound, orientation}
 
 -- the area grows with both
-pub area_scaled : (r s : ℤ) (edges : List Segment) → doubled_area (map (scaled_wall r s) edges) ≡ (r *ℤ s) *ℤ doubled_area edges
+pub area_scaled : (r s : ℤ) (edges : List Segment)
+    → doubled_area (map (scaled_wall r s) edges) ≡ (r *ℤ s) *ℤ doubled_area edges
 area_scaled r s [] = sym (times_zero (r *ℤ s))
 area_scaled r s (e ∷ edges) =
     let first = cross_by r s e.a.x e.a.y e.b.x e.b.y in
@@ -38,7 +42,8 @@ common (f ∷ edges) = by_height (common edges)
     multiple : (c n q h : ℤ) → n ≡ q *ℤ h → c *ℤ n ≡ (c *ℤ q) *ℤ h
     multiple c n q h e = ap (λ t. c *ℤ t) e ∙ sym (product_grouped c q h)
 
-    later : (c : ℤ) → (rest : Common edges) → (e : Segment) → IsIn edges e → (e.a.y ≡ e.b.y) ⊎ ((q : ℤ) × (c *ℤ rest.number ≡ q *ℤ (e.b.y -ℤ e.a.y)))
+    later : (c : ℤ) → (rest : Common edges) → (e : Segment) → IsIn edges e
+        → (e.a.y ≡ e.b.y) ⊎ ((q : ℤ) × (c *ℤ rest.number ≡ q *ℤ (e.b.y -ℤ e.a.y)))
     later c rest e there = elim (rest.divided e there) [
       | inl level ↦ inl level
       | inr d ↦ inr (c *ℤ d.0, multiple c rest.number d.0 (e.b.y -ℤ e.a.y) d.1)
@@ -50,13 +55,15 @@ common (f ∷ edges) = by_height (common edges)
         (λ rising. record {
           number = (f.b.y -ℤ f.a.y) *ℤ rest.number;
           positive = positive_product (f.b.y -ℤ f.a.y) rest.number (omega (arith, ints, rising)) rest.positive;
-          divided = λ e there. pick (f.b.y -ℤ f.a.y) rest (inr (rest.number, product_swapped (f.b.y -ℤ f.a.y) rest.number)) e there;
+          divided = λ e there. pick (f.b.y -ℤ f.a.y) rest
+              (inr (rest.number, product_swapped (f.b.y -ℤ f.a.y) rest.number)) e there;
         })
         (λ not_rising. by_lt_z f.b.y f.a.y
         (λ falling. record {
           number = (f.a.y -ℤ f.b.y) *ℤ rest.number;
           positive = positive_product (f.a.y -ℤ f.b.y) rest.number (omega (arith, ints, falling)) rest.positive;
-          divided = λ e there. pick (f.a.y -ℤ f.b.y) rest (inr (neg_ℤ rest.number, turned f.a.y f.b.y rest.number)) e there;
+          divided = λ e there. pick (f.a.y -ℤ f.b.y) rest
+              (inr (neg_ℤ rest.number, turned f.a.y f.b.y rest.number)) e there;
         })
         (λ level. record {
           number = pos 1 *ℤ rest.number;
@@ -72,9 +79,11 @@ common (f ∷ edges) = by_height (common edges)
             let h = times_minus n a b in
             omega (arith, ints, e, f, g, h)
 
-        pick : (c : ℤ) → (rest : Common edges) → (f.a.y ≡ f.b.y) ⊎ ((q : ℤ) × (c *ℤ rest.number ≡ q *ℤ (f.b.y -ℤ f.a.y))) → (e : Segment) → IsIn (f ∷ edges) e
+        pick : (c : ℤ) → (rest : Common edges) → (f.a.y ≡ f.b.y)
+            ⊎ ((q : ℤ) × (c *ℤ rest.number ≡ q *ℤ (f.b.y -ℤ f.a.y))) → (e : Segment) → IsIn (f ∷ edges) e
             → (e.a.y ≡ e.b.y) ⊎ ((q : ℤ) × (c *ℤ rest.number ≡ q *ℤ (e.b.y -ℤ e.a.y)))
-        pick c rest own e (inl same) = subst (λ t. (t.a.y ≡ t.b.y) ⊎ ((q : ℤ) × (c *ℤ rest.number ≡ q *ℤ (t.b.y -ℤ t.a.y)))) same own
+        pick c rest own e (inl same) =
+            subst (λ t. (t.a.y ≡ t.b.y) ⊎ ((q : ℤ) × (c *ℤ rest.number ≡ q *ℤ (t.b.y -ℤ t.a.y)))) same own
         pick c rest own e (inr there) = later c rest e there
 
 -- ---- a bound for all coordinates
@@ -108,7 +117,8 @@ some_bound (e ∷ edges) = let k = some_bound edges in omega (arith, k)
 bounded : (edges : List Segment) (e : Segment) → IsIn edges e → size e < bound edges
 unfolding bound
 bounded [] e there = absurd there
-bounded (f ∷ edges) e (inl same) = let k = some_bound edges in subst (λ t. size t < size f + bound edges) same (omega (arith, k))
+bounded (f ∷ edges) e (inl same) =
+    let k = some_bound edges in subst (λ t. size t < size f + bound edges) same (omega (arith, k))
 bounded (f ∷ edges) e (inr there) = let k = bounded edges e there in omega (arith, k)
 
 all_small : (edges : List Segment) (e : Segment) → IsIn edges e → AreSmall (bound edges) e
@@ -127,7 +137,8 @@ all_small edges e there =
 natural : (z : ℤ) → pos 0 ≤ℤ z → (j : ℕ) × (pos j ≡ z)
 natural z h = (unsigned_abs z, omega (arith, ints, h))
 
-times_small : (d : ℤ) (most : ℕ) (z : ℤ) → pos 0 <ℤ d → IsSmall most z → (neg_ℤ (d *ℤ pos most) <ℤ (d *ℤ z)) × ((d *ℤ z) <ℤ (d *ℤ pos most))
+times_small : (d : ℤ) (most : ℕ) (z : ℤ) → pos 0 <ℤ d → IsSmall most z
+    → (neg_ℤ (d *ℤ pos most) <ℤ (d *ℤ z)) × ((d *ℤ z) <ℤ (d *ℤ pos most))
 times_small d most z h s =
     let s_low = s.low in
     let s_high = s.high in
@@ -143,7 +154,8 @@ slope_by e d (inl level) = pos 0
 slope_by e d (inr k) = k.0 *ℤ (e.b.x -ℤ e.a.x)
 
 -- an edge, made twice a common multiple of the heights as wide, and twice as tall, lies on a grid
-on_grid : (edges : List Segment) (e : Segment) (d : ℤ) (wide : ℕ) → (q : (e.a.y ≡ e.b.y) ⊎ ((q : ℤ) × (d ≡ q *ℤ (e.b.y -ℤ e.a.y)))) → pos 0 <ℤ d → AreSmall (bound edges) e
+on_grid : (edges : List Segment) (e : Segment) (d : ℤ) (wide : ℕ)
+    → (q : (e.a.y ≡ e.b.y) ⊎ ((q : ℤ) × (d ≡ q *ℤ (e.b.y -ℤ e.a.y)))) → pos 0 <ℤ d → AreSmall (bound edges) e
     → pos wide ≡ (d +ℤ d) *ℤ pos (bound edges)
     → IsOnGrid (neg_ℤ (pos wide)) (neg_ℤ (pos (bound edges) +ℤ pos (bound edges))) (wide + wide) (bound edges + bound edges) (scaled_wall (d +ℤ d) (pos 2) e)
 on_grid edges e d wide q d_up s wide_is =
@@ -182,11 +194,13 @@ on_grid edges e d wide q d_up s wide_is =
     }
   where
     sloped_by : (q : (e.a.y ≡ e.b.y) ⊎ ((q : ℤ) × (d ≡ q *ℤ (e.b.y -ℤ e.a.y))))
-        → (pos 2 *ℤ e.a.y ≡ pos 2 *ℤ e.b.y) ⊎ ((d +ℤ d) *ℤ e.b.x -ℤ (d +ℤ d) *ℤ e.a.x ≡ slope_by e d q *ℤ (pos 2 *ℤ e.b.y -ℤ pos 2 *ℤ e.a.y))
+        → (pos 2 *ℤ e.a.y ≡ pos 2 *ℤ e.b.y)
+        ⊎ ((d +ℤ d) *ℤ e.b.x -ℤ (d +ℤ d) *ℤ e.a.x ≡ slope_by e d q *ℤ (pos 2 *ℤ e.b.y -ℤ pos 2 *ℤ e.a.y))
     sloped_by (inl level) = inl (ap (λ t. pos 2 *ℤ t) level)
     sloped_by (inr k) = inr (by_parts d k.0 (e.b.y -ℤ e.a.y) (e.b.x -ℤ e.a.x) e.a.x e.b.x e.a.y e.b.y k.1 refl refl)
       where
-        by_parts : (d q h w ax bx ay by : ℤ) → d ≡ q *ℤ h → h ≡ by -ℤ ay → w ≡ bx -ℤ ax → (d +ℤ d) *ℤ bx -ℤ (d +ℤ d) *ℤ ax ≡ (q *ℤ w) *ℤ (pos 2 *ℤ by -ℤ pos 2 *ℤ ay)
+        by_parts : (d q h w ax bx ay by : ℤ) → d ≡ q *ℤ h → h ≡ by -ℤ ay → w ≡ bx -ℤ ax
+            → (d +ℤ d) *ℤ bx -ℤ (d +ℤ d) *ℤ ax ≡ (q *ℤ w) *ℤ (pos 2 *ℤ by -ℤ pos 2 *ℤ ay)
         by_parts d q h w ax bx ay by e f g =
             let first = times_minus (d +ℤ d) bx ax in
             let one = ap (λ t. (d +ℤ d) *ℤ t) g in
@@ -199,7 +213,8 @@ on_grid edges e d wide q d_up s wide_is =
 -- ---- which way round
 
 positive_area : (c k area : ℤ) → pos 0 <ℤ c → IsTurnedRound k (c *ℤ area) → IsTurnedRound k area
-positive_area c k area h (inl t) = let e = product_swapped c area in let p = t.1 in inl (t.0, positive_factor area c (omega (arith, ints, e, p)) h)
+positive_area c k area h (inl t) =
+    let e = product_swapped c area in let p = t.1 in inl (t.0, positive_factor area c (omega (arith, ints, e, p)) h)
 positive_area c k area h (inr t) =
     let e = times_neg c area in
     let f = product_swapped c (neg_ℤ area) in
@@ -207,8 +222,10 @@ positive_area c k area h (inr t) =
     let g = positive_factor (neg_ℤ area) c (omega (arith, ints, e, f, p)) h in
     inr (t.0, omega (arith, ints, g))
 
--- what sound edges of which one isn't level have on their left: 1 where they go round counterclockwise, and 0 where they go round clockwise
-pub turned_round : (edges : List Segment) (k : ℤ) → IsSound edges k → (f : Segment) → IsIn edges f → (f.a.y ≡ f.b.y → ⊥) → IsTurnedRound k (doubled_area edges)
+-- what sound edges of which one isn't level have on their left: 1 where they go round counterclockwise, and 0 where
+-- they go round clockwise
+pub turned_round : (edges : List Segment) (k : ℤ) → IsSound edges k → (f : Segment) → IsIn edges f
+    → (f.a.y ≡ f.b.y → ⊥) → IsTurnedRound k (doubled_area edges)
 turned_round edges k sound f there tall =
     let c = common edges in
     let d = c.number in
@@ -220,9 +237,11 @@ turned_round edges k sound f there tall =
     let wide = natural (r *ℤ pos (bound edges)) product in
     let scaled_edges = map (scaled_wall r (pos 2)) edges in
     let s = scaled_sound r (pos 2) edges k r_up (omega (arith, ints)) sound in
-    let o = orientation (neg_ℤ (pos wide.0)) (neg_ℤ (pos (bound edges) +ℤ pos (bound edges))) (wide.0 + wide.0) (bound edges + bound edges) scaled_edges k s
+    let o = orientation (neg_ℤ (pos wide.0)) (neg_ℤ (pos (bound edges) +ℤ pos (bound edges))) (wide.0 + wide.0)
+    (bound edges + bound edges) scaled_edges k s
     (λ g g_there. let src = source (scaled_wall r (pos 2)) edges g g_there in
-    subst (λ t. IsOnGrid (neg_ℤ (pos wide.0)) (neg_ℤ (pos (bound edges) +ℤ pos (bound edges))) (wide.0 + wide.0) (bound edges + bound edges) t) src.is
+    subst (λ t. IsOnGrid (neg_ℤ (pos wide.0)) (neg_ℤ (pos (bound edges) +ℤ pos (bound edges))) (wide.0 + wide.0)
+    (bound edges + bound edges) t) src.is
     (on_grid edges src.it d wide.0 (c.divided src.it src.is_in) d_up (all_small edges src.it src.is_in) wide.1))
     (scaled_wall r (pos 2) f) (mapped (scaled_wall r (pos 2)) edges f there) (λ e. tall (omega (arith, ints, e))) in
     positive_area (r *ℤ pos 2) k (doubled_area edges) (positive_product r (pos 2) r_up (omega (arith, ints)))

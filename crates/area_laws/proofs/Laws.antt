@@ -15,7 +15,8 @@ use Rattle.area_laws.proofs.Orientation.{IsTurnedRound}
 use Rattle.area_laws.proofs.Grid.{turned_round}
 
 -- what a simple polygon has on the left of its edges
-sides : (points : List Point) → is_simple points ≡ true → (k : ℤ) × IsSound (edges_of points) k × IsTurnedRound k (doubled_area (edges_of points))
+sides : (points : List Point) → is_simple points ≡ true
+    → (k : ℤ) × IsSound (edges_of points) k × IsTurnedRound k (doubled_area (edges_of points))
 sides [] h = cc
 sides (start ∷ points) h =
     let simple = simple_from start points h in
@@ -23,36 +24,48 @@ sides (start ∷ points) h =
     let t = some_tall start points simple in
     (s.0, s.1, turned_round (edges_of (start ∷ points)) s.0 s.1 t.0 t.1 t.2)
 
-pub left_of_counterclockwise : (points : List Point) → is_simple points ≡ true → is_counterclockwise points ≡ true → IsSound (edges_of points) (pos 1)
+pub left_of_counterclockwise : (points : List Point) → is_simple points ≡ true → is_counterclockwise points ≡ true
+    → IsSound (edges_of points) (pos 1)
 unfolding is_counterclockwise
 left_of_counterclockwise points h round = let s = sides points h in by_round s.0 s.1 s.2
   where
-    by_round : (k : ℤ) → IsSound (edges_of points) k → IsTurnedRound k (doubled_area (edges_of points)) → IsSound (edges_of points) (pos 1)
+    by_round : (k : ℤ) → IsSound (edges_of points) k → IsTurnedRound k (doubled_area (edges_of points))
+        → IsSound (edges_of points) (pos 1)
     by_round k s (inl t) = subst (λ t. IsSound (edges_of points) t) t.0 s
     by_round k s (inr t) = let a = t.1 in absurd (never (doubled_area (edges_of points)) a round)
       where
         never : (z : ℤ) → z <ℤ pos 0 → int_lt (pos 0) z ≡ true → ⊥
         never z h k = absurd (omega (arith, ints, h, k))
 
-pub left_of_clockwise : (points : List Point) → is_simple points ≡ true → is_counterclockwise points ≡ false → IsSound (edges_of points) (pos 0)
+pub left_of_clockwise : (points : List Point) → is_simple points ≡ true → is_counterclockwise points ≡ false
+    → IsSound (edges_of points) (pos 0)
 unfolding is_counterclockwise
 left_of_clockwise points h round = let s = sides points h in by_round s.0 s.1 s.2
   where
-    by_round : (k : ℤ) → IsSound (edges_of points) k → IsTurnedRound k (doubled_area (edges_of points)) → IsSound (edges_of points) (pos 0)
+    by_round : (k : ℤ) → IsSound (edges_of points) k → IsTurnedRound k (doubled_area (edges_of points))
+        → IsSound (edges_of points) (pos 0)
     by_round k s (inr t) = subst (λ t. IsSound (edges_of points) t) t.0 s
     by_round k s (inl t) = let a = t.1 in absurd (never (doubled_area (edges_of points)) a round)
       where
         never : (z : ℤ) → pos 0 <ℤ z → int_lt (pos 0) z ≡ false → ⊥
         never z h k = absurd (omega (arith, ints, h, k))
 
-pub counterclockwise_left : (points : List Point) → is_simple points ≡ true → is_counterclockwise points ≡ true → GoesRoundOnLeft (edges_of points) (pos 1)
+pub counterclockwise_left : (points : List Point) → is_simple points ≡ true → is_counterclockwise points ≡ true
+    → GoesRoundOnLeft (edges_of points) (pos 1)
 counterclockwise_left points h round = goes_round (edges_of points) (pos 1) (left_of_counterclockwise points h round)
 
-pub counterclockwise_right : (points : List Point) → is_simple points ≡ true → is_counterclockwise points ≡ true → GoesRoundOnLeft (map turned (edges_of points)) (pos 0)
-counterclockwise_right points h round = goes_round (map turned (edges_of points)) (pos 0) (turned_sound (edges_of points) (pos 1) (left_of_counterclockwise points h round))
+pub counterclockwise_right : (points : List Point) → is_simple points ≡ true → is_counterclockwise points ≡ true
+    → GoesRoundOnLeft (map turned (edges_of points)) (pos 0)
+counterclockwise_right points h round =
+    goes_round (map turned (edges_of points)) (pos 0) (turned_sound (edges_of points) (pos 1)
+    (left_of_counterclockwise points h round))
 
-pub clockwise_left : (points : List Point) → is_simple points ≡ true → is_counterclockwise points ≡ false → GoesRoundOnLeft (edges_of points) (pos 0)
+pub clockwise_left : (points : List Point) → is_simple points ≡ true → is_counterclockwise points ≡ false
+    → GoesRoundOnLeft (edges_of points) (pos 0)
 clockwise_left points h round = goes_round (edges_of points) (pos 0) (left_of_clockwise points h round)
 
-pub clockwise_right : (points : List Point) → is_simple points ≡ true → is_counterclockwise points ≡ false → GoesRoundOnLeft (map turned (edges_of points)) (pos 1)
-clockwise_right points h round = goes_round (map turned (edges_of points)) (pos 1) (turned_sound (edges_of points) (pos 0) (left_of_clockwise points h round))
+pub clockwise_right : (points : List Point) → is_simple points ≡ true → is_counterclockwise points ≡ false
+    → GoesRoundOnLeft (map turned (edges_of points)) (pos 1)
+clockwise_right points h round =
+    goes_round (map turned (edges_of points)) (pos 1) (turned_sound (edges_of points) (pos 0)
+    (left_of_clockwise points h round))

@@ -1,6 +1,7 @@
 -- TODO Rows
 use Rattle.std.specs.Prelude.{int_lt, if◌then◌else◌, List, map, [], ◌∷◌, true, false}
-use Rattle.std.proofs.Common.{ℤ, ◌≡◌, ◌<◌, ◌-ℤ◌, ◌*ℤ◌, ◌<ℤ◌, arith, inl, inr, pos, ℕ, ◌+◌, ◌+ℤ◌, ap, neg_ℤ, ◌∙◌, sym, refl, subst, ◌⊎◌}
+use Rattle.std.proofs.Common.{ℤ, ◌≡◌, ◌<◌, ◌-ℤ◌, ◌*ℤ◌, ◌<ℤ◌, arith, inl, inr, pos, ℕ, ◌+◌, ◌+ℤ◌, ap, neg_ℤ, ◌∙◌, sym}
+use Rattle.std.proofs.Common.{refl, subst, ◌⊎◌}
 use Rattle.std.proofs.lemmas.Int.{by_lt_z, ints}
 use Rattle.std.proofs.lemmas.Bool.{false_from_ne_true}
 use Rattle.int_laws.proofs.Signs.{positive_product, not_negative_product, zero_factor}
@@ -11,9 +12,9 @@ use Rattle.plane_spec.specs.declared.Point.{Point}
 use Rattle.plane_spec.specs.Vectors.{point, orient_of}
 use Rattle.plane_spec.specs.Segments.{is_on_segment}
 use Rattle.plane_laws.specs.Enlarged.{enlarged_wall}
-use Rattle.plane_laws.proofs.Between.{high, low}
-use Rattle.plane_laws.proofs.Members.{IsIn}
-use Rattle.plane_laws.proofs.Touching.{on_by, on_turned}
+use Rattle.plane_laws.proofs.Points.Between.{high, low}
+use Rattle.plane_laws.proofs.Lists.Members.{IsIn}
+use Rattle.plane_laws.proofs.Segments.Touching.{on_by, on_turned}
 use Rattle.plane_laws.proofs.Tests.{clash}
 use Rattle.winding_laws.specs.Windings.{wind, winding, near}
 use Rattle.winding_laws.proofs.OneEdge.{turned, wind_above, wind_below, wind_turned}
@@ -24,14 +25,16 @@ use Rattle.area_laws.proofs.Area.{back_slope}
 
 -- ---- an edge at a row
 
--- an edge lies above the height y or below it, or it crosses the height upwards or downwards, with a slope in whole numbers
+-- an edge lies above the height y or below it, or it crosses the height upwards or downwards, with a slope in whole
+-- numbers
 pub data AtRow (f : Segment) (y : ℤ) : Type 0 where
   under : f.a.y <ℤ y → f.b.y <ℤ y → AtRow f y
   over : y <ℤ f.a.y → y <ℤ f.b.y → AtRow f y
   rises : (slope : ℤ) → f.a.y <ℤ y → y <ℤ f.b.y → f.b.x -ℤ f.a.x ≡ slope *ℤ (f.b.y -ℤ f.a.y) → AtRow f y
   falls : (slope : ℤ) → f.b.y <ℤ y → y <ℤ f.a.y → f.a.x -ℤ f.b.x ≡ slope *ℤ (f.a.y -ℤ f.b.y) → AtRow f y
 
-pub at_row : (left base : ℤ) (m n : ℕ) (f : Segment) (i : ℕ) → IsOnGrid left base m n f → AtRow f (base +ℤ ((pos i +ℤ pos i) +ℤ pos 1))
+pub at_row : (left base : ℤ) (m n : ℕ) (f : Segment) (i : ℕ) → IsOnGrid left base m n f
+    → AtRow f (base +ℤ ((pos i +ℤ pos i) +ℤ pos 1))
 at_row left base m n f i g =
     let from = g.a_y in
     let to = g.b_y in
@@ -40,7 +43,8 @@ at_row left base m n f i g =
     (λ b_over. over (omega (arith, ints, from, a_over)) (omega (arith, ints, to, b_over)))
     (λ b_under. elim g.sloped [
       | inl level ↦ absurd (omega (arith, ints, from, to, level, a_over, b_under))
-      | inr s ↦ falls g.slope (omega (arith, ints, to, b_under)) (omega (arith, ints, from, a_over)) (back_slope f.a.x f.b.x f.a.y f.b.y g.slope s)
+      | inr s ↦ falls g.slope (omega (arith, ints, to, b_under)) (omega (arith, ints, from, a_over))
+          (back_slope f.a.x f.b.x f.a.y f.b.y g.slope s)
     ]))
     (λ a_under. by_lt_z (pos i) (pos g.to)
     (λ b_over. elim g.sloped [
@@ -64,7 +68,8 @@ level_times_over n a y some less =
     omega (arith, ints, e, h)
 
 -- where the enlarged edge is at the enlarged height
-place_enlarged : (n : ℕ) (f : Segment) (slope y : ℤ) → place_at (enlarged_wall n f) slope (pos n *ℤ y +ℤ pos 0) ≡ pos n *ℤ place_at f slope y
+place_enlarged : (n : ℕ) (f : Segment) (slope y : ℤ)
+    → place_at (enlarged_wall n f) slope (pos n *ℤ y +ℤ pos 0) ≡ pos n *ℤ place_at f slope y
 place_enlarged n f slope y = by_parts (pos n) f.a.x slope y f.a.y
   where
     by_parts : (n a c y b : ℤ) → n *ℤ a +ℤ c *ℤ ((n *ℤ y +ℤ pos 0) -ℤ n *ℤ b) ≡ n *ℤ (a +ℤ c *ℤ (y -ℤ b))
@@ -129,21 +134,26 @@ east = point (pos 1) (pos 0)
 abbrev pub west : Point
 west = point (neg_ℤ (pos 1)) (pos 0)
 
-rising_near : (n : ℕ) (f : Segment) (slope x y s : ℤ) → 1 < n → f.a.y <ℤ y → y <ℤ f.b.y → f.b.x -ℤ f.a.x ≡ slope *ℤ (f.b.y -ℤ f.a.y)
-    → wind (near n (point x y) (point s (pos 0))) (enlarged_wall n f) ≡ (if int_lt (pos n *ℤ x +ℤ s) (pos n *ℤ place_at f slope y) then pos 1 else pos 0)
+rising_near : (n : ℕ) (f : Segment) (slope x y s : ℤ) → 1 < n → f.a.y <ℤ y → y <ℤ f.b.y
+    → f.b.x -ℤ f.a.x ≡ slope *ℤ (f.b.y -ℤ f.a.y)
+    → wind (near n (point x y) (point s (pos 0))) (enlarged_wall n f)
+    ≡ (if int_lt (pos n *ℤ x +ℤ s) (pos n *ℤ place_at f slope y) then pos 1 else pos 0)
 rising_near n f slope x y s some low high sl =
     let low_n = level_times n f.a.y y some low in
-    wind_at (enlarged_wall n f) slope (near n (point x y) (point s (pos 0))) (omega (arith, ints, low_n)) (level_times_over n f.b.y y some high) (slope_enlarged n f slope sl)
+    wind_at (enlarged_wall n f) slope (near n (point x y) (point s (pos 0))) (omega (arith, ints, low_n))
+    (level_times_over n f.b.y y some high) (slope_enlarged n f slope sl)
     ∙ ap (λ t. if int_lt (pos n *ℤ x +ℤ s) t then pos 1 else pos 0) (place_enlarged n f slope y)
 
-rising_right : (n : ℕ) (f : Segment) (slope x y : ℤ) → 1 < n → f.a.y <ℤ y → y <ℤ f.b.y → f.b.x -ℤ f.a.x ≡ slope *ℤ (f.b.y -ℤ f.a.y)
+rising_right : (n : ℕ) (f : Segment) (slope x y : ℤ) → 1 < n → f.a.y <ℤ y → y <ℤ f.b.y
+    → f.b.x -ℤ f.a.x ≡ slope *ℤ (f.b.y -ℤ f.a.y)
     → wind (near n (point x y) east) (enlarged_wall n f) ≡ wind (point x y) f
 rising_right n f slope x y some low high sl =
     rising_near n f slope x y (pos 1) some low high sl
     ∙ ap (λ t. if t then pos 1 else pos 0) (less_right n x (place_at f slope y) some)
     ∙ sym (wind_at f slope (point x y) (omega (arith, ints, low)) high sl)
 
-rising_left : (n : ℕ) (f : Segment) (slope x y : ℤ) → 1 < n → f.a.y <ℤ y → y <ℤ f.b.y → f.b.x -ℤ f.a.x ≡ slope *ℤ (f.b.y -ℤ f.a.y)
+rising_left : (n : ℕ) (f : Segment) (slope x y : ℤ) → 1 < n → f.a.y <ℤ y → y <ℤ f.b.y
+    → f.b.x -ℤ f.a.x ≡ slope *ℤ (f.b.y -ℤ f.a.y)
     → wind (near n (point x y) west) (enlarged_wall n f) ≡ wind (point (x -ℤ pos 1) y) f
 rising_left n f slope x y some low high sl =
     rising_near n f slope x y (neg_ℤ (pos 1)) some low high sl
@@ -153,91 +163,110 @@ rising_left n f slope x y some low high sl =
 negated : (a b c d : ℤ) → a ≡ neg_ℤ b → c ≡ neg_ℤ d → a ≡ c → b ≡ d
 negated a b c d e f g = omega (arith, ints, e, f, g)
 
-right_of : (n : ℕ) (f : Segment) (x y : ℤ) → 1 < n → AtRow f y → wind (near n (point x y) east) (enlarged_wall n f) ≡ wind (point x y) f
+right_of : (n : ℕ) (f : Segment) (x y : ℤ) → 1 < n → AtRow f y
+    → wind (near n (point x y) east) (enlarged_wall n f) ≡ wind (point x y) f
 right_of n f x y some (under h k) =
     let h_n = level_times n f.a.y y some h in
     let k_n = level_times n f.b.y y some k in
     wind_above (near n (point x y) east) (enlarged_wall n f) (omega (arith, ints, h_n)) (omega (arith, ints, k_n))
     ∙ sym (wind_above (point x y) f (omega (arith, ints, h)) (omega (arith, ints, k)))
 right_of n f x y some (over h k) =
-    wind_below (near n (point x y) east) (enlarged_wall n f) (level_times_over n f.a.y y some h) (level_times_over n f.b.y y some k) ∙ sym (wind_below (point x y) f h k)
+    wind_below (near n (point x y) east) (enlarged_wall n f) (level_times_over n f.a.y y some h)
+    (level_times_over n f.b.y y some k) ∙ sym (wind_below (point x y) f h k)
 right_of n f x y some (rises slope h k s) = rising_right n f slope x y some h k s
 right_of n f x y some (falls slope h k s) =
-    negated _ _ _ _ (wind_turned (near n (point x y) east) (enlarged_wall n f)) (wind_turned (point x y) f) (rising_right n (turned f) slope x y some h k s)
+    negated _ _ _ _ (wind_turned (near n (point x y) east) (enlarged_wall n f)) (wind_turned (point x y) f)
+    (rising_right n (turned f) slope x y some h k s)
 
-left_of : (n : ℕ) (f : Segment) (x y : ℤ) → 1 < n → AtRow f y → wind (near n (point x y) west) (enlarged_wall n f) ≡ wind (point (x -ℤ pos 1) y) f
+left_of : (n : ℕ) (f : Segment) (x y : ℤ) → 1 < n → AtRow f y
+    → wind (near n (point x y) west) (enlarged_wall n f) ≡ wind (point (x -ℤ pos 1) y) f
 left_of n f x y some (under h k) =
     let h_n = level_times n f.a.y y some h in
     let k_n = level_times n f.b.y y some k in
     wind_above (near n (point x y) west) (enlarged_wall n f) (omega (arith, ints, h_n)) (omega (arith, ints, k_n))
     ∙ sym (wind_above (point (x -ℤ pos 1) y) f (omega (arith, ints, h)) (omega (arith, ints, k)))
 left_of n f x y some (over h k) =
-    wind_below (near n (point x y) west) (enlarged_wall n f) (level_times_over n f.a.y y some h) (level_times_over n f.b.y y some k) ∙ sym (wind_below (point (x -ℤ pos 1) y) f h k)
+    wind_below (near n (point x y) west) (enlarged_wall n f) (level_times_over n f.a.y y some h)
+    (level_times_over n f.b.y y some k) ∙ sym (wind_below (point (x -ℤ pos 1) y) f h k)
 left_of n f x y some (rises slope h k s) = rising_left n f slope x y some h k s
 left_of n f x y some (falls slope h k s) =
-    negated _ _ _ _ (wind_turned (near n (point x y) west) (enlarged_wall n f)) (wind_turned (point (x -ℤ pos 1) y) f) (rising_left n (turned f) slope x y some h k s)
+    negated _ _ _ _ (wind_turned (near n (point x y) west) (enlarged_wall n f)) (wind_turned (point (x -ℤ pos 1) y) f)
+    (rising_left n (turned f) slope x y some h k s)
 
 -- ---- all edges
 
-right_windings : (n : ℕ) (edges : List Segment) (x y : ℤ) → 1 < n → ((f : Segment) → IsIn edges f → AtRow f y) → winding (near n (point x y) east) (map (enlarged_wall n) edges) ≡ winding (point x y) edges
+right_windings : (n : ℕ) (edges : List Segment) (x y : ℤ) → 1 < n → ((f : Segment) → IsIn edges f → AtRow f y)
+    → winding (near n (point x y) east) (map (enlarged_wall n) edges) ≡ winding (point x y) edges
 right_windings n [] x y some rows = refl
 right_windings n (f ∷ edges) x y some rows =
     let first = right_of n f x y some (rows f (inl refl)) in
     let rest = right_windings n edges x y some (λ g h. rows g (inr h)) in
     omega (arith, ints, first, rest)
 
-left_windings : (n : ℕ) (edges : List Segment) (x y : ℤ) → 1 < n → ((f : Segment) → IsIn edges f → AtRow f y) → winding (near n (point x y) west) (map (enlarged_wall n) edges) ≡ winding (point (x -ℤ pos 1) y) edges
+left_windings : (n : ℕ) (edges : List Segment) (x y : ℤ) → 1 < n → ((f : Segment) → IsIn edges f → AtRow f y)
+    → winding (near n (point x y) west) (map (enlarged_wall n) edges) ≡ winding (point (x -ℤ pos 1) y) edges
 left_windings n [] x y some rows = refl
 left_windings n (f ∷ edges) x y some rows =
     let first = left_of n f x y some (rows f (inl refl)) in
     let rest = left_windings n edges x y some (λ g h. rows g (inr h)) in
     omega (arith, ints, first, rest)
 
-pub windings_right : (edges : List Segment) (x y : ℤ) → ((f : Segment) → IsIn edges f → AtRow f y) → HasWinding edges (point x y) east (winding (point x y) edges)
+pub windings_right : (edges : List Segment) (x y : ℤ) → ((f : Segment) → IsIn edges f → AtRow f y)
+    → HasWinding edges (point x y) east (winding (point x y) edges)
 windings_right edges x y rows = record { after = 1; from_there = λ n some. right_windings n edges x y some rows }
 
-pub windings_left : (edges : List Segment) (x y : ℤ) → ((f : Segment) → IsIn edges f → AtRow f y) → HasWinding edges (point x y) west (winding (point (x -ℤ pos 1) y) edges)
+pub windings_left : (edges : List Segment) (x y : ℤ) → ((f : Segment) → IsIn edges f → AtRow f y)
+    → HasWinding edges (point x y) west (winding (point (x -ℤ pos 1) y) edges)
 windings_left edges x y rows = record { after = 1; from_there = λ n some. left_windings n edges x y some rows }
 
 -- ---- from one column to the next
 
 -- the place of a rising edge at the height of a point that is on it
-rising_on : (f : Segment) (slope x y : ℤ) → f.a.y <ℤ y → y <ℤ f.b.y → f.b.x -ℤ f.a.x ≡ slope *ℤ (f.b.y -ℤ f.a.y) → orient_of f.a f.b (point x y) ≡ pos 0 → place_at f slope y ≡ x
+rising_on : (f : Segment) (slope x y : ℤ) → f.a.y <ℤ y → y <ℤ f.b.y → f.b.x -ℤ f.a.x ≡ slope *ℤ (f.b.y -ℤ f.a.y)
+    → orient_of f.a f.b (point x y) ≡ pos 0 → place_at f slope y ≡ x
 rising_on f slope x y low high sl line =
     let e = sym (orient_sloped f slope (point x y) sl) ∙ line in
     let z = zero_factor (place_at f slope y -ℤ x) (f.b.y -ℤ f.a.y) e (omega (arith, ints, low, high)) in
     omega (arith, ints, z)
 
-pub rising_off : (f : Segment) (slope x y : ℤ) → f.a.y <ℤ y → y <ℤ f.b.y → f.b.x -ℤ f.a.x ≡ slope *ℤ (f.b.y -ℤ f.a.y) → place_at f slope y ≡ x → is_on_segment (point x y) f.a f.b ≡ true
+pub rising_off : (f : Segment) (slope x y : ℤ) → f.a.y <ℤ y → y <ℤ f.b.y → f.b.x -ℤ f.a.x ≡ slope *ℤ (f.b.y -ℤ f.a.y)
+    → place_at f slope y ≡ x → is_on_segment (point x y) f.a f.b ≡ true
 rising_off f slope x y low high sl at =
-    on_by (point x y) f.a f.b (f.b.y -ℤ f.a.y) (y -ℤ f.a.y) line (omega (arith, ints, low, high)) (omega (arith, ints, low)) (omega (arith, ints, high)) across (product_swapped (f.b.y -ℤ f.a.y) (y -ℤ f.a.y))
+    on_by (point x y) f.a f.b (f.b.y -ℤ f.a.y) (y -ℤ f.a.y) line (omega (arith, ints, low, high))
+    (omega (arith, ints, low)) (omega (arith, ints, high)) across (product_swapped (f.b.y -ℤ f.a.y) (y -ℤ f.a.y))
   where
     line : orient_of f.a f.b (point x y) ≡ pos 0
     line =
         orient_sloped f slope (point x y) sl
-        ∙ (let z : place_at f slope y -ℤ x ≡ pos 0 = omega (arith, ints, at) in ap (λ t. t *ℤ (f.b.y -ℤ f.a.y)) z ∙ zero_times (f.b.y -ℤ f.a.y))
+        ∙ (let z : place_at f slope y -ℤ x ≡ pos 0 = omega (arith, ints, at) in
+        ap (λ t. t *ℤ (f.b.y -ℤ f.a.y)) z ∙ zero_times (f.b.y -ℤ f.a.y))
 
     across : (f.b.y -ℤ f.a.y) *ℤ (x -ℤ f.a.x) ≡ (y -ℤ f.a.y) *ℤ (f.b.x -ℤ f.a.x)
     across =
         let turn = product_swapped (f.b.x -ℤ f.a.x) (y -ℤ f.a.y) in
         omega (arith, ints, line, turn)
 
-rising_step : (f : Segment) (slope x y : ℤ) → f.a.y <ℤ y → y <ℤ f.b.y → f.b.x -ℤ f.a.x ≡ slope *ℤ (f.b.y -ℤ f.a.y) → is_on_segment (point x y) f.a f.b ≡ false
+rising_step : (f : Segment) (slope x y : ℤ) → f.a.y <ℤ y → y <ℤ f.b.y → f.b.x -ℤ f.a.x ≡ slope *ℤ (f.b.y -ℤ f.a.y)
+    → is_on_segment (point x y) f.a f.b ≡ false
     → wind (point (x -ℤ pos 1) y) f ≡ wind (point x y) f
 rising_step f slope x y low high sl off =
     wind_at f slope (point (x -ℤ pos 1) y) (omega (arith, ints, low)) high sl
-    ∙ ap (λ t. if t then pos 1 else pos 0) (same_test x (place_at f slope y) (λ e. clash off (rising_off f slope x y low high sl e)))
+    ∙ ap (λ t. if t then pos 1 else pos 0) (same_test x (place_at f slope y)
+    (λ e. clash off (rising_off f slope x y low high sl e)))
     ∙ sym (wind_at f slope (point x y) (omega (arith, ints, low)) high sl)
   where
     same_test : (x p : ℤ) → (p ≡ x → ⊥) → int_lt (x -ℤ pos 1) p ≡ int_lt x p
     same_test x p never =
         agree (int_lt (x -ℤ pos 1) p) (int_lt x p)
-        (λ h. let g = tested_less (x -ℤ pos 1) p h in by_lt_z x p (λ q. less_tested x p q) (λ q. absurd (never (omega (arith, ints, g, q)))))
+        (λ h. let g = tested_less (x -ℤ pos 1) p h in by_lt_z x p (λ q. less_tested x p q)
+        (λ q. absurd (never (omega (arith, ints, g, q)))))
         (λ h. let g = tested_less x p h in less_tested (x -ℤ pos 1) p (omega (arith, ints, g)))
 
-off_step : (f : Segment) (x y : ℤ) → AtRow f y → is_on_segment (point x y) f.a f.b ≡ false → wind (point (x -ℤ pos 1) y) f ≡ wind (point x y) f
+off_step : (f : Segment) (x y : ℤ) → AtRow f y → is_on_segment (point x y) f.a f.b ≡ false
+    → wind (point (x -ℤ pos 1) y) f ≡ wind (point x y) f
 off_step f x y (under h k) off =
-    wind_above (point (x -ℤ pos 1) y) f (omega (arith, ints, h)) (omega (arith, ints, k)) ∙ sym (wind_above (point x y) f (omega (arith, ints, h)) (omega (arith, ints, k)))
+    wind_above (point (x -ℤ pos 1) y) f (omega (arith, ints, h)) (omega (arith, ints, k))
+    ∙ sym (wind_above (point x y) f (omega (arith, ints, h)) (omega (arith, ints, k)))
 off_step f x y (over h k) off = wind_below (point (x -ℤ pos 1) y) f h k ∙ sym (wind_below (point x y) f h k)
 off_step f x y (rises slope h k s) off = rising_step f slope x y h k s off
 off_step f x y (falls slope h k s) off =
@@ -245,7 +274,8 @@ off_step f x y (falls slope h k s) off =
     (rising_step (turned f) slope x y h k s (false_from_ne_true _ (λ on. clash off (on_turned (point x y) f.a f.b on))))
 
 -- where no edge has the point on it, the winding stays
-pub free_step : (edges : List Segment) (x y : ℤ) → ((f : Segment) → IsIn edges f → AtRow f y) → ((f : Segment) → IsIn edges f → is_on_segment (point x y) f.a f.b ≡ false)
+pub free_step : (edges : List Segment) (x y : ℤ) → ((f : Segment) → IsIn edges f → AtRow f y)
+    → ((f : Segment) → IsIn edges f → is_on_segment (point x y) f.a f.b ≡ false)
     → winding (point (x -ℤ pos 1) y) edges ≡ winding (point x y) edges
 free_step [] x y rows off = refl
 free_step (f ∷ edges) x y rows off =
@@ -254,27 +284,37 @@ free_step (f ∷ edges) x y rows off =
     omega (arith, ints, first, rest)
 
 -- where one edge alone has the point on it, the winding changes by that edge
-pub one_step : (edges : List Segment) (f : Segment) (x y : ℤ) → Distinct edges → ((g : Segment) → IsIn edges g → AtRow g y) → IsIn edges f → is_on_segment (point x y) f.a f.b ≡ true
+pub one_step : (edges : List Segment) (f : Segment) (x y : ℤ) → Distinct edges
+    → ((g : Segment) → IsIn edges g → AtRow g y) → IsIn edges f → is_on_segment (point x y) f.a f.b ≡ true
     → ((g : Segment) → IsIn edges g → (g ≡ f) ⊎ (is_on_segment (point x y) g.a g.b ≡ false))
-    → winding (point (x -ℤ pos 1) y) edges -ℤ winding (point x y) edges ≡ wind (point (x -ℤ pos 1) y) f -ℤ wind (point x y) f
+    → winding (point (x -ℤ pos 1) y) edges -ℤ winding (point x y) edges
+    ≡ wind (point (x -ℤ pos 1) y) f -ℤ wind (point x y) f
 one_step [] f x y distinct rows there on others = absurd there
 one_step (e ∷ edges) f x y distinct rows there on others =
-    by_first (others e (inl refl)) there (λ later. one_step edges f x y distinct.1 (λ g h. rows g (inr h)) later on (λ g h. others g (inr h)))
+    by_first (others e (inl refl)) there (λ later. one_step edges f x y distinct.1 (λ g h. rows g (inr h)) later on
+    (λ g h. others g (inr h)))
   where
-    not_twice : e ≡ f → (g : Segment) → IsIn edges g → (g ≡ f) ⊎ (is_on_segment (point x y) g.a g.b ≡ false) → is_on_segment (point x y) g.a g.b ≡ false
+    not_twice : e ≡ f → (g : Segment) → IsIn edges g → (g ≡ f) ⊎ (is_on_segment (point x y) g.a g.b ≡ false)
+        → is_on_segment (point x y) g.a g.b ≡ false
     not_twice same g h (inl i) = absurd (distinct.0 (subst (λ t. IsIn edges t) (i ∙ sym same) h))
     not_twice same g h (inr i) = i
 
-    here : e ≡ f → winding (point (x -ℤ pos 1) y) (e ∷ edges) -ℤ winding (point x y) (e ∷ edges) ≡ wind (point (x -ℤ pos 1) y) f -ℤ wind (point x y) f
+    here : e ≡ f
+        → winding (point (x -ℤ pos 1) y) (e ∷ edges) -ℤ winding (point x y) (e ∷ edges)
+        ≡ wind (point (x -ℤ pos 1) y) f -ℤ wind (point x y) f
     here same =
         let rest = free_step edges x y (λ g h. rows g (inr h)) (λ g h. not_twice same g h (others g (inr h))) in
-        let first : wind (point (x -ℤ pos 1) y) e ≡ wind (point (x -ℤ pos 1) y) f = ap (λ t. wind (point (x -ℤ pos 1) y) t) same in
+        let first : wind (point (x -ℤ pos 1) y) e ≡ wind (point (x -ℤ pos 1) y) f = ap
+        (λ t. wind (point (x -ℤ pos 1) y) t) same in
         let second : wind (point x y) e ≡ wind (point x y) f = ap (λ t. wind (point x y) t) same in
         omega (arith, ints, rest, first, second)
 
     by_first : (e ≡ f) ⊎ (is_on_segment (point x y) e.a e.b ≡ false) → (e ≡ f) ⊎ IsIn edges f
-        → (IsIn edges f → winding (point (x -ℤ pos 1) y) edges -ℤ winding (point x y) edges ≡ wind (point (x -ℤ pos 1) y) f -ℤ wind (point x y) f)
-        → winding (point (x -ℤ pos 1) y) (e ∷ edges) -ℤ winding (point x y) (e ∷ edges) ≡ wind (point (x -ℤ pos 1) y) f -ℤ wind (point x y) f
+        → (IsIn edges f
+        → winding (point (x -ℤ pos 1) y) edges -ℤ winding (point x y) edges
+        ≡ wind (point (x -ℤ pos 1) y) f -ℤ wind (point x y) f)
+        → winding (point (x -ℤ pos 1) y) (e ∷ edges) -ℤ winding (point x y) (e ∷ edges)
+        ≡ wind (point (x -ℤ pos 1) y) f -ℤ wind (point x y) f
     by_first (inl same) t again = here same
     by_first (inr off) (inl same) again = here same
     by_first (inr off) (inr later) again =
@@ -282,10 +322,14 @@ one_step (e ∷ edges) f x y distinct rows there on others =
         let rest = again later in
         omega (arith, ints, first, rest)
 
-pub rising_jump : (f : Segment) (slope x y : ℤ) → f.a.y <ℤ y → y <ℤ f.b.y → f.b.x -ℤ f.a.x ≡ slope *ℤ (f.b.y -ℤ f.a.y) → orient_of f.a f.b (point x y) ≡ pos 0
+pub rising_jump : (f : Segment) (slope x y : ℤ) → f.a.y <ℤ y → y <ℤ f.b.y → f.b.x -ℤ f.a.x ≡ slope *ℤ (f.b.y -ℤ f.a.y)
+    → orient_of f.a f.b (point x y) ≡ pos 0
     → wind (point (x -ℤ pos 1) y) f -ℤ wind (point x y) f ≡ pos 1
 rising_jump f slope x y low high sl line =
     let at = rising_on f slope x y low high sl line in
-    let first = wind_at f slope (point (x -ℤ pos 1) y) (omega (arith, ints, low)) high sl ∙ ap (λ t. if t then pos 1 else pos 0) (less_tested (x -ℤ pos 1) (place_at f slope y) (omega (arith, ints, at))) in
-    let second = wind_at f slope (point x y) (omega (arith, ints, low)) high sl ∙ ap (λ t. if t then pos 1 else pos 0) (not_less x (place_at f slope y) (omega (arith, ints, at))) in
+    let first = wind_at f slope (point (x -ℤ pos 1) y) (omega (arith, ints, low)) high sl
+    ∙ ap (λ t. if t then pos 1 else pos 0) (less_tested (x -ℤ pos 1) (place_at f slope y)
+    (omega (arith, ints, at))) in
+    let second = wind_at f slope (point x y) (omega (arith, ints, low)) high sl
+    ∙ ap (λ t. if t then pos 1 else pos 0) (not_less x (place_at f slope y) (omega (arith, ints, at))) in
     omega (arith, ints, first, second)

@@ -1,6 +1,7 @@
 -- Sums over the first numbers.
 use Rattle.std.specs.Prelude.{int_lt, if◌then◌else◌}
-use Rattle.std.proofs.Common.{pos, suc, zero, ℕ, ℤ, ◌+ℤ◌, arith, refl, ◌≡◌, ◌<◌, neg_ℤ, ◌≤◌, ◌≤ℤ◌, subst, ◌<ℤ◌, ap, ◌-ℤ◌}
+use Rattle.std.proofs.Common.{pos, suc, zero, ℕ, ℤ, ◌+ℤ◌, arith, refl, ◌≡◌, ◌<◌, neg_ℤ, ◌≤◌, ◌≤ℤ◌, subst, ◌<ℤ◌, ap}
+use Rattle.std.proofs.Common.{◌-ℤ◌}
 use Rattle.std.proofs.lemmas.Int.{ints, by_lt_z}
 use Rattle.int_laws.proofs.Tests.{less_tested, not_less}
 
@@ -40,7 +41,8 @@ sum_to-not_negative (suc n) f h =
     let last = h n (omega arith) in
     omega (arith, ints, rest, last)
 
-pub sum_to-positive : (n : ℕ) (f : ℕ → ℤ) (i : ℕ) → ((j : ℕ) → j < n → pos 0 ≤ℤ f j) → i < n → pos 0 <ℤ f i → pos 0 <ℤ sum_to n f
+pub sum_to-positive : (n : ℕ) (f : ℕ → ℤ) (i : ℕ) → ((j : ℕ) → j < n → pos 0 ≤ℤ f j) → i < n → pos 0 <ℤ f i
+    → pos 0 <ℤ sum_to n f
 sum_to-positive zero f i h k more = absurd (omega (arith, k))
 sum_to-positive (suc n) f i h k more =
     by_lt_z (pos i) (pos n)
@@ -61,11 +63,13 @@ all_before : (m : ℕ) (left x : ℤ) → (left +ℤ pos m) ≤ℤ x → sum_to 
 all_before zero left x h = refl
 all_before (suc m) left x h =
     let rest = all_before m left x (omega (arith, ints, h)) in
-    let last : is_before_place left x m ≡ pos 1 = ap (λ t. if t then pos 1 else pos 0) (less_tested (left +ℤ pos m) x (omega (arith, ints, h))) in
+    let last : is_before_place left x m ≡ pos 1 = ap (λ t. if t then pos 1 else pos 0)
+    (less_tested (left +ℤ pos m) x (omega (arith, ints, h))) in
     omega (arith, ints, rest, last)
 
 -- of the places from `left` on, as many are before x as x is away
-pub count_before : (m : ℕ) (left x : ℤ) → left ≤ℤ x → x ≤ℤ (left +ℤ pos m) → sum_to m (is_before_place left x) ≡ x -ℤ left
+pub count_before : (m : ℕ) (left x : ℤ) → left ≤ℤ x → x ≤ℤ (left +ℤ pos m)
+    → sum_to m (is_before_place left x) ≡ x -ℤ left
 count_before zero left x h k = omega (arith, ints, h, k)
 count_before (suc m) left x h k =
     by_lt_z (left +ℤ pos m) x

@@ -1,5 +1,5 @@
-//! Laws of areas: the doubled area, which tells which way a polygon's points go round, is a sum of windings, and so it tells
-//! how often a simple polygon's edges go round what lies left of them.
+//! Laws of areas: the doubled area, which tells which way a polygon's points go round, is a sum of windings, and so
+//! it tells how often a simple polygon's edges go round what lies left of them.
 //!
 //! ```text
 //!    ┌─┬─┬─┬─┬─┐      a polygon, made so wide and tall that each edge meets the middle of each row of cells at a whole
@@ -8,10 +8,10 @@
 //!    └─┴─┴─┴─┴─┘      windings of all cells is the doubled area.
 //! ```
 //!
-//! Along a row, from right to left, the winding is 0 at first, and at each edge it steps between the number k on the left
-//! of all edges and k - 1 on their right, or back. Since it is 0 somewhere beside an edge, k is 0 or 1, and all windings
-//! lie between k - 1 and k. So where k is 1, all are at least 0, and the area is positive; where k is 0, none is positive,
-//! and the area is negative.
+//! Along a row, from right to left, the winding is 0 at first, and at each edge it steps between the number k on the
+//! left of all edges and k - 1 on their right, or back. Since it is 0 somewhere beside an edge, k is 0 or 1, and all
+//! windings lie between k - 1 and k. So where k is 1, all are at least 0, and the area is positive; where k is 0,
+//! none is positive, and the area is negative.
 //!
 //! A law is a function without parameters and with an empty body, whose contract states it.
 //!
@@ -26,8 +26,9 @@ ghost use Rattle.plane_spec.specs.Polygons.{edges_of, is_counterclockwise, is_si
 ghost use Rattle.plan_spec.specs.Scene.{turned_edge};
 ghost use Rattle.side_laws.specs.Sides.{GoesRoundOnLeft};
 
-/// Of a simple polygon whose doubled area is positive, the edges go round once on the left of each edge and not at all on
-/// the right; of another simple polygon, not at all on the left and once backwards on the right (turned round: once).
+/// Of a simple polygon whose doubled area is positive, the edges go round once on the left of each edge and not at
+/// all on the right; of another simple polygon, not at all on the left and once backwards on the right (turned round:
+/// once).
 pub fn sides_of_a_simple_polygon()
     ensures left { (points : List Point) → is_simple points ≡ true → is_counterclockwise points ≡ true
         → GoesRoundOnLeft (edges_of points) (pos 1) }

@@ -4,12 +4,11 @@ use Rattle.std.proofs.Common.{◌≡◌, ℤ, pos, ◌-ℤ◌, sym, ap, subst}
 use Rattle.plane_spec.specs.declared.Point.{Point}
 use Rattle.plane_spec.specs.declared.Segment.{Segment}
 use Rattle.plane_spec.specs.declared.Corner.{Corner}
-use Rattle.plane_spec.specs.declared.Orientation.TheVariants.{Counterclockwise, Clockwise}
 use Rattle.plane_spec.specs.Vectors.{vector}
 use Rattle.plane_spec.specs.Polygons.{is_simple}
 use Rattle.plane_spec.specs.Cones.{corner, is_in_cone}
 use Rattle.plan_spec.specs.Scene.{walls_round, corners_round}
-use Rattle.plane_laws.proofs.Members.{IsIn, from_contains}
+use Rattle.plane_laws.proofs.Lists.Members.{IsIn, from_contains}
 use Rattle.winding_laws.specs.Windings.{GoesRoundNear}
 use Rattle.winding_laws.proofs.Strips.{HasWinding}
 use Rattle.side_laws.proofs.Sound.{SidesOf}
@@ -23,7 +22,8 @@ stated edges x d k h = (h.after, λ n l. h.from_there n l)
 into : (points : List Point) (walls : List Segment) (corners : List Corner) (k : ℤ) → IsRound points walls corners k
     → (c : Corner) (d : Point) → Contains corners c → is_in_cone c d ≡ true → GoesRoundNear walls c.here d k
 into points walls corners k round c d there h =
-    stated walls c.here d k (subst (λ t. HasWinding walls t.here d k) o.is (into_cone walls k round.sound o.edge s d cone).has)
+    stated walls c.here d k (subst (λ t. HasWinding walls t.here d k) o.is
+    (into_cone walls k round.sound o.edge s d cone).has)
   where
     o : CornerOf walls c
     o = round.corners_are.from c (from_contains corners c there)
@@ -38,11 +38,13 @@ into points walls corners k round c d there h =
         (subst (λ t. is_in_cone t d ≡ true) (sym o.is) h)
 
 out_of : (points : List Point) (walls : List Segment) (corners : List Corner) (k : ℤ) → IsRound points walls corners k
-    → (c : Corner) (d : Point) → Contains corners c → LeadsOff (vector c.prev c.here) (vector c.here c.next) d → is_in_cone c d ≡ false
+    → (c : Corner) (d : Point) → Contains corners c → LeadsOff (vector c.prev c.here) (vector c.here c.next) d
+    → is_in_cone c d ≡ false
     → GoesRoundNear walls c.here d (k -ℤ pos 1)
 out_of points walls corners k round c d there off h =
     stated walls c.here d (k -ℤ pos 1)
-    (subst (λ t. HasWinding walls t.here d (k -ℤ pos 1)) o.is (out_of_cone walls k round.sound o.edge o.edge_there d apart cone))
+    (subst (λ t. HasWinding walls t.here d (k -ℤ pos 1)) o.is
+    (out_of_cone walls k round.sound o.edge o.edge_there d apart cone))
   where
     o : CornerOf walls c
     o = round.corners_are.from c (from_contains corners c there)
@@ -60,14 +62,24 @@ out_of points walls corners k round c d there off h =
         subst (λ t. is_in_cone (corner t o.edge.a o.edge.b) d ≡ false) (sym same)
         (subst (λ t. is_in_cone t d ≡ false) (sym o.is) h)
 
-pub obstacle_into : (points : List Point) (c : Corner) (d : Point) → is_simple points ≡ true → Contains (corners_round Counterclockwise points) c
-    → is_in_cone c d ≡ true → GoesRoundNear (walls_round Counterclockwise points) c.here d (pos 1)
-obstacle_into points c d simple there h = into points (walls_round Counterclockwise points) (corners_round Counterclockwise points) (pos 1) (obstacle_round points simple) c d there h
+pub obstacle_into : (points : List Point) (c : Corner) (d : Point) → is_simple points ≡ true
+    → Contains (corners_round true points) c
+    → is_in_cone c d ≡ true → GoesRoundNear (walls_round true points) c.here d (pos 1)
+obstacle_into points c d simple there h =
+    into points (walls_round true points) (corners_round true points) (pos 1)
+    (obstacle_round points simple) c d there h
 
-pub obstacle_out : (points : List Point) (c : Corner) (d : Point) → is_simple points ≡ true → Contains (corners_round Counterclockwise points) c
-    → LeadsOff (vector c.prev c.here) (vector c.here c.next) d → is_in_cone c d ≡ false → GoesRoundNear (walls_round Counterclockwise points) c.here d (pos 0)
-obstacle_out points c d simple there off h = out_of points (walls_round Counterclockwise points) (corners_round Counterclockwise points) (pos 1) (obstacle_round points simple) c d there off h
+pub obstacle_out : (points : List Point) (c : Corner) (d : Point) → is_simple points ≡ true
+    → Contains (corners_round true points) c
+    → LeadsOff (vector c.prev c.here) (vector c.here c.next) d → is_in_cone c d ≡ false
+    → GoesRoundNear (walls_round true points) c.here d (pos 0)
+obstacle_out points c d simple there off h =
+    out_of points (walls_round true points) (corners_round true points) (pos 1)
+    (obstacle_round points simple) c d there off h
 
-pub outer_into : (points : List Point) (c : Corner) (d : Point) → is_simple points ≡ true → Contains (corners_round Clockwise points) c
-    → is_in_cone c d ≡ true → GoesRoundNear (walls_round Clockwise points) c.here d (pos 0)
-outer_into points c d simple there h = into points (walls_round Clockwise points) (corners_round Clockwise points) (pos 0) (outer_round points simple) c d there h
+pub outer_into : (points : List Point) (c : Corner) (d : Point) → is_simple points ≡ true
+    → Contains (corners_round false points) c
+    → is_in_cone c d ≡ true → GoesRoundNear (walls_round false points) c.here d (pos 0)
+outer_into points c d simple there h =
+    into points (walls_round false points) (corners_round false points) (pos 0)
+    (outer_round points simple) c d there h

@@ -4,14 +4,14 @@ use Rattle.std.proofs.Common.{ap, inl, inr, subst, sym, ℤ, ◌≡◌, ◌⊎�
 use Rattle.plane_spec.specs.declared.Segment.{Segment}
 use Rattle.plane_spec.specs.declared.Corner.{Corner}
 use Rattle.plane_spec.specs.declared.Point.{Point}
-use Rattle.plane_spec.specs.declared.Orientation.TheVariants.{Counterclockwise, Clockwise}
 use Rattle.plane_spec.specs.Segments.{is_on_segment}
 use Rattle.plane_spec.specs.Cones.{corner}
 use Rattle.plane_spec.specs.Polygons.{edges_to, edges_of, is_counterclockwise, is_simple}
-use Rattle.plan_spec.specs.Scene.{corners_after, last_edge, corners_along, turned_corner, turned_edge, corners_round, walls_round}
-use Rattle.plane_laws.proofs.Members.{IsIn, mapped, source}
+use Rattle.plan_spec.specs.Scene.{corners_after, last_edge, corners_along, turned_corner, turned_edge, corners_round}
+use Rattle.plan_spec.specs.Scene.{walls_round}
+use Rattle.plane_laws.proofs.Lists.Members.{IsIn, mapped, source}
 use Rattle.plane_laws.proofs.Tests.{clash}
-use Rattle.plane_laws.proofs.Between.{on_end, same_ends, on_start}
+use Rattle.plane_laws.proofs.Points.Between.{on_end, same_ends, on_start}
 use Rattle.side_laws.proofs.Sound.{IsSound, SidesOf}
 use Rattle.side_laws.proofs.Sides.{wall}
 use Rattle.side_laws.proofs.Rights.{turned_sound}
@@ -30,7 +30,8 @@ before_is edges k sound f there g g_there meets = by_case (s.first.others g g_th
     by_case (inr (inr off)) = absurd (clash off (subst (λ t. is_on_segment t g.a g.b ≡ true) meets (on_end g.a g.b)))
 
 -- edges that begin at one point are one
-one_start : (edges : List Segment) (k : ℤ) → IsSound edges k → (f g : Segment) → IsIn edges f → IsIn edges g → g.a ≡ f.a → g ≡ f
+one_start : (edges : List Segment) (k : ℤ) → IsSound edges k → (f g : Segment) → IsIn edges f → IsIn edges g
+    → g.a ≡ f.a → g ≡ f
 one_start edges k sound f g there g_there same = by_case (s.first.others g g_there)
   where
     s : SidesOf edges f k
@@ -63,33 +64,69 @@ pub record AreCorners (edges : List Segment) (corners : List Corner) : Type 0 wh
   pub from : (c : Corner) → IsIn corners c → CornerOf edges c
   pub to : (f : Segment) → IsIn edges f → AtStart edges corners f
 
-corner_from : (all : List Segment) (before : Segment) (first p : Point) (points : List Point) → IsIn all before → before.b ≡ p
-    → ((e : Segment) → IsIn (edges_to first (p ∷ points)) e → IsIn all e) → (c : Corner) → IsIn (corners_after before (edges_to first (p ∷ points))) c → CornerOf all c
+corner_from : (all : List Segment) (before : Segment) (first p : Point) (points : List Point) → IsIn all before
+    → before.b ≡ p
+    → ((e : Segment) → IsIn (edges_to first (p ∷ points)) e → IsIn all e) → (c : Corner)
+    → IsIn (corners_after before (edges_to first (p ∷ points))) c → CornerOf all c
 unfolding edges_to
 corner_from all before first p [] there meets within c (inl e) =
-    record { before = before; edge = wall p first; before_there = there; edge_there = within (wall p first) (inl refl); meets = meets; is = e }
+    record {
+      before = before;
+      edge = wall p first;
+      before_there = there;
+      edge_there = within (wall p first) (inl refl);
+      meets = meets;
+      is = e;
+    }
 corner_from all before first p [] there meets within c (inr k) = absurd k
 corner_from all before first p (q ∷ points) there meets within c (inl e) =
-    record { before = before; edge = wall p q; before_there = there; edge_there = within (wall p q) (inl refl); meets = meets; is = e }
+    record {
+      before = before;
+      edge = wall p q;
+      before_there = there;
+      edge_there = within (wall p q) (inl refl);
+      meets = meets;
+      is = e;
+    }
 corner_from all before first p (q ∷ points) there meets within c (inr k) =
     corner_from all (wall p q) first q points (within (wall p q) (inl refl)) refl (λ e h. within e (inr h)) c k
 
-corner_to : (all : List Segment) (before : Segment) (first p : Point) (points : List Point) → IsIn all before → before.b ≡ p
-    → ((e : Segment) → IsIn (edges_to first (p ∷ points)) e → IsIn all e) → (f : Segment) → IsIn (edges_to first (p ∷ points)) f → AtStart all (corners_after before (edges_to first (p ∷ points))) f
+corner_to : (all : List Segment) (before : Segment) (first p : Point) (points : List Point) → IsIn all before
+    → before.b ≡ p
+    → ((e : Segment) → IsIn (edges_to first (p ∷ points)) e → IsIn all e) → (f : Segment)
+    → IsIn (edges_to first (p ∷ points)) f → AtStart all (corners_after before (edges_to first (p ∷ points))) f
 unfolding edges_to
 corner_to all before first p [] there meets within f (inl e) =
-    record { before = before; before_there = there; meets = meets ∙ ap (λ t. t.a) e; corner_there = inl (ap (λ t. corner before.a t.a t.b) e) }
+    record {
+      before = before;
+      before_there = there;
+      meets = meets ∙ ap (λ t. t.a) e;
+      corner_there = inl (ap (λ t. corner before.a t.a t.b) e);
+    }
 corner_to all before first p [] there meets within f (inr k) = absurd k
 corner_to all before first p (q ∷ points) there meets within f (inl e) =
-    record { before = before; before_there = there; meets = meets ∙ ap (λ t. t.a) e; corner_there = inl (ap (λ t. corner before.a t.a t.b) e) }
+    record {
+      before = before;
+      before_there = there;
+      meets = meets ∙ ap (λ t. t.a) e;
+      corner_there = inl (ap (λ t. corner before.a t.a t.b) e);
+    }
 corner_to all before first p (q ∷ points) there meets within f (inr k) =
     later (corner_to all (wall p q) first q points (within (wall p q) (inl refl)) refl (λ e h. within e (inr h)) f k)
   where
     later : {cs : List Corner} → {c : Corner} → AtStart all cs f → AtStart all (c ∷ cs) f
-    later s = record { before = s.before; before_there = s.before_there; meets = s.meets; corner_there = inr s.corner_there }
+    later s =
+        record {
+          before = s.before;
+          before_there = s.before_there;
+          meets = s.meets;
+          corner_there = inr s.corner_there;
+        }
 
 -- the last edge ends at the first point
-last_to : (first p : Point) (points : List Point) (e : Segment) → ((last_edge e (edges_to first (p ∷ points))).b ≡ first) × IsIn (edges_to first (p ∷ points)) (last_edge e (edges_to first (p ∷ points)))
+last_to : (first p : Point) (points : List Point) (e : Segment)
+    → ((last_edge e (edges_to first (p ∷ points))).b ≡ first)
+    × IsIn (edges_to first (p ∷ points)) (last_edge e (edges_to first (p ∷ points)))
 unfolding edges_to
 last_to first p [] e = (refl, inl refl)
 last_to first p (q ∷ points) e = let l = last_to first q points (wall p q) in (l.0, inr l.1)
@@ -105,12 +142,15 @@ all_corners (p ∷ []) =
 all_corners (p ∷ q ∷ points) =
     let l = last_to p q points (wall p q) in
     record {
-      from = λ c k. corner_from (edges_to p (p ∷ q ∷ points)) (last_edge (wall p q) (edges_to p (q ∷ points))) p p (q ∷ points) (inr l.1) l.0 (λ e h. h) c k;
-      to = λ f k. corner_to (edges_to p (p ∷ q ∷ points)) (last_edge (wall p q) (edges_to p (q ∷ points))) p p (q ∷ points) (inr l.1) l.0 (λ e h. h) f k;
+      from = λ c k. corner_from (edges_to p (p ∷ q ∷ points)) (last_edge (wall p q) (edges_to p (q ∷ points))) p p
+          (q ∷ points) (inr l.1) l.0 (λ e h. h) c k;
+      to = λ f k. corner_to (edges_to p (p ∷ q ∷ points)) (last_edge (wall p q) (edges_to p (q ∷ points))) p p
+          (q ∷ points) (inr l.1) l.0 (λ e h. h) f k;
     }
 
 -- turned round, a corner between two edges is one between the turned edges
-pub turned_from : (edges : List Segment) (c d : Corner) → turned_corner d ≡ c → CornerOf edges d → CornerOf (map turned_edge edges) c
+pub turned_from : (edges : List Segment) (c d : Corner) → turned_corner d ≡ c → CornerOf edges d
+    → CornerOf (map turned_edge edges) c
 turned_from edges c d e o =
     record {
       before = turned_edge o.edge;
@@ -122,28 +162,34 @@ turned_from edges c d e o =
     }
 
 -- turned round, they are the corners of the turned edges
-turned_corners : (edges : List Segment) (corners : List Corner) (k : ℤ) → IsSound (map turned_edge edges) k → AreCorners edges corners → AreCorners (map turned_edge edges) (map turned_corner corners)
+turned_corners : (edges : List Segment) (corners : List Corner) (k : ℤ) → IsSound (map turned_edge edges) k
+    → AreCorners edges corners → AreCorners (map turned_edge edges) (map turned_corner corners)
 turned_corners edges corners k sound all =
     record {
-      from = λ c there. let o = source turned_corner corners c there in turned_from edges c o.it o.is (all.from o.it o.is_in);
-      to = λ f there. let o = source turned_edge edges f there in subst (λ t. AtStart (map turned_edge edges) (map turned_corner corners) t) o.is (start_of o.it o.is_in);
+      from = λ c there. let o = source turned_corner corners c there in
+          turned_from edges c o.it o.is (all.from o.it o.is_in);
+      to = λ f there. let o = source turned_edge edges f there in
+          subst (λ t. AtStart (map turned_edge edges) (map turned_corner corners) t) o.is (start_of o.it o.is_in);
     }
   where
-    start_of : (g : Segment) → IsIn edges g → AtStart (map turned_edge edges) (map turned_corner corners) (turned_edge g)
+    start_of : (g : Segment) → IsIn edges g
+        → AtStart (map turned_edge edges) (map turned_corner corners) (turned_edge g)
     start_of g there =
         let s = sound.sides (turned_edge g) (mapped turned_edge edges g there) in
         let o = source turned_edge edges (wall s.before g.b) s.before_there in
         let f = o.it in
         let at = all.to f o.is_in in
         let starts : f.a ≡ g.b = ap (λ t. t.b) o.is in
-        let same = one_start (map turned_edge edges) k sound (turned_edge g) (turned_edge at.before) (mapped turned_edge edges g there) (mapped turned_edge edges at.before at.before_there) (at.meets ∙ starts) in
+        let same = one_start (map turned_edge edges) k sound (turned_edge g) (turned_edge at.before)
+        (mapped turned_edge edges g there) (mapped turned_edge edges at.before at.before_there) (at.meets ∙ starts) in
         record {
           before = turned_edge f;
           before_there = mapped turned_edge edges f o.is_in;
           meets = starts;
           corner_there =
               subst (λ t. IsIn (map turned_corner corners) (corner f.b t g.a)) starts
-              (subst (λ t. IsIn (map turned_corner corners) (corner f.b f.a t.b)) same (mapped turned_corner corners (corner at.before.a f.a f.b) at.corner_there));
+              (subst (λ t. IsIn (map turned_corner corners) (corner f.b f.a t.b)) same
+              (mapped turned_corner corners (corner at.before.a f.a f.b) at.corner_there));
         }
 
 -- ---- a polygon's walls and corners
@@ -154,28 +200,47 @@ pub record IsRound (points : List Point) (walls : List Segment) (corners : List 
   pub corners_are : AreCorners walls corners
   pub same : (walls ≡ edges_of points) ⊎ (walls ≡ map turned_edge (edges_of points))
 
-as_they_are : (points : List Point) (k : ℤ) → IsSound (edges_of points) k → IsRound points (edges_of points) (corners_along (edges_of points)) k
+as_they_are : (points : List Point) (k : ℤ) → IsSound (edges_of points) k
+    → IsRound points (edges_of points) (corners_along (edges_of points)) k
 as_they_are points k s = record { sound = s; corners_are = all_corners points; same = inl refl }
 
-turned_about : (points : List Point) (k : ℤ) → IsSound (map turned_edge (edges_of points)) k → IsRound points (map turned_edge (edges_of points)) (map turned_corner (corners_along (edges_of points))) k
-turned_about points k s = record { sound = s; corners_are = turned_corners (edges_of points) (corners_along (edges_of points)) k s (all_corners points); same = inr refl }
+turned_about : (points : List Point) (k : ℤ) → IsSound (map turned_edge (edges_of points)) k
+    → IsRound points (map turned_edge (edges_of points)) (map turned_corner (corners_along (edges_of points))) k
+turned_about points k s =
+    record {
+      sound = s;
+      corners_are = turned_corners (edges_of points) (corners_along (edges_of points)) k s
+          (all_corners points);
+      same = inr refl;
+    }
 
 -- of an obstacle
-pub obstacle_round : (points : List Point) → is_simple points ≡ true → IsRound points (walls_round Counterclockwise points) (corners_round Counterclockwise points) (pos 1)
+pub obstacle_round : (points : List Point) → is_simple points ≡ true
+    → IsRound points (walls_round true points) (corners_round true points) (pos 1)
 unfolding walls_round corners_round
-obstacle_round points h = by_turn (is_counterclockwise points) (left_of_counterclockwise points h) (λ e. turned_sound (edges_of points) (pos 0) (left_of_clockwise points h e)) refl
+obstacle_round points h =
+    by_turn (is_counterclockwise points) (left_of_counterclockwise points h)
+    (λ e. turned_sound (edges_of points) (pos 0) (left_of_clockwise points h e)) refl
   where
-    by_turn : (t : Bool) → (is_counterclockwise points ≡ true → IsSound (edges_of points) (pos 1)) → (is_counterclockwise points ≡ false → IsSound (map turned_edge (edges_of points)) (pos 1)) → is_counterclockwise points ≡ t
-        → IsRound points (if t then edges_of points else map turned_edge (edges_of points)) (if t then corners_along (edges_of points) else map turned_corner (corners_along (edges_of points))) (pos 1)
+    by_turn : (t : Bool) → (is_counterclockwise points ≡ true → IsSound (edges_of points) (pos 1))
+        → (is_counterclockwise points ≡ false → IsSound (map turned_edge (edges_of points)) (pos 1))
+        → is_counterclockwise points ≡ t
+        → IsRound points (if t then edges_of points else map turned_edge (edges_of points)) (if t
+        then corners_along (edges_of points) else map turned_corner (corners_along (edges_of points))) (pos 1)
     by_turn true up down e = as_they_are points (pos 1) (up e)
     by_turn false up down e = turned_about points (pos 1) (down e)
 
 -- of the outer polygon
-pub outer_round : (points : List Point) → is_simple points ≡ true → IsRound points (walls_round Clockwise points) (corners_round Clockwise points) (pos 0)
+pub outer_round : (points : List Point) → is_simple points ≡ true
+    → IsRound points (walls_round false points) (corners_round false points) (pos 0)
 unfolding walls_round corners_round
-outer_round points h = by_turn (is_counterclockwise points) (λ e. turned_sound (edges_of points) (pos 1) (left_of_counterclockwise points h e)) (left_of_clockwise points h) refl
+outer_round points h =
+    by_turn (is_counterclockwise points) (λ e. turned_sound (edges_of points) (pos 1)
+    (left_of_counterclockwise points h e)) (left_of_clockwise points h) refl
   where
-    by_turn : (t : Bool) → (is_counterclockwise points ≡ true → IsSound (map turned_edge (edges_of points)) (pos 0)) → (is_counterclockwise points ≡ false → IsSound (edges_of points) (pos 0)) → is_counterclockwise points ≡ t
-        → IsRound points (if not t then edges_of points else map turned_edge (edges_of points)) (if not t then corners_along (edges_of points) else map turned_corner (corners_along (edges_of points))) (pos 0)
+    by_turn : (t : Bool) → (is_counterclockwise points ≡ true → IsSound (map turned_edge (edges_of points)) (pos 0))
+        → (is_counterclockwise points ≡ false → IsSound (edges_of points) (pos 0)) → is_counterclockwise points ≡ t
+        → IsRound points (if not t then edges_of points else map turned_edge (edges_of points)) (if not t
+        then corners_along (edges_of points) else map turned_corner (corners_along (edges_of points))) (pos 0)
     by_turn true up down e = turned_about points (pos 0) (up e)
     by_turn false up down e = as_they_are points (pos 0) (down e)

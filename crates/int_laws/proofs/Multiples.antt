@@ -14,8 +14,10 @@ less_scaled r x y h =
     let e = times_minus r y x in
     let f = product_swapped r (y -ℤ x) in
     agree (int_lt (r *ℤ x) (r *ℤ y)) (int_lt x y)
-    (λ t. let g = tested_less (r *ℤ x) (r *ℤ y) t in let k = positive_factor (y -ℤ x) r (omega (arith, ints, e, f, g)) h in less_tested x y (omega (arith, ints, k)))
-    (λ t. let g = tested_less x y t in let k = positive_product r (y -ℤ x) h (omega (arith, ints, g)) in less_tested (r *ℤ x) (r *ℤ y) (omega (arith, ints, e, k)))
+    (λ t. let g = tested_less (r *ℤ x) (r *ℤ y) t in let k = positive_factor (y -ℤ x) r
+    (omega (arith, ints, e, f, g)) h in less_tested x y (omega (arith, ints, k)))
+    (λ t. let g = tested_less x y t in let k = positive_product r (y -ℤ x) h (omega (arith, ints, g)) in
+    less_tested (r *ℤ x) (r *ℤ y) (omega (arith, ints, e, k)))
 
 pub at_most_scaled : (r x y : ℤ) → pos 0 <ℤ r → int_le (r *ℤ x) (r *ℤ y) ≡ int_le x y
 at_most_scaled r x y h = turned (r *ℤ x) (r *ℤ y) x y (less_scaled r y x h)

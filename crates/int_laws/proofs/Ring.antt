@@ -200,7 +200,8 @@ orient_exchanged ax ay bx by cx cy = cross_exchanged (bx -ℤ ax) (by -ℤ ay) (
 
 cross_across_diff : (a b c d e f g h i j k l : ℕ) →
     (diff a b *ℤ diff k l -ℤ diff c d *ℤ diff i j) *ℤ diff e f
-    ≡ (diff a b *ℤ diff g h -ℤ diff c d *ℤ diff e f) *ℤ diff i j +ℤ (diff e f *ℤ diff k l -ℤ diff g h *ℤ diff i j) *ℤ diff a b
+    ≡ (diff a b *ℤ diff g h -ℤ diff c d *ℤ diff e f) *ℤ diff i j +ℤ
+    (diff e f *ℤ diff k l -ℤ diff g h *ℤ diff i j) *ℤ diff a b
 cross_across_diff a b c d e f g h i j k l = simp (product_diff, minus_diff, sum_diff) (same_diff _ _ _ _ (omega arith))
 
 -- `cross_of_three` of the other component
@@ -208,7 +209,8 @@ pub cross_across : (ax ay bx by cx cy : ℤ) →
     (ax *ℤ cy -ℤ ay *ℤ cx) *ℤ bx ≡ (ax *ℤ by -ℤ ay *ℤ bx) *ℤ cx +ℤ (bx *ℤ cy -ℤ by *ℤ cx) *ℤ ax
 cross_across ax ay bx by cx cy =
     rw (is_diff ax, is_diff ay, is_diff bx, is_diff by, is_diff cx, is_diff cy)
-    (cross_across_diff (up ax) (down ax) (up ay) (down ay) (up bx) (down bx) (up by) (down by) (up cx) (down cx) (up cy) (down cy))
+    (cross_across_diff (up ax) (down ax) (up ay) (down ay) (up bx) (down bx) (up by) (down by) (up cx) (down cx)
+    (up cy) (down cy))
 
 chained_diff : (a b c d e f g h i j k l : ℕ) →
     (diff e f -ℤ diff a b) *ℤ (diff k l -ℤ diff g h) -ℤ (diff g h -ℤ diff c d) *ℤ (diff i j -ℤ diff e f)
@@ -220,19 +222,26 @@ pub chained : (ax ay bx by cx cy : ℤ) →
     (bx -ℤ ax) *ℤ (cy -ℤ by) -ℤ (by -ℤ ay) *ℤ (cx -ℤ bx) ≡ (bx -ℤ ax) *ℤ (cy -ℤ ay) -ℤ (by -ℤ ay) *ℤ (cx -ℤ ax)
 chained ax ay bx by cx cy =
     rw (is_diff ax, is_diff ay, is_diff bx, is_diff by, is_diff cx, is_diff cy)
-    (chained_diff (up ax) (down ax) (up ay) (down ay) (up bx) (down bx) (up by) (down by) (up cx) (down cx) (up cy) (down cy))
+    (chained_diff (up ax) (down ax) (up ay) (down ay) (up bx) (down bx) (up by) (down by) (up cx) (down cx) (up cy)
+    (down cy))
 
 -- ---- points
 
-products_diff : (a b c d e f g h : ℕ) → (diff a b *ℤ diff e f) *ℤ (diff c d *ℤ diff g h) ≡ (diff a b *ℤ diff c d) *ℤ (diff e f *ℤ diff g h)
+products_diff : (a b c d e f g h : ℕ)
+    → (diff a b *ℤ diff e f) *ℤ (diff c d *ℤ diff g h) ≡ (diff a b *ℤ diff c d) *ℤ (diff e f *ℤ diff g h)
 products_diff a b c d e f g h = simp product_diff (same_diff _ _ _ _ (omega arith))
 
 pub products : (r s u v : ℤ) → (r *ℤ u) *ℤ (s *ℤ v) ≡ (r *ℤ s) *ℤ (u *ℤ v)
-products r s u v = rw (is_diff r, is_diff s, is_diff u, is_diff v) (products_diff (up r) (down r) (up s) (down s) (up u) (down u) (up v) (down v))
+products r s u v =
+    rw (is_diff r, is_diff s, is_diff u, is_diff v) (products_diff (up r) (down r) (up s) (down s) (up u) (down u)
+    (up v) (down v))
 
-crossed_diff : (a b c d e f g h : ℕ) → (diff a b *ℤ diff c d) *ℤ (diff e f *ℤ diff g h) ≡ (diff a b *ℤ diff g h) *ℤ (diff e f *ℤ diff c d)
+crossed_diff : (a b c d e f g h : ℕ)
+    → (diff a b *ℤ diff c d) *ℤ (diff e f *ℤ diff g h) ≡ (diff a b *ℤ diff g h) *ℤ (diff e f *ℤ diff c d)
 crossed_diff a b c d e f g h = simp product_diff (same_diff _ _ _ _ (omega arith))
 
 -- the second factors of two products exchanged
 pub crossed : (a b c d : ℤ) → (a *ℤ b) *ℤ (c *ℤ d) ≡ (a *ℤ d) *ℤ (c *ℤ b)
-crossed a b c d = rw (is_diff a, is_diff b, is_diff c, is_diff d) (crossed_diff (up a) (down a) (up b) (down b) (up c) (down c) (up d) (down d))
+crossed a b c d =
+    rw (is_diff a, is_diff b, is_diff c, is_diff d) (crossed_diff (up a) (down a) (up b) (down b) (up c) (down c)
+    (up d) (down d))

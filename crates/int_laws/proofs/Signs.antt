@@ -1,5 +1,6 @@
 -- Signs of products and sums.
-use Rattle.std.proofs.Common.{◌≡◌, ℕ, ◌+◌, ◌-◌, ◌*◌, ◌≤◌, ℤ, pos, ◌+ℤ◌, ◌*ℤ◌, neg_ℤ, ◌<ℤ◌, ◌≤ℤ◌, arith, ap, ◌∙◌, subst, ◌-ℤ◌}
+use Rattle.std.proofs.Common.{◌≡◌, ℕ, ◌+◌, ◌-◌, ◌*◌, ◌≤◌, ℤ, pos, ◌+ℤ◌, ◌*ℤ◌, neg_ℤ, ◌<ℤ◌, ◌≤ℤ◌, arith, ap, ◌∙◌}
+use Rattle.std.proofs.Common.{subst, ◌-ℤ◌}
 use Rattle.std.specs.Prelude.{true, false, int_lt, unsigned_abs}
 use Rattle.std.proofs.lemmas.Int.{ints, by_lt_z}
 use borrow.Author.Differences.{up, down}
@@ -129,20 +130,26 @@ neg_product : (x y : ℤ) → neg_ℤ x *ℤ neg_ℤ y ≡ x *ℤ y
 neg_product x y = neg_times x (neg_ℤ y) ∙ ap neg_ℤ (times_neg x y) ∙ neg_twice (x *ℤ y)
 
 pub negative_factors : (x y : ℤ) → x ≤ℤ pos 0 → y ≤ℤ pos 0 → pos 0 ≤ℤ (x *ℤ y)
-negative_factors x y h k = subst (λ t. pos 0 ≤ℤ t) (neg_product x y) (not_negative_product (neg_ℤ x) (neg_ℤ y) (omega (arith, ints)) (omega (arith, ints)))
+negative_factors x y h k =
+    subst (λ t. pos 0 ≤ℤ t) (neg_product x y) (not_negative_product (neg_ℤ x) (neg_ℤ y) (omega (arith, ints))
+    (omega (arith, ints)))
 
 pub negative_product_both : (x y : ℤ) → x <ℤ pos 0 → y <ℤ pos 0 → pos 0 <ℤ (x *ℤ y)
-negative_product_both x y h k = subst (λ t. pos 0 <ℤ t) (neg_product x y) (positive_product (neg_ℤ x) (neg_ℤ y) (omega (arith, ints)) (omega (arith, ints)))
+negative_product_both x y h k =
+    subst (λ t. pos 0 <ℤ t) (neg_product x y) (positive_product (neg_ℤ x) (neg_ℤ y) (omega (arith, ints))
+    (omega (arith, ints)))
 
 -- ---- one coordinate
 
 -- a number whose product with a positive one isn't negative isn't negative
 pub not_negative_factor : (a b : ℤ) → pos 0 ≤ℤ (a *ℤ b) → pos 0 <ℤ b → pos 0 ≤ℤ a
-not_negative_factor a b h k = by_lt_z a (pos 0) (λ p. let g = negative_product a b p k in absurd (omega (arith, ints, g, h))) (λ q. q)
+not_negative_factor a b h k =
+    by_lt_z a (pos 0) (λ p. let g = negative_product a b p k in absurd (omega (arith, ints, g, h))) (λ q. q)
 
 -- a number whose product with one that isn't negative is negative is negative
 pub negative_by : (x f : ℤ) → (x *ℤ f) <ℤ pos 0 → pos 0 ≤ℤ f → x <ℤ pos 0
-negative_by x f h up = by_lt_z x (pos 0) (λ p. p) (λ q. let g = not_negative_product x f q up in absurd (omega (arith, ints, g, h)))
+negative_by x f h up =
+    by_lt_z x (pos 0) (λ p. p) (λ q. let g = not_negative_product x f q up in absurd (omega (arith, ints, g, h)))
 
 pub at_least_times : (m a : ℤ) → pos 0 ≤ℤ m → pos 1 ≤ℤ a → m ≤ℤ (m *ℤ a)
 at_least_times m a h k =

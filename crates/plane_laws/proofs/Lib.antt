@@ -1,12 +1,5 @@
-pub mod Apart
-pub mod Between
-pub mod Directions
-pub mod Heights
-pub mod Members
-pub mod Numbers
-pub mod Scaled
-pub mod Shared
 pub mod Tests
-pub mod Touching
-pub mod Separated
+pub mod Lists
+pub mod Points
+pub mod Segments
 pub mod Law

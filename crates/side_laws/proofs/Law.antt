@@ -2,27 +2,28 @@
 use Rattle.std.specs.Prelude.{List, [], ◌∷◌, map, Bool, false, length, nat_le, not, true, ◌&&◌}
 use Rattle.std.proofs.Common.{inl, inr, ap, arith, pos, ℤ, ◌≡◌, ◌+ℤ◌, ◌-ℤ◌, ◌*ℤ◌, ◌<ℤ◌, ◌∙◌, refl, sym, ℕ, ◌≤◌}
 use Rattle.std.proofs.lemmas.Int.{ints}
-use Rattle.std.proofs.lemmas.Bool.{and_parts}
+use Rattle.std.proofs.lemmas.Bool.{and_parts, not-true}
 use Rattle.int_laws.proofs.Ring.{sum_times}
 use Rattle.plane_spec.specs.declared.Segment.{Segment}
 use Rattle.plane_spec.specs.declared.Point.{Point}
 use Rattle.plane_spec.specs.Vectors.{cross_of, vector}
 use Rattle.plane_spec.specs.Polygons.{edges_of, crosses_nowhere, has_repeat, is_simple}
-use Rattle.plane_laws.proofs.Members.{IsIn, mapped, from_contains}
-use Rattle.plane_laws.proofs.Scaled.{scaled, scaled_wall}
+use Rattle.plane_laws.proofs.Lists.Members.{IsIn, mapped, from_contains}
+use Rattle.plane_laws.proofs.Points.Scaled.{scaled, scaled_wall}
 use Rattle.side_laws.specs.Sides.{GoesRoundOnLeft}
 use Rattle.side_laws.proofs.Sound.{IsSound}
 use Rattle.side_laws.proofs.Rights.{in_the_middle, middle, two_up, turned_sound}
 use Rattle.side_laws.proofs.Scaled.{scaled_sound}
 use Rattle.side_laws.proofs.Sides.{side_middle}
 use Rattle.side_laws.proofs.Simple.{IsSimple, sound}
-use Rattle.plane_laws.proofs.Tests.{not_false}
 use Rattle.winding_laws.proofs.OneEdge.{turned}
 
-doubled_left : (a b d : Point) → pos 0 <ℤ cross_of (vector a b) d → pos 0 <ℤ cross_of (vector (scaled (pos 2) (pos 2) a) (scaled (pos 2) (pos 2) b)) d
+doubled_left : (a b d : Point) → pos 0 <ℤ cross_of (vector a b) d
+    → pos 0 <ℤ cross_of (vector (scaled (pos 2) (pos 2) a) (scaled (pos 2) (pos 2) b)) d
 doubled_left a b d h = by_parts a.x a.y b.x b.y d.x d.y h
   where
-    by_parts : (ax ay bx by dx dy : ℤ) → pos 0 <ℤ ((bx -ℤ ax) *ℤ dy -ℤ (by -ℤ ay) *ℤ dx) → pos 0 <ℤ ((pos 2 *ℤ bx -ℤ pos 2 *ℤ ax) *ℤ dy -ℤ (pos 2 *ℤ by -ℤ pos 2 *ℤ ay) *ℤ dx)
+    by_parts : (ax ay bx by dx dy : ℤ) → pos 0 <ℤ ((bx -ℤ ax) *ℤ dy -ℤ (by -ℤ ay) *ℤ dx)
+        → pos 0 <ℤ ((pos 2 *ℤ bx -ℤ pos 2 *ℤ ax) *ℤ dy -ℤ (pos 2 *ℤ by -ℤ pos 2 *ℤ ay) *ℤ dx)
     by_parts ax ay bx by dx dy h =
         let w : pos 2 *ℤ bx -ℤ pos 2 *ℤ ax ≡ (bx -ℤ ax) +ℤ (bx -ℤ ax) = omega (arith, ints) in
         let z : pos 2 *ℤ by -ℤ pos 2 *ℤ ay ≡ (by -ℤ ay) +ℤ (by -ℤ ay) = omega (arith, ints) in
@@ -38,20 +39,28 @@ goes_round edges k s e d there left =
     let e2 = scaled_wall (pos 2) (pos 2) e in
     let o = twice.sides e2 (mapped (scaled_wall (pos 2) (pos 2)) edges e e_there) in
     let m = in_the_middle e (s.some e e_there) in
-    let w = (side_middle (map (scaled_wall (pos 2) (pos 2)) edges) o.before e2.a e2.b o.after (middle e) d k twice.closed twice.some o.first o.second o.alone o.side m.0 m.1 (doubled_left e.a e.b d left)).has in
+    let w = (side_middle (map (scaled_wall (pos 2) (pos 2)) edges) o.before e2.a e2.b o.after
+    (middle e) d k twice.closed twice.some o.first o.second o.alone o.side m.0 m.1
+    (doubled_left e.a e.b d left)).has in
     (w.after, λ n l. w.from_there n l)
 
 -- a simple polygon, as the definition tests it
 pub simple_from : (start : Point) (points : List Point) → is_simple (start ∷ points) ≡ true → IsSimple start points
 simple_from start points h =
-    let first = and_parts (nat_le 3 (length (start ∷ points))) (not (has_repeat (start ∷ points)) && crosses_nowhere (start ∷ points)) h in
+    let first = and_parts (nat_le 3 (length (start ∷ points)))
+    (not (has_repeat (start ∷ points)) && crosses_nowhere (start ∷ points)) h in
     let second = and_parts (not (has_repeat (start ∷ points))) (crosses_nowhere (start ∷ points)) first.1 in
-    record { many = many_from (length (start ∷ points)) first.0; some = not_false (has_repeat (start ∷ points)) second.0; stand = second.1 }
+    record {
+      many = many_from (length (start ∷ points)) first.0;
+      some = not-true (has_repeat (start ∷ points)) second.0;
+      stand = second.1;
+    }
   where
     many_from : (n : ℕ) → nat_le 3 n ≡ true → 3 ≤ n
     many_from n h = grind arith
 
--- a polygon's edges that are sound, turned round too: there is one number for all left sides, and one less for the right
+-- a polygon's edges that are sound, turned round too: there is one number for all left sides, and one less for the
+-- right
 pub sides_of_simple : (points : List Point) → is_simple points ≡ true
     → (k : ℤ) × GoesRoundOnLeft (edges_of points) k × GoesRoundOnLeft (map turned (edges_of points)) (pos 1 -ℤ k)
 sides_of_simple [] h = cc

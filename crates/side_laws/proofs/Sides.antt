@@ -1,10 +1,22 @@
--- The left side of a polygon's walls: the edges go round it equally often everywhere.
+-- The left of a polygon's edges: the winding at a corner is that along the edge after it, at the next corner, and
+-- into the
+-- corner's cone.
+--
+-- At each corner there is a direction left of both walls, whichever way it turns (`inward`). From a point near the
+-- corner in
+-- it, strips lead to near points in all directions left of both, to near points on the left of the wall after it, and
+-- to
+-- near points at the next corner. They clear the walls of the two corners since they are left of them, and all others
+-- since
+-- those are at a distance (`Corners`, `Strips`). What a strip clears doesn't change the winding.
 use Rattle.std.specs.Prelude.{false, List, true, Bool, ◌&&◌, ◌||◌, if◌then◌else◌}
 use Rattle.std.specs.Ordering.{int_eq}
-use Rattle.std.proofs.Common.{pos, ℤ, ◌<ℤ◌, ap, arith, neg_ℤ, ◌≡◌, ◌+ℤ◌, ◌-ℤ◌, ◌*ℤ◌, ◌∙◌, ◌⊎◌, subst, sym, inl, inr, refl, ◌≤ℤ◌}
+use Rattle.std.proofs.Common.{pos, ℤ, ◌<ℤ◌, ap, arith, neg_ℤ, ◌≡◌, ◌+ℤ◌, ◌-ℤ◌, ◌*ℤ◌, ◌∙◌, ◌⊎◌, subst, sym, inl, inr}
+use Rattle.std.proofs.Common.{refl, ◌≤ℤ◌}
 use Rattle.std.proofs.lemmas.Int.{by_lt_z, ints}
 use Rattle.std.proofs.lemmas.Bool.{and_parts, or_cases}
-use Rattle.int_laws.proofs.Ring.{dot_times, dot_times_across, neg_times, product_swapped, sum_times, times_neg, times_sum, times_zero, cross_across, cross_of_three, zero_times}
+use Rattle.int_laws.proofs.Ring.{dot_times, dot_times_across, neg_times, product_swapped, sum_times, times_neg}
+use Rattle.int_laws.proofs.Ring.{times_sum, times_zero, cross_across, cross_of_three, zero_times}
 use Rattle.int_laws.proofs.Signs.{zero_factor, tested_not_positive, tested_positive}
 use Rattle.plane_spec.specs.declared.Point.{Point}
 use Rattle.plane_spec.specs.declared.Segment.{Segment}
@@ -13,13 +25,15 @@ use Rattle.plane_spec.specs.Segments.{is_on_segment, do_touch, is_between}
 use Rattle.plane_spec.specs.Cones.{corner, is_in_cone}
 use Rattle.exact_geom.proofs.Orientation.{orient_of_cycled}
 use Rattle.plane_laws.proofs.Tests.{clash}
-use Rattle.plane_laws.proofs.Directions.{exchanged, some_square, turn_is, cross_itself, minus_right, at_end}
-use Rattle.plane_laws.proofs.Touching.{on_by}
-use Rattle.plane_laws.proofs.Members.{IsIn}
-use Rattle.plane_laws.proofs.Between.{IsAlong}
+use Rattle.plane_laws.proofs.Points.Directions.{exchanged, some_square, turn_is, cross_itself, minus_right, at_end}
+use Rattle.plane_laws.proofs.Segments.Touching.{on_by}
+use Rattle.plane_laws.proofs.Lists.Members.{IsIn}
+use Rattle.plane_laws.proofs.Points.Between.{IsAlong, apart_back}
 use Rattle.winding_laws.proofs.Strips.{HasWinding, GoesRoundOff, Clears, carried, clears_far}
 use Rattle.winding_laws.proofs.Closed.{AreClosed}
-use Rattle.side_laws.proofs.Corners.{turns_after, turns_before, clears_after, clears_before, clears_other, clears_own, clears_later, left_of_inward, right_of_inward, turns_past_after, turns_past_before}
+use Rattle.side_laws.proofs.Corners.{turns_after, turns_before, clears_after, clears_before, clears_other, clears_own}
+use Rattle.side_laws.proofs.Corners.{clears_later, left_of_inward, right_of_inward, turns_past_after}
+use Rattle.side_laws.proofs.Corners.{turns_past_before}
 
 -- ---- a direction to the left of both walls of a corner
 
@@ -30,17 +44,21 @@ pub record Inward (before after : Point) : Type 0 where
   pub after_left : pos 0 <ℤ cross_of after way
 
 -- at a straight corner that doesn't fold back the walls lead the same way
-straight_on : (u v z : Point) → same_point u v ≡ false → orient_of u v z ≡ pos 0 → is_on_segment u v z ≡ false → is_on_segment z u v ≡ false → pos 0 <ℤ dot_of (vector u v) (vector v z)
+straight_on : (u v z : Point) → same_point u v ≡ false → orient_of u v z ≡ pos 0 → is_on_segment u v z ≡ false
+    → is_on_segment z u v ≡ false → pos 0 <ℤ dot_of (vector u v) (vector v z)
 straight_on u v z apart straight u_off z_off =
     let k = some_square u v apart in
-    let line : cross_of (vector v z) (vector u v) ≡ pos 0 = let t = turn_is u v z in let s = exchanged (vector u v) (vector v z) in omega (arith, ints, t, s, straight) in
+    let line : cross_of (vector v z) (vector u v) ≡ pos 0 = let t = turn_is u v z in
+    let s = exchanged (vector u v) (vector v z) in omega (arith, ints, t, s, straight) in
     by_lt_z (pos 0) (dot_of (vector u v) (vector v z)) (λ p. p)
     (λ q. by_lt_z (dot_of (vector u v) (vector u v) +ℤ dot_of (vector u v) (vector v z)) (pos 0)
     (λ far.
-    absurd (clash u_off (on_by u v z (neg_ℤ (dot_of (vector u v) (vector v z))) (dot_of (vector u v) (vector u v)) (turned u v z straight) (omega (arith, ints, far, k)) (omega (arith, ints, k)) (omega (arith, ints, far))
+    absurd (clash u_off (on_by u v z (neg_ℤ (dot_of (vector u v) (vector v z))) (dot_of (vector u v) (vector u v))
+    (turned u v z straight) (omega (arith, ints, far, k)) (omega (arith, ints, k)) (omega (arith, ints, far))
     (far_x u v z (line_parts line).0) (far_y u v z (line_parts line).1))))
     (λ near_by.
-    absurd (clash z_off (on_by z u v (dot_of (vector u v) (vector u v)) (dot_of (vector u v) (vector u v) +ℤ dot_of (vector u v) (vector v z)) straight k near_by (omega (arith, ints, q))
+    absurd (clash z_off (on_by z u v (dot_of (vector u v) (vector u v))
+    (dot_of (vector u v) (vector u v) +ℤ dot_of (vector u v) (vector v z)) straight k near_by (omega (arith, ints, q))
     (near_x u v z (line_parts line).0) (near_y u v z (line_parts line).1)))))
   where
     turned : (u v z : Point) → orient_of u v z ≡ pos 0 → orient_of v z u ≡ pos 0
@@ -48,7 +66,8 @@ straight_on u v z apart straight u_off z_off =
 
     -- the second direction, by the first
     line_parts : cross_of (vector v z) (vector u v) ≡ pos 0
-        → (dot_of (vector u v) (vector u v) *ℤ (z.x -ℤ v.x) ≡ dot_of (vector u v) (vector v z) *ℤ (v.x -ℤ u.x)) × (dot_of (vector u v) (vector u v) *ℤ (z.y -ℤ v.y) ≡ dot_of (vector u v) (vector v z) *ℤ (v.y -ℤ u.y))
+        → (dot_of (vector u v) (vector u v) *ℤ (z.x -ℤ v.x) ≡ dot_of (vector u v) (vector v z) *ℤ (v.x -ℤ u.x))
+        × (dot_of (vector u v) (vector u v) *ℤ (z.y -ℤ v.y) ≡ dot_of (vector u v) (vector v z) *ℤ (v.y -ℤ u.y))
     line_parts line =
         let a = dot_times_across (z.x -ℤ v.x) (z.y -ℤ v.y) (v.x -ℤ u.x) (v.y -ℤ u.y) in
         let b = dot_times (z.x -ℤ v.x) (z.y -ℤ v.y) (v.x -ℤ u.x) (v.y -ℤ u.y) in
@@ -68,12 +87,16 @@ straight_on u v z apart straight u_off z_off =
         let g = sum_times k d (v -ℤ u) in
         omega (arith, ints, e, f, g)
 
-    near_x : (u v z : Point) → dot_of (vector u v) (vector u v) *ℤ (z.x -ℤ v.x) ≡ dot_of (vector u v) (vector v z) *ℤ (v.x -ℤ u.x)
-        → dot_of (vector u v) (vector u v) *ℤ (z.x -ℤ u.x) ≡ (dot_of (vector u v) (vector u v) +ℤ dot_of (vector u v) (vector v z)) *ℤ (v.x -ℤ u.x)
+    near_x : (u v z : Point)
+        → dot_of (vector u v) (vector u v) *ℤ (z.x -ℤ v.x) ≡ dot_of (vector u v) (vector v z) *ℤ (v.x -ℤ u.x)
+        → dot_of (vector u v) (vector u v) *ℤ (z.x -ℤ u.x)
+        ≡ (dot_of (vector u v) (vector u v) +ℤ dot_of (vector u v) (vector v z)) *ℤ (v.x -ℤ u.x)
     near_x u v z e = near_by_parts (dot_of (vector u v) (vector u v)) (dot_of (vector u v) (vector v z)) u.x v.x z.x e
 
-    near_y : (u v z : Point) → dot_of (vector u v) (vector u v) *ℤ (z.y -ℤ v.y) ≡ dot_of (vector u v) (vector v z) *ℤ (v.y -ℤ u.y)
-        → dot_of (vector u v) (vector u v) *ℤ (z.y -ℤ u.y) ≡ (dot_of (vector u v) (vector u v) +ℤ dot_of (vector u v) (vector v z)) *ℤ (v.y -ℤ u.y)
+    near_y : (u v z : Point)
+        → dot_of (vector u v) (vector u v) *ℤ (z.y -ℤ v.y) ≡ dot_of (vector u v) (vector v z) *ℤ (v.y -ℤ u.y)
+        → dot_of (vector u v) (vector u v) *ℤ (z.y -ℤ u.y)
+        ≡ (dot_of (vector u v) (vector u v) +ℤ dot_of (vector u v) (vector v z)) *ℤ (v.y -ℤ u.y)
     near_y u v z e = near_by_parts (dot_of (vector u v) (vector u v)) (dot_of (vector u v) (vector v z)) u.y v.y z.y e
 
     far_by : (k d u v z : ℤ) → k *ℤ (z -ℤ v) ≡ d *ℤ (v -ℤ u) → neg_ℤ d *ℤ (u -ℤ v) ≡ k *ℤ (z -ℤ v)
@@ -83,16 +106,19 @@ straight_on u v z apart straight u_off z_off =
         let g = ap (λ t. d *ℤ t) s ∙ times_neg d (u -ℤ v) in
         omega (arith, ints, e, f, g)
 
-    far_x : (u v z : Point) → dot_of (vector u v) (vector u v) *ℤ (z.x -ℤ v.x) ≡ dot_of (vector u v) (vector v z) *ℤ (v.x -ℤ u.x)
+    far_x : (u v z : Point)
+        → dot_of (vector u v) (vector u v) *ℤ (z.x -ℤ v.x) ≡ dot_of (vector u v) (vector v z) *ℤ (v.x -ℤ u.x)
         → neg_ℤ (dot_of (vector u v) (vector v z)) *ℤ (u.x -ℤ v.x) ≡ dot_of (vector u v) (vector u v) *ℤ (z.x -ℤ v.x)
     far_x u v z e = far_by (dot_of (vector u v) (vector u v)) (dot_of (vector u v) (vector v z)) u.x v.x z.x e
 
-    far_y : (u v z : Point) → dot_of (vector u v) (vector u v) *ℤ (z.y -ℤ v.y) ≡ dot_of (vector u v) (vector v z) *ℤ (v.y -ℤ u.y)
+    far_y : (u v z : Point)
+        → dot_of (vector u v) (vector u v) *ℤ (z.y -ℤ v.y) ≡ dot_of (vector u v) (vector v z) *ℤ (v.y -ℤ u.y)
         → neg_ℤ (dot_of (vector u v) (vector v z)) *ℤ (u.y -ℤ v.y) ≡ dot_of (vector u v) (vector u v) *ℤ (z.y -ℤ v.y)
     far_y u v z e = far_by (dot_of (vector u v) (vector u v)) (dot_of (vector u v) (vector v z)) u.y v.y z.y e
 
 -- a corner whose walls lead somewhere and don't fold back has a direction left of both
-pub inward : (u v z : Point) → same_point u v ≡ false → is_on_segment u v z ≡ false → is_on_segment z u v ≡ false → Inward (vector u v) (vector v z)
+pub inward : (u v z : Point) → same_point u v ≡ false → is_on_segment u v z ≡ false → is_on_segment z u v ≡ false
+    → Inward (vector u v) (vector v z)
 inward u v z apart u_off z_off =
     let a = vector u v in
     let b = vector v z in
@@ -102,14 +128,26 @@ inward u v z apart u_off z_off =
     let b_self = cross_itself b in
     by_lt_z (pos 0) (orient_of u v z)
     (λ left. let f = minus_right a a b in let g = minus_right b a b in
-    record { way = vector a b; before_left = omega (arith, ints, t, f, a_self, left); after_left = omega (arith, ints, t, s, g, b_self, left) })
+    record {
+      way = vector a b;
+      before_left = omega (arith, ints, t, f, a_self, left);
+      after_left = omega (arith, ints, t, s, g, b_self, left);
+    })
     (λ not_left. by_lt_z (orient_of u v z) (pos 0)
     (λ right. let f = minus_right a b a in let g = minus_right b b a in
-    record { way = vector b a; before_left = omega (arith, ints, t, f, a_self, right); after_left = omega (arith, ints, t, s, g, b_self, right) })
+    record {
+      way = vector b a;
+      before_left = omega (arith, ints, t, f, a_self, right);
+      after_left = omega (arith, ints, t, s, g, b_self, right);
+    })
     (λ not_right.
     let more = straight_on u v z apart (omega (arith, ints, not_left, not_right)) u_off z_off in
     let k = some_square u v apart in
-    record { way = point (neg_ℤ (v.y -ℤ u.y)) (v.x -ℤ u.x); before_left = quarter a a k; after_left = quarter a b more }))
+    record {
+      way = point (neg_ℤ (v.y -ℤ u.y)) (v.x -ℤ u.x);
+      before_left = quarter a a k;
+      after_left = quarter a b more;
+    }))
   where
     quarter : (a b : Point) → pos 0 <ℤ dot_of a b → pos 0 <ℤ cross_of b (point (neg_ℤ a.y) a.x)
     quarter a b h = let e = times_neg b.y a.y in omega (arith, ints, h, e)
@@ -126,17 +164,20 @@ pub record IsCornerOf (edges : List Segment) (u v z : Point) : Type 0 where
 
 -- walls that touch nothing but those at their ends
 abbrev pub KeepsApart : List Segment → Segment → Type 0
-KeepsApart edges e = (f : Segment) → IsIn edges f → is_on_segment e.a f.a f.b ≡ false → is_on_segment e.b f.a f.b ≡ false → do_touch f.a f.b e.a e.b ≡ false
+KeepsApart edges e =
+    (f : Segment) → IsIn edges f → is_on_segment e.a f.a f.b ≡ false → is_on_segment e.b f.a f.b ≡ false → do_touch f.a f.b e.a e.b ≡ false
 
 -- the edges go round each direction left of both walls of the corner k times
 abbrev pub SideAt : List Segment → Point → Point → Point → ℤ → Type 0
-SideAt edges u v z k = (d : Point) → pos 0 <ℤ cross_of (vector u v) d → pos 0 <ℤ cross_of (vector v z) d → GoesRoundOff edges v d k
+SideAt edges u v z k =
+    (d : Point) → pos 0 <ℤ cross_of (vector u v) d → pos 0 <ℤ cross_of (vector v z) d → GoesRoundOff edges v d k
 
 pub cleared : (a b p d q e : Point) (f : Segment) → f ≡ wall a b → Clears a b p d q e → Clears f.a f.b p d q e
 cleared a b p d q e f h c = subst (λ t. Clears t.a t.b p d q e) (sym h) c
 
 -- round a corner, with one direction each direction left of both walls
-pub side_at : (edges : List Segment) (u v z d : Point) (k : ℤ) → AreClosed edges → IsCornerOf edges u v z → pos 0 <ℤ cross_of (vector u v) d → pos 0 <ℤ cross_of (vector v z) d
+pub side_at : (edges : List Segment) (u v z d : Point) (k : ℤ) → AreClosed edges → IsCornerOf edges u v z
+    → pos 0 <ℤ cross_of (vector u v) d → pos 0 <ℤ cross_of (vector v z) d
     → HasWinding edges v d k → SideAt edges u v z k
 side_at edges u v z d k closed c d_before d_after h e e_before e_after =
     carried edges v d v e k closed
@@ -147,7 +188,8 @@ side_at edges u v z d k closed c d_before d_after h e e_before e_after =
     ]) h
 
 -- a wall that leads somewhere isn't in line with two directions
-not_in_line : (u d e : Point) → (u ≡ point (pos 0) (pos 0) → ⊥) → pos 0 <ℤ cross_of e d → cross_of u d ≡ pos 0 → cross_of u e ≡ pos 0 → ⊥
+not_in_line : (u d e : Point) → (u ≡ point (pos 0) (pos 0) → ⊥) → pos 0 <ℤ cross_of e d → cross_of u d ≡ pos 0
+    → cross_of u e ≡ pos 0 → ⊥
 not_in_line u d e some more ud ue =
     let a = cross_across e.x e.y u.x u.y d.x d.y in
     let b = cross_of_three e.x e.y u.x u.y d.x d.y in
@@ -166,7 +208,8 @@ not_in_line u d e some more ud ue =
     whole : (x y : ℤ) → x ≡ pos 0 → y ≡ pos 0 → point x y ≡ point (pos 0) (pos 0)
     whole x y e f = rw (e, f) refl
 
-pub real : (a b d e : Point) → same_point a b ≡ false → pos 0 <ℤ cross_of e d → cross_of (vector a b) d ≡ pos 0 → cross_of (vector a b) e ≡ pos 0 → ⊥
+pub real : (a b d e : Point) → same_point a b ≡ false → pos 0 <ℤ cross_of e d → cross_of (vector a b) d ≡ pos 0
+    → cross_of (vector a b) e ≡ pos 0 → ⊥
 real a b d e apart more h k =
     let s = some_square a b apart in
     not_in_line (vector a b) d e (λ i. nothing i s) more h k
@@ -176,20 +219,16 @@ real a b d e apart more h k =
 
 to_end : (v z : Point) → same_point v z ≡ false → IsAlong v z z
 to_end v z apart =
-    record { between = record { line = at_end v z; x = last v.x z.x; y = last v.y z.y }; apart = turned v z apart }
+    record { between = record { line = at_end v z; x = last v.x z.x; y = last v.y z.y }; apart = apart_back v z apart }
   where
     last : (a b : ℤ) → is_between b a b ≡ true
     last a b = grind (arith, ints)
 
-    turned : (v z : Point) → same_point v z ≡ false → same_point z v ≡ false
-    turned v z h = let e = swap v.x z.x in let f = swap v.y z.y in rw (e, f) h
-      where
-        swap : (a b : ℤ) → int_eq b a ≡ int_eq a b
-        swap a b = grind (arith, ints)
-
 -- from one corner to the next
-pub side_step : (edges : List Segment) (u v z w : Point) (k : ℤ) → AreClosed edges → ((f : Segment) → IsIn edges f → same_point f.a f.b ≡ false) → same_point v z ≡ false
-    → IsCornerOf edges u v z → IsCornerOf edges v z w → KeepsApart edges (wall v z) → SideAt edges u v z k → SideAt edges v z w k
+pub side_step : (edges : List Segment) (u v z w : Point) (k : ℤ) → AreClosed edges
+    → ((f : Segment) → IsIn edges f → same_point f.a f.b ≡ false) → same_point v z ≡ false
+    → IsCornerOf edges u v z → IsCornerOf edges v z w → KeepsApart edges (wall v z) → SideAt edges u v z k
+    → SideAt edges v z w k
 side_step edges u v z w k closed some apart first second alone side e e_before e_after =
     let d = first.inner.way in
     let d_before = first.inner.before_left in
@@ -202,13 +241,16 @@ side_step edges u v z w k closed some apart first second alone side e e_before e
       | inr (inr off) ↦ elim (second.others f there) [
         | inl i ↦ cleared v z v d z e f i (clears_own v z z d e here d_after e_before)
         | inr (inl i) ↦ cleared z w v d z e f i (clears_after v z w d e d_after e_before e_after)
-        | inr (inr off_too) ↦ clears_other f.a f.b v z z d e here (real f.a f.b d (vector v z) (some f there) d_after) (alone f there off off_too) d_after e_before
+        | inr (inr off_too) ↦ clears_other f.a f.b v z z d e here (real f.a f.b d (vector v z) (some f there) d_after)
+            (alone f there off off_too) d_after e_before
       ]
     ]) (side d d_before d_after).has
 
 -- beside the middle of a wall
-pub side_middle : (edges : List Segment) (u v z w x e : Point) (k : ℤ) → AreClosed edges → ((f : Segment) → IsIn edges f → same_point f.a f.b ≡ false)
-    → IsCornerOf edges u v z → IsCornerOf edges v z w → KeepsApart edges (wall v z) → SideAt edges u v z k → IsAlong v z x → same_point x z ≡ false → pos 0 <ℤ cross_of (vector v z) e → GoesRoundOff edges x e k
+pub side_middle : (edges : List Segment) (u v z w x e : Point) (k : ℤ) → AreClosed edges
+    → ((f : Segment) → IsIn edges f → same_point f.a f.b ≡ false)
+    → IsCornerOf edges u v z → IsCornerOf edges v z w → KeepsApart edges (wall v z) → SideAt edges u v z k
+    → IsAlong v z x → same_point x z ≡ false → pos 0 <ℤ cross_of (vector v z) e → GoesRoundOff edges x e k
 side_middle edges u v z w x e k closed some first second alone side here short e_left =
     let d = first.inner.way in
     let d_before = first.inner.before_left in
@@ -220,14 +262,17 @@ side_middle edges u v z w x e k closed some first second alone side here short e
       | inr (inl i) ↦ cleared v z v d x e f i (clears_own v z x d e here d_after e_left)
       | inr (inr off) ↦ elim (second.others f there) [
         | inl i ↦ cleared v z v d x e f i (clears_own v z x d e here d_after e_left)
-        | inr (inl i) ↦ cleared z w v d x e f i (clears_later v z w x d e y here short d_after e_left second.inner.before_left second.inner.after_left)
-        | inr (inr off_too) ↦ clears_other f.a f.b v z x d e here (real f.a f.b d (vector v z) (some f there) d_after) (alone f there off off_too) d_after e_left
+        | inr (inl i) ↦ cleared z w v d x e f i
+            (clears_later v z w x d e y here short d_after e_left second.inner.before_left second.inner.after_left)
+        | inr (inr off_too) ↦ clears_other f.a f.b v z x d e here (real f.a f.b d (vector v z) (some f there) d_after)
+            (alone f there off off_too) d_after e_left
       ]
     ]) (side d d_before d_after).has
 
 -- ---- the cone of a corner
 
-left_of_either : (edges : List Segment) (u v z e : Point) (k : ℤ) → AreClosed edges → IsCornerOf edges u v z → SideAt edges u v z k → orient_of u v z ≤ℤ pos 0
+left_of_either : (edges : List Segment) (u v z e : Point) (k : ℤ) → AreClosed edges → IsCornerOf edges u v z
+    → SideAt edges u v z k → orient_of u v z ≤ℤ pos 0
     → (pos 0 <ℤ cross_of (vector u v) e) ⊎ (pos 0 <ℤ cross_of (vector v z) e) → GoesRoundOff edges v e k
 left_of_either edges u v z e k closed c side turn either =
     let d = c.inner.way in
@@ -241,29 +286,34 @@ left_of_either edges u v z e k closed c side turn either =
     (λ not_after. carried edges v d v e k closed
     (λ f there. elim (c.others f there) [
       | inl i ↦ cleared u v v d v e f i (turns_before u v d e d_before e_before)
-      | inr (inl i) ↦ cleared v z v d v e f i (turns_past_after v z d e d_after not_after (left_of_inward (vector u v) (vector v z) d e not_left d_before d_after e_before not_after))
+      | inr (inl i) ↦ cleared v z v d v e f i (turns_past_after v z d e d_after not_after
+          (left_of_inward (vector u v) (vector v z) d e not_left d_before d_after e_before not_after))
       | inr (inr off) ↦ clears_far f.a f.b v d e off
     ]) (side d d_before d_after).has))
     (λ not_before.
     let e_after = other not_before either in
     carried edges v d v e k closed
     (λ f there. elim (c.others f there) [
-      | inl i ↦ cleared u v v d v e f i (turns_past_before u v d e d_before not_before (right_of_inward (vector u v) (vector v z) d e not_left d_before d_after not_before e_after))
+      | inl i ↦ cleared u v v d v e f i (turns_past_before u v d e d_before not_before
+          (right_of_inward (vector u v) (vector v z) d e not_left d_before d_after not_before e_after))
       | inr (inl i) ↦ cleared v z v d v e f i (turns_after v z d e d_after e_after)
       | inr (inr off) ↦ clears_far f.a f.b v d e off
     ]) (side d d_before d_after).has)
   where
-    other : cross_of (vector u v) e ≤ℤ pos 0 → (pos 0 <ℤ cross_of (vector u v) e) ⊎ (pos 0 <ℤ cross_of (vector v z) e) → pos 0 <ℤ cross_of (vector v z) e
+    other : cross_of (vector u v) e ≤ℤ pos 0 → (pos 0 <ℤ cross_of (vector u v) e) ⊎ (pos 0 <ℤ cross_of (vector v z) e)
+        → pos 0 <ℤ cross_of (vector v z) e
     other low (inl h) = absurd (omega (arith, ints, low, h))
     other low (inr h) = h
 
 -- into the cone of the corner the winding is that of the left side
-pub side_cone : (edges : List Segment) (u v z e : Point) (k : ℤ) → AreClosed edges → IsCornerOf edges u v z → SideAt edges u v z k → is_in_cone (corner u v z) e ≡ true → GoesRoundOff edges v e k
+pub side_cone : (edges : List Segment) (u v z e : Point) (k : ℤ) → AreClosed edges → IsCornerOf edges u v z
+    → SideAt edges u v z k → is_in_cone (corner u v z) e ≡ true → GoesRoundOff edges v e k
 unfolding is_in_cone
 side_cone edges u v z e k closed c side h = by_turn (lies_left u v z) refl h
   where
     by_turn : (t : Bool) → lies_left u v z ≡ t
-        → (if t then (is_left (vector u v) e && is_left (vector v z) e) else (is_left (vector u v) e || is_left (vector v z) e)) ≡ true → GoesRoundOff edges v e k
+        → (if t then (is_left (vector u v) e && is_left (vector v z) e)
+        else (is_left (vector u v) e || is_left (vector v z) e)) ≡ true → GoesRoundOff edges v e k
     by_turn true turn k =
         let parts = and_parts (is_left (vector u v) e) (is_left (vector v z) e) k in
         side e (tested_positive (cross_of (vector u v) e) parts.0) (tested_positive (cross_of (vector v z) e) parts.1)

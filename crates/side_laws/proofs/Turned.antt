@@ -8,9 +8,9 @@ use Rattle.plane_spec.specs.declared.Segment.{Segment}
 use Rattle.plane_spec.specs.Vectors.{point, cross_of, vector, same_point}
 use Rattle.plane_spec.specs.Segments.{is_on_segment, do_touch, is_between}
 use Rattle.exact_geom.proofs.Orientation.{orient_of_first_exchanged}
-use Rattle.plane_laws.proofs.Touching.{on_either, touch_swapped, touch_turned}
-use Rattle.plane_laws.proofs.Members.{source, IsIn}
-use Rattle.plane_laws.proofs.Between.{IsAlong}
+use Rattle.plane_laws.proofs.Segments.Touching.{on_either, touch_swapped, touch_turned}
+use Rattle.plane_laws.proofs.Lists.Members.{source, IsIn}
+use Rattle.plane_laws.proofs.Points.Between.{IsAlong}
 use Rattle.winding_laws.proofs.OneEdge.{turned}
 use Rattle.side_laws.proofs.Sides.{IsCornerOf, wall, KeepsApart}
 use Rattle.side_laws.proofs.Sound.{Distinct}
@@ -30,7 +30,8 @@ back_way a b d =
     let j = minus_times b.y a.y d.x in
     omega (arith, ints, e, f, g, h, i, j)
 
-pub corner_turned : (edges : List Segment) (u v z : Point) → IsCornerOf edges u v z → IsCornerOf (map turned edges) z v u
+pub corner_turned : (edges : List Segment) (u v z : Point) → IsCornerOf edges u v z
+    → IsCornerOf (map turned edges) z v u
 corner_turned edges u v z c =
     record {
       inner = record {
@@ -41,10 +42,12 @@ corner_turned edges u v z c =
       others = λ g there. let o = source turned edges g there in by_case g o.it o.is (c.others o.it o.is_in);
     }
   where
-    by_case : (g f : Segment) → turned f ≡ g → (f ≡ wall u v) ⊎ ((f ≡ wall v z) ⊎ (is_on_segment v f.a f.b ≡ false)) → (g ≡ wall z v) ⊎ ((g ≡ wall v u) ⊎ (is_on_segment v g.a g.b ≡ false))
+    by_case : (g f : Segment) → turned f ≡ g → (f ≡ wall u v) ⊎ ((f ≡ wall v z) ⊎ (is_on_segment v f.a f.b ≡ false))
+        → (g ≡ wall z v) ⊎ ((g ≡ wall v u) ⊎ (is_on_segment v g.a g.b ≡ false))
     by_case g f e (inl i) = inr (inl (sym e ∙ ap turned i))
     by_case g f e (inr (inl i)) = inl (sym e ∙ ap turned i)
-    by_case g f e (inr (inr off)) = inr (inr (subst (λ t. is_on_segment v t.a t.b ≡ false) e (on_either v f.a f.b ∙ off)))
+    by_case g f e (inr (inr off)) =
+        inr (inr (subst (λ t. is_on_segment v t.a t.b ≡ false) e (on_either v f.a f.b ∙ off)))
 
 pub alone_turned : (edges : List Segment) (e : Segment) → KeepsApart edges e → KeepsApart (map turned edges) (turned e)
 alone_turned edges e apart g there a_off b_off =
@@ -67,7 +70,14 @@ pub turned_along : (v z x : Point) → IsAlong v z x → same_point x z ≡ fals
 turned_along v z x h short =
     let o = orient_of_first_exchanged v z x in
     let l = h.between.line in
-    record { between = record { line = omega (arith, ints, o, l); x = swap x.x v.x z.x h.between.x; y = swap x.y v.y z.y h.between.y }; apart = short }
+    record {
+      between = record {
+        line = omega (arith, ints, o, l);
+        x = swap x.x v.x z.x h.between.x;
+        y = swap x.y v.y z.y h.between.y;
+      };
+      apart = short;
+    }
   where
     swap : (m a b : ℤ) → is_between m a b ≡ true → is_between m b a ≡ true
     swap m a b h = grind (arith, ints)

@@ -13,11 +13,11 @@ use Rattle.plane_spec.specs.declared.Segment.{Segment}
 use Rattle.plane_spec.specs.Vectors.{vector, cross_of, orient_of}
 use Rattle.plane_spec.specs.Segments.{do_touch}
 use Rattle.plane_laws.specs.Enlarged.{enlarged, enlarged_wall}
-use Rattle.plane_laws.proofs.Members.{IsIn, source}
-use Rattle.plane_laws.proofs.Heights.{height, height_from}
-use Rattle.plane_laws.proofs.Directions.{turn_is}
-use Rattle.plane_laws.proofs.Apart.{free_left}
-use Rattle.plane_laws.proofs.Scaled.{orient_scaled}
+use Rattle.plane_laws.proofs.Lists.Members.{IsIn, source}
+use Rattle.plane_laws.proofs.Points.Heights.{height, height_from}
+use Rattle.plane_laws.proofs.Points.Directions.{turn_is}
+use Rattle.plane_laws.proofs.Segments.Apart.{free_left}
+use Rattle.plane_laws.proofs.Points.Scaled.{orient_scaled}
 use Rattle.winding_laws.specs.Windings.{winding, near}
 use Rattle.winding_laws.proofs.Closed.{same_winding}
 use Rattle.winding_laws.proofs.Near.{value_at}
@@ -31,7 +31,8 @@ near_by : (n : ℕ) (o h c : ℤ) → 0 < n → pos 0 ≤ℤ o → pos 0 <ℤ h 
 near_by n o h c some low high e =
     let more = not_negative_product (pos n -ℤ pos 1) o (omega (arith, ints, some)) low in
     let f = by_parts (pos n) o in
-    let up = positive_product (pos n) (pos n *ℤ o +ℤ c) (omega (arith, ints, some)) (omega (arith, ints, more, f, high, e)) in
+    let up = positive_product (pos n) (pos n *ℤ o +ℤ c) (omega (arith, ints, some))
+    (omega (arith, ints, more, f, high, e)) in
     omega (arith, ints, up)
   where
     by_parts : (n o : ℤ) → (n -ℤ pos 1) *ℤ o ≡ n *ℤ o -ℤ o
@@ -42,7 +43,8 @@ left_near : (n : ℕ) (w : Segment) (v x : Point) → 0 < n → pos 0 ≤ℤ hei
     → pos 0 <ℤ orient_of (enlarged n w.a) (enlarged n w.b) (near n v (vector v x))
 left_near n w v x some low high =
     subst (λ t. pos 0 <ℤ t) (sym (side_near n w.a w.b v (vector v x)))
-    (near_by n (height w v) (height w x) (cross_of (vector w.a w.b) (vector v x)) some low high (height_from w.a w.b v x))
+    (near_by n (height w v) (height w x) (cross_of (vector w.a w.b) (vector v x)) some low high
+    (height_from w.a w.b v x))
 
 left_enlarged : (n : ℕ) (w : Segment) (x : Point) → 0 < n → pos 0 <ℤ height w x
     → pos 0 <ℤ orient_of (enlarged n w.a) (enlarged n w.b) (enlarged n x)
@@ -52,11 +54,13 @@ left_enlarged n w x some high =
     (positive_product (pos n *ℤ pos n) (height w x) (positive_product (pos n) (pos n) n_some n_some) high)
 
 -- strictly left of all walls they go round as often as on the left of each
-pub winding_inside : (walls : List Segment) (k : ℤ) → IsSound walls k → AreConvex walls → (first : Segment) → IsIn walls first
+pub winding_inside : (walls : List Segment) (k : ℤ) → IsSound walls k → AreConvex walls → (first : Segment)
+    → IsIn walls first
     → (x : Point) → ((w : Segment) → IsIn walls w → pos 0 <ℤ height w x) → winding x walls ≡ k
 winding_inside walls k sound convex first there x left =
     sym (winding_enlarged n x walls (omega arith))
-    ∙ sym (same_winding (near n v d) (enlarged n x) (map (enlarged_wall n) walls) (closed_enlarged n walls sound.closed) clear)
+    ∙ sym (same_winding (near n v d) (enlarged n x) (map (enlarged_wall n) walls)
+    (closed_enlarged n walls sound.closed) clear)
     ∙ here.from_there n (omega arith)
   where
     v : Point
@@ -71,7 +75,8 @@ winding_inside walls k sound convex first there x left =
     here : HasWinding walls v d k
     here =
         (sides.side d
-        (subst (λ t. pos 0 <ℤ t) (sym (turn_is sides.before v x)) (left (record { a = sides.before; b = v }) sides.before_there))
+        (subst (λ t. pos 0 <ℤ t) (sym (turn_is sides.before v x))
+        (left (record { a = sides.before; b = v }) sides.before_there))
         (left first there)).has
 
     n : ℕ

@@ -4,33 +4,38 @@
 -- of them: at x there is none, and further on it is strictly right of that line. Far enough along it a point is higher
 -- than all walls, or lower, and there the winding is 0. So it is 0 at x. Simplicity isn't needed.
 use Rattle.std.specs.Prelude.{false, List, [], ◌∷◌}
-use Rattle.std.proofs.Common.{◌≡◌, ◌⊎◌, inl, inr, ℕ, ◌+◌, ℤ, pos, neg_ℤ, ◌+ℤ◌, ◌-ℤ◌, ◌*ℤ◌, ◌<ℤ◌, ◌≤ℤ◌, refl, sym, ap, ◌∙◌, arith}
+use Rattle.std.proofs.Common.{◌≡◌, ◌⊎◌, inl, inr, ℕ, ◌+◌, ℤ, pos, neg_ℤ, ◌+ℤ◌, ◌-ℤ◌, ◌*ℤ◌, ◌<ℤ◌, ◌≤ℤ◌, refl, sym, ap}
+use Rattle.std.proofs.Common.{◌∙◌, arith}
 use Rattle.std.proofs.lemmas.Int.{ints, by_lt_z}
-use Rattle.int_laws.proofs.Ring.{times_minus, times_neg, times_one, times_zero, zero_times, product_grouped, product_swapped}
+use Rattle.int_laws.proofs.Ring.{times_minus, times_neg, times_one, times_zero, zero_times, product_grouped}
+use Rattle.int_laws.proofs.Ring.{product_swapped}
 use Rattle.int_laws.proofs.Signs.{negative_product}
 use Rattle.plane_spec.specs.declared.Point.{Point}
 use Rattle.plane_spec.specs.declared.Segment.{Segment}
 use Rattle.plane_spec.specs.Vectors.{point, vector, cross_of, same_point}
 use Rattle.plane_spec.specs.Segments.{is_on_segment}
-use Rattle.plane_laws.proofs.Members.{IsIn}
-use Rattle.plane_laws.proofs.Heights.{height, height_from}
-use Rattle.plane_laws.proofs.Directions.{some_square}
-use Rattle.plane_laws.proofs.Separated.{separated}
+use Rattle.plane_laws.proofs.Lists.Members.{IsIn}
+use Rattle.plane_laws.proofs.Points.Heights.{height, height_from}
+use Rattle.plane_laws.proofs.Points.Directions.{some_square}
+use Rattle.plane_laws.proofs.Segments.Separated.{separated}
 use Rattle.winding_laws.specs.Windings.{winding, wind}
 use Rattle.winding_laws.proofs.Closed.{AreClosed, same_winding}
-use Rattle.winding_laws.proofs.Near.{Eventually, eventually_both, eventually_then, eventually_all, linear, value_at, eventually_positive}
+use Rattle.winding_laws.proofs.Near.{Eventually, eventually_both, eventually_then, eventually_all, linear, value_at}
+use Rattle.winding_laws.proofs.Near.{eventually_positive}
 use Rattle.winding_laws.proofs.OneEdge.{wind_above, wind_below}
 
 -- n steps of d away from x
 abbrev stepped : ℕ → Point → Point → Point
 stepped n x d = point (x.x +ℤ pos n *ℤ d.x) (x.y +ℤ pos n *ℤ d.y)
 
-height_stepped : (n : ℕ) (w : Segment) (x d : Point) → height w (stepped n x d) ≡ height w x +ℤ pos n *ℤ cross_of (vector w.a w.b) d
+height_stepped : (n : ℕ) (w : Segment) (x d : Point)
+    → height w (stepped n x d) ≡ height w x +ℤ pos n *ℤ cross_of (vector w.a w.b) d
 height_stepped n w x d =
     height_from w.a w.b x (stepped n x d)
     ∙ ap (λ t. height w x +ℤ t) (by_parts (w.b.x -ℤ w.a.x) (w.b.y -ℤ w.a.y) x.x x.y (pos n) d.x d.y)
   where
-    by_parts : (ux uy x y n dx dy : ℤ) → ux *ℤ ((y +ℤ n *ℤ dy) -ℤ y) -ℤ uy *ℤ ((x +ℤ n *ℤ dx) -ℤ x) ≡ n *ℤ (ux *ℤ dy -ℤ uy *ℤ dx)
+    by_parts : (ux uy x y n dx dy : ℤ)
+        → ux *ℤ ((y +ℤ n *ℤ dy) -ℤ y) -ℤ uy *ℤ ((x +ℤ n *ℤ dx) -ℤ x) ≡ n *ℤ (ux *ℤ dy -ℤ uy *ℤ dx)
     by_parts ux uy x y n dx dy =
         let a : (y +ℤ n *ℤ dy) -ℤ y ≡ n *ℤ dy = omega (arith, ints) in
         let b : (x +ℤ n *ℤ dx) -ℤ x ≡ n *ℤ dx = omega (arith, ints) in
@@ -57,20 +62,28 @@ passes x d b h =
 passes_below : (x d b : ℤ) → d <ℤ pos 0 → Eventually (λ n. (x +ℤ pos n *ℤ d) <ℤ b)
 passes_below x d b h =
     eventually_then (λ n. neg_ℤ b <ℤ (neg_ℤ x +ℤ pos n *ℤ neg_ℤ d)) (λ n. (x +ℤ pos n *ℤ d) <ℤ b)
-    (λ n k. let e = times_neg (pos n) d in omega (arith, ints, e, k)) (passes (neg_ℤ x) (neg_ℤ d) (neg_ℤ b) (omega (arith, ints, h)))
+    (λ n k. let e = times_neg (pos n) d in omega (arith, ints, e, k))
+    (passes (neg_ℤ x) (neg_ℤ d) (neg_ℤ b) (omega (arith, ints, h)))
 
 -- far enough in a direction that isn't level, an edge isn't gone round
-wind_far : (x d : Point) (f : Segment) → (pos 0 <ℤ d.y) ⊎ (d.y <ℤ pos 0) → Eventually (λ n. wind (stepped n x d) f ≡ pos 0)
+wind_far : (x d : Point) (f : Segment) → (pos 0 <ℤ d.y) ⊎ (d.y <ℤ pos 0)
+    → Eventually (λ n. wind (stepped n x d) f ≡ pos 0)
 wind_far x d f (inl up) =
-    eventually_then (λ n. (f.a.y <ℤ (x.y +ℤ pos n *ℤ d.y)) × (f.b.y <ℤ (x.y +ℤ pos n *ℤ d.y))) (λ n. wind (stepped n x d) f ≡ pos 0)
-    (λ n h. let a = h.0 in let b = h.1 in wind_above (stepped n x d) f (omega (arith, ints, a)) (omega (arith, ints, b)))
-    (eventually_both (λ n. f.a.y <ℤ (x.y +ℤ pos n *ℤ d.y)) (λ n. f.b.y <ℤ (x.y +ℤ pos n *ℤ d.y)) (passes x.y d.y f.a.y up) (passes x.y d.y f.b.y up))
+    eventually_then (λ n. (f.a.y <ℤ (x.y +ℤ pos n *ℤ d.y)) × (f.b.y <ℤ (x.y +ℤ pos n *ℤ d.y)))
+    (λ n. wind (stepped n x d) f ≡ pos 0)
+    (λ n h. let a = h.0 in let b = h.1 in wind_above (stepped n x d) f (omega (arith, ints, a))
+    (omega (arith, ints, b)))
+    (eventually_both (λ n. f.a.y <ℤ (x.y +ℤ pos n *ℤ d.y)) (λ n. f.b.y <ℤ (x.y +ℤ pos n *ℤ d.y))
+    (passes x.y d.y f.a.y up) (passes x.y d.y f.b.y up))
 wind_far x d f (inr down) =
-    eventually_then (λ n. ((x.y +ℤ pos n *ℤ d.y) <ℤ f.a.y) × ((x.y +ℤ pos n *ℤ d.y) <ℤ f.b.y)) (λ n. wind (stepped n x d) f ≡ pos 0)
+    eventually_then (λ n. ((x.y +ℤ pos n *ℤ d.y) <ℤ f.a.y) × ((x.y +ℤ pos n *ℤ d.y) <ℤ f.b.y))
+    (λ n. wind (stepped n x d) f ≡ pos 0)
     (λ n h. wind_below (stepped n x d) f h.0 h.1)
-    (eventually_both (λ n. (x.y +ℤ pos n *ℤ d.y) <ℤ f.a.y) (λ n. (x.y +ℤ pos n *ℤ d.y) <ℤ f.b.y) (passes_below x.y d.y f.a.y down) (passes_below x.y d.y f.b.y down))
+    (eventually_both (λ n. (x.y +ℤ pos n *ℤ d.y) <ℤ f.a.y) (λ n. (x.y +ℤ pos n *ℤ d.y) <ℤ f.b.y)
+    (passes_below x.y d.y f.a.y down) (passes_below x.y d.y f.b.y down))
 
-all_none : (y : Point) (edges : List Segment) → ((f : Segment) → IsIn edges f → wind y f ≡ pos 0) → winding y edges ≡ pos 0
+all_none : (y : Point) (edges : List Segment) → ((f : Segment) → IsIn edges f → wind y f ≡ pos 0)
+    → winding y edges ≡ pos 0
 all_none y [] none = refl
 all_none y (f ∷ edges) none =
     let first = none f (inl refl) in
@@ -94,7 +107,11 @@ away w real =
     let upright : ux ≡ pos 0 = omega (arith, ints, not_east, not_west) in
     let none = ap (λ t. t *ℤ ux) upright ∙ zero_times ux in
     let once = times_one ux in
-    record { way = point uy (pos 1); right = omega (arith, ints, long, none, once, upright); tilted = inl (omega (arith, ints)) }))
+    record {
+      way = point uy (pos 1);
+      right = omega (arith, ints, long, none, once, upright);
+      tilted = inl (omega (arith, ints));
+    }))
   where
     ux : ℤ
     ux = w.b.x -ℤ w.a.x
@@ -118,7 +135,8 @@ pub winding_outside : (walls : List Segment) → AreClosed walls → (w : Segmen
     → (x : Point) → height w x ≤ℤ pos 0 → ((f : Segment) → IsIn walls f → is_on_segment x f.a f.b ≡ false)
     → winding x walls ≡ pos 0
 winding_outside walls closed w real some left x right off =
-    same_winding x y walls closed (λ f there. separated w f x y (some f there) (left f there).0 (left f there).1 right y_right (off f there))
+    same_winding x y walls closed (λ f there. separated w f x y (some f there) (left f there).0
+    (left f there).1 right y_right (off f there))
     ∙ all_none y walls (far.from_there n (omega arith))
   where
     a : Away w

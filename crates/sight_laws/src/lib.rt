@@ -1,23 +1,25 @@
-//! Laws of convex polygons: what is inside one is what is strictly left of all its walls, and so sight in a plan of convex
-//! polygons is told by what a segment passes through.
+//! Laws of convex polygons: what is inside one is what is strictly left of all its walls, and so sight in a plan of
+//! convex polygons is told by what a segment passes through.
 //!
 //! ```text
-//!     4 ┌───────3       p sees r along the upper wall and past both its corners: no point of the way is strictly left of
-//! p ────┼───────┼─── r  all four walls. It doesn't see s, since the way there passes through the box: between the walls
-//!       │    ...│...    it is strictly left of all of them.
-//!     1 └───────2    s
+//!   p ──────4━━━━━━━3──── r   p sees r along the upper wall and past both its corners: no point of the way is strictly
+//!       ╲   ┃       ┃         left of all four walls. It doesn't see s, since the way there passes through the box:
+//!          ╲┃       ┃         between the walls it is strictly left of all of them.
+//!           ┃  ╲    ┃
+//!           1━━━━━╲━2
+//!                     ╲ s
 //! ```
 //!
-//! A polygon's walls, directed as an obstacle's, have its inside on their left. It is convex where each corner is on or
-//! left of each wall. A point that is strictly left of all walls sees the beginning of a wall over such points alone; the
-//! winding near that wall's left is 1, and no wall is touched on the way, so it is 1 at the point too, and the point is
-//! inside. A point on the line of a wall or right of it, and on no wall, sees far away from the polygon on that side, where
-//! the winding is 0, so it isn't inside. The laws of simple polygons then say the rest: a convex obstacle blocks what passes
-//! through its inside, a convex outer polygon blocks nothing, and in a sound plan the open points of a segment are those
-//! that are strictly inside no obstacle.
+//! A polygon's walls, directed as an obstacle's, have its inside on their left. It is convex where each corner is on
+//! or left of each wall. A point that is strictly left of all walls sees the beginning of a wall over such points
+//! alone; the winding near that wall's left is 1, and no wall is touched on the way, so it is 1 at the point too, and
+//! the point is inside. A point on the line of a wall or right of it, and on no wall, sees far away from the polygon
+//! on that side, where the winding is 0, so it isn't inside. The laws of simple polygons then say the rest: a convex
+//! obstacle blocks what passes through its inside, a convex outer polygon blocks nothing, and in a sound plan the
+//! open points of a segment are those that are strictly inside no obstacle.
 //!
-//! A law is a function without parameters and with an empty body, whose contract states it. Polygons may have straight
-//! corners, and their points may go round either way; coordinates are any whole numbers.
+//! A law is a function without parameters and with an empty body, whose contract states it. Polygons may have
+//! straight corners, and their points may go round either way; coordinates are any whole numbers.
 //!
 //! | law | what it says | breaks if .. changes |
 //! |---|---|---|

@@ -1,7 +1,9 @@
--- A step from a border point into what lies on the left of the walls: a wall there has it on its left, or a corner there has it in its cone.
+-- A step from a border point into what lies on the left of the walls: a wall there has it on its left, or a corner
+-- there has it in its cone.
 use Rattle.std.specs.Prelude.{List, false, true, Bool}
 use Rattle.std.specs.Ordering.{int_eq}
-use Rattle.std.proofs.Common.{pos, ℤ, ◌≡◌, ◌<ℤ◌, ◌⊎◌, refl, sym, arith, neg_ℤ, inl, inr, subst, ◌-ℤ◌, ◌≤ℤ◌, ◌∙◌, ap, ◌*ℤ◌}
+use Rattle.std.proofs.Common.{pos, ℤ, ◌≡◌, ◌<ℤ◌, ◌⊎◌, refl, sym, arith, neg_ℤ, inl, inr, subst, ◌-ℤ◌, ◌≤ℤ◌, ◌∙◌, ap}
+use Rattle.std.proofs.Common.{◌*ℤ◌}
 use Rattle.std.proofs.lemmas.Bool.{and_parts}
 use Rattle.std.proofs.lemmas.Int.{ints, by_lt_z}
 use Rattle.int_laws.proofs.Tests.{tested_equal}
@@ -12,12 +14,12 @@ use Rattle.plane_spec.specs.declared.Segment.{Segment}
 use Rattle.plane_spec.specs.Cones.{corner, is_in_cone}
 use Rattle.plane_spec.specs.Vectors.{cross_of, same_point, vector, point, dot_of}
 use Rattle.plane_spec.specs.Segments.{is_on_segment}
-use Rattle.plane_laws.proofs.Between.{IsAlong, IsBetween, between, high, on_again, same_from_test}
-use Rattle.plane_laws.proofs.Members.{IsIn}
+use Rattle.plane_laws.proofs.Points.Between.{IsAlong, IsBetween, between, high, on_again, same_from_test}
+use Rattle.plane_laws.proofs.Lists.Members.{IsIn}
 use Rattle.plane_laws.proofs.Tests.{clash}
-use Rattle.plane_laws.proofs.Directions.{cross_back, at_end, back_cross, exchanged, some_square}
-use Rattle.plane_laws.proofs.Touching.{on_turned}
-use Rattle.plane_laws.proofs.Heights.{along, height_from}
+use Rattle.plane_laws.proofs.Points.Directions.{cross_back, at_end, back_cross, exchanged, some_square}
+use Rattle.plane_laws.proofs.Segments.Touching.{on_turned}
+use Rattle.plane_laws.proofs.Points.Heights.{along, height_from}
 use Rattle.winding_laws.proofs.Strips.{HasWinding, same_value}
 use Rattle.side_laws.proofs.Sound.{IsSound, SidesOf}
 use Rattle.side_laws.proofs.Sides.{wall}
@@ -25,10 +27,13 @@ use Rattle.cone_laws.proofs.Beside.{out_of_cone, right_of_wall}
 use Rattle.cone_laws.proofs.Cones.{lagrange}
 use Rattle.walk_laws.proofs.Along.{ends_on_wall, on_part}
 
--- what stops the step at x: a wall in whose middle x lies, with the step on its left, or a corner at x with the step in its cone
+-- what stops the step at x: a wall in whose middle x lies, with the step on its left, or a corner at x with the step
+-- in its cone
 pub data Hit (edges : List Segment) (k : ℤ) (sound : IsSound edges k) (x d : Point) : Type 0 where
-  at_wall : (f : Segment) → IsIn edges f → IsAlong f.a f.b x → same_point x f.b ≡ false → pos 0 <ℤ cross_of (vector f.a f.b) d → Hit edges k sound x d
-  at_corner : (f : Segment) → (there : IsIn edges f) → f.a ≡ x → is_in_cone (corner (sound.sides f there).before f.a f.b) d ≡ true → Hit edges k sound x d
+  at_wall : (f : Segment) → IsIn edges f → IsAlong f.a f.b x → same_point x f.b ≡ false
+      → pos 0 <ℤ cross_of (vector f.a f.b) d → Hit edges k sound x d
+  at_corner : (f : Segment) → (there : IsIn edges f) → f.a ≡ x
+      → is_in_cone (corner (sound.sides f there).before f.a f.b) d ≡ true → Hit edges k sound x d
 
 -- the step from x to y, which is on no edge; edges end on it at its ends alone
 pub record IsStepOff (edges : List Segment) (x y : Point) : Type 0 where
@@ -49,8 +54,11 @@ dot_back a b d =
     omega (arith, ints, e, f, g, h)
 
 -- a corner of which the step leads neither along a wall nor into the cone has the other winding
-corner_hit : (edges : List Segment) (k w : ℤ) (sound : IsSound edges k) (x y : Point) → IsStepOff edges x y → HasWinding edges x (vector x y) w → (w ≡ k -ℤ pos 1 → ⊥) → (f : Segment) → IsIn edges f → f.a ≡ x → Hit edges k sound x (vector x y)
-corner_hit edges k w sound x y step h not_right f there at = by_test (is_in_cone (corner s.before f.a f.b) (vector x y)) refl
+corner_hit : (edges : List Segment) (k w : ℤ) (sound : IsSound edges k) (x y : Point) → IsStepOff edges x y
+    → HasWinding edges x (vector x y) w → (w ≡ k -ℤ pos 1 → ⊥) → (f : Segment) → IsIn edges f → f.a ≡ x
+    → Hit edges k sound x (vector x y)
+corner_hit edges k w sound x y step h not_right f there at =
+    by_test (is_in_cone (corner s.before f.a f.b) (vector x y)) refl
   where
     s : SidesOf edges f k
     s = sound.sides f there
@@ -69,14 +77,17 @@ corner_hit edges k w sound x y step h not_right f there at = by_test (is_in_cone
         let c = cross_back (vector x y) s.before f.a in
         let e = dot_back s.before f.a (vector x y) in
         absurd (clash (step.off (wall s.before f.a) s.before_there) (on_turned y s.before f.a
-        (ends_on_wall f.a s.before y (flip s.before f.a real_before) (subst (λ t. cross_of (vector f.a s.before) (vector t y) ≡ pos 0) (sym at) (omega (arith, ints, c, line)))
+        (ends_on_wall f.a s.before y (flip s.before f.a real_before)
+        (subst (λ t. cross_of (vector f.a s.before) (vector t y) ≡ pos 0) (sym at) (omega (arith, ints, c, line)))
         (subst (λ t. pos 0 ≤ℤ dot_of (vector f.a s.before) (vector t y)) (sym at) (omega (arith, ints, e, q)))
-        (λ on. moved_before (step.a_at (wall s.before f.a) s.before_there (subst (λ t. is_on_segment s.before t y ≡ true) at on)))))))
+        (λ on. moved_before (step.a_at (wall s.before f.a) s.before_there
+        (subst (λ t. is_on_segment s.before t y ≡ true) at on)))))))
 
     not_on : cross_of (vector f.a f.b) (vector x y) ≡ pos 0 → dot_of (vector f.a f.b) (vector x y) <ℤ pos 0
     not_on line =
         by_lt_z (dot_of (vector f.a f.b) (vector x y)) (pos 0) (λ p. p)
-        (λ q. absurd (clash (step.off f there) (ends_on_wall f.a f.b y (sound.some f there) (subst (λ t. cross_of (vector f.a f.b) (vector t y) ≡ pos 0) (sym at) line)
+        (λ q. absurd (clash (step.off f there) (ends_on_wall f.a f.b y (sound.some f there)
+        (subst (λ t. cross_of (vector f.a f.b) (vector t y) ≡ pos 0) (sym at) line)
         (subst (λ t. pos 0 ≤ℤ dot_of (vector f.a f.b) (vector t y)) (sym at) q)
         (λ on. moved (step.b_at f there (subst (λ t. is_on_segment f.b t y ≡ true) at on))))))
       where
@@ -87,31 +98,39 @@ corner_hit edges k w sound x y step h not_right f there at = by_test (is_in_cone
     by_test : (t : Bool) → is_in_cone (corner s.before f.a f.b) (vector x y) ≡ t → Hit edges k sound x (vector x y)
     by_test true i = at_corner f there at i
     by_test false i =
-        let other = out_of_cone edges k sound f there (vector x y) (record { not_back = not_back; not_on = not_on }) i in
-        absurd (not_right (same_value edges x (vector x y) w (k -ℤ pos 1) h (subst (λ t. HasWinding edges t (vector x y) (k -ℤ pos 1)) at other)))
+        let other = out_of_cone edges k sound f there (vector x y)
+        (record { not_back = not_back; not_on = not_on }) i in
+        absurd (not_right (same_value edges x (vector x y) w (k -ℤ pos 1) h
+        (subst (λ t. HasWinding edges t (vector x y) (k -ℤ pos 1)) at other)))
 
 -- in the middle of a wall
-middle_hit : (edges : List Segment) (k w : ℤ) (sound : IsSound edges k) (x y : Point) → IsStepOff edges x y → HasWinding edges x (vector x y) w → (w ≡ k -ℤ pos 1 → ⊥) → (f : Segment) → IsIn edges f → IsAlong f.a f.b x → same_point x f.b ≡ false → Hit edges k sound x (vector x y)
+middle_hit : (edges : List Segment) (k w : ℤ) (sound : IsSound edges k) (x y : Point) → IsStepOff edges x y
+    → HasWinding edges x (vector x y) w → (w ≡ k -ℤ pos 1 → ⊥) → (f : Segment) → IsIn edges f → IsAlong f.a f.b x
+    → same_point x f.b ≡ false → Hit edges k sound x (vector x y)
 middle_hit edges k w sound x y step h other f there here short =
     by_lt_z (pos 0) (cross_of (vector f.a f.b) (vector x y))
     (λ left. at_wall f there here short left)
     (λ not_left. by_lt_z (cross_of (vector f.a f.b) (vector x y)) (pos 0)
-    (λ right. absurd (other (same_value edges x (vector x y) w (k -ℤ pos 1) h (right_of_wall edges k sound f there x (vector x y) here short right))))
+    (λ right. absurd (other (same_value edges x (vector x y) w (k -ℤ pos 1) h
+    (right_of_wall edges k sound f there x (vector x y) here short right))))
     (λ not_right. absurd (clash (step.off f there) (on_wall (omega (arith, ints, not_left, not_right))))))
   where
     real : pos 0 <ℤ dot_of (vector f.a f.b) (vector f.a f.b)
     real = some_square f.a f.b (sound.some f there)
 
-    parallel : (u j v : Point) → pos 0 <ℤ dot_of u u → cross_of u j ≡ pos 0 → cross_of u v ≡ pos 0 → cross_of j v ≡ pos 0
+    parallel : (u j v : Point) → pos 0 <ℤ dot_of u u → cross_of u j ≡ pos 0 → cross_of u v ≡ pos 0
+        → cross_of j v ≡ pos 0
     parallel u j v some_u uj uv =
         let e = along u j v in
         let s = exchanged u j in
-        let f = ap (λ t. dot_of u v *ℤ t) (let z : cross_of j u ≡ pos 0 = omega (arith, ints, s, uj) in z) ∙ times_zero (dot_of u v) in
+        let f = ap (λ t. dot_of u v *ℤ t) (let z : cross_of j u ≡ pos 0 = omega (arith, ints, s, uj) in z)
+        ∙ times_zero (dot_of u v) in
         let g = ap (λ t. t *ℤ dot_of j u) uv ∙ zero_times (dot_of j u) in
         let t = product_swapped (dot_of u u) (cross_of j v) in
         zero_factor (cross_of j v) (dot_of u u) (omega (arith, ints, e, f, g, t)) some_u
 
-    onward : (u j v : Point) → pos 0 <ℤ dot_of u u → cross_of u j ≡ pos 0 → pos 0 ≤ℤ dot_of u j → pos 0 ≤ℤ dot_of u v → pos 0 ≤ℤ dot_of j v
+    onward : (u j v : Point) → pos 0 <ℤ dot_of u u → cross_of u j ≡ pos 0 → pos 0 ≤ℤ dot_of u j → pos 0 ≤ℤ dot_of u v
+        → pos 0 ≤ℤ dot_of j v
     onward u j v some_u uj a b =
         let l = lagrange u j v in
         let z = ap (λ t. t *ℤ cross_of u v) uj ∙ zero_times (cross_of u v) in
@@ -120,7 +139,8 @@ middle_hit edges k w sound x y step h other f there here short =
         not_negative_factor (dot_of j v) (dot_of u u) (omega (arith, ints, l, z, p, t)) some_u
 
     -- the wall from x to its end z, in the direction u of the wall
-    to_end : (a z : Point) → same_point a z ≡ false → IsBetween x a z → same_point x z ≡ false → cross_of (vector a z) (vector x y) ≡ pos 0 → pos 0 ≤ℤ dot_of (vector a z) (vector x y)
+    to_end : (a z : Point) → same_point a z ≡ false → IsBetween x a z → same_point x z ≡ false
+        → cross_of (vector a z) (vector x y) ≡ pos 0 → pos 0 ≤ℤ dot_of (vector a z) (vector x y)
         → (is_on_segment z x y ≡ true → (z ≡ x) ⊎ (z ≡ y)) → is_on_segment x a z ≡ true → is_on_segment y a z ≡ true
     to_end a z apart on short_z line forward at part =
         let k = some_square a z apart in
@@ -129,7 +149,8 @@ middle_hit edges k w sound x y step h other f there here short =
         let l = on.line in
         let b = back_cross (vector a z) z x in
         let uj : cross_of (vector a z) (vector x z) ≡ pos 0 = omega (arith, ints, from, e, l, b) in
-        on_part y x a z (ends_on_wall x z y short_z (parallel (vector a z) (vector x z) (vector x y) k uj line) (onward (vector a z) (vector x z) (vector x y) k uj (high x a z on) forward) at) part line
+        on_part y x a z (ends_on_wall x z y short_z (parallel (vector a z) (vector x z) (vector x y) k uj line)
+        (onward (vector a z) (vector x z) (vector x y) k uj (high x a z on) forward) at) part line
 
     whole : is_on_segment x f.a f.b ≡ true
     whole = on_again x f.a f.b here.between
@@ -140,14 +161,22 @@ middle_hit edges k w sound x y step h other f there here short =
         (λ back.
         let c = cross_back (vector x y) f.a f.b in
         let e = dot_back f.a f.b (vector x y) in
-        on_turned y f.a f.b (to_end f.b f.a (flip f.a f.b (sound.some f there)) (between x f.b f.a (on_turned x f.b f.a whole)) here.apart (omega (arith, ints, c, line)) (omega (arith, ints, e, back)) (step.a_at f there) (on_turned x f.b f.a whole)))
+        on_turned y f.a f.b (to_end f.b f.a (flip f.a f.b (sound.some f there))
+        (between x f.b f.a (on_turned x f.b f.a whole)) here.apart (omega (arith, ints, c, line))
+        (omega (arith, ints, e, back)) (step.a_at f there) (on_turned x f.b f.a whole)))
         (λ forward. to_end f.a f.b (sound.some f there) here.between short line forward (step.b_at f there) whole)
 
--- **the step from a point x of the border, where its winding is not that of the right side, is stopped by a wall or a corner at x**
-pub first_hit : (edges : List Segment) (k w : ℤ) (sound : IsSound edges k) (x y : Point) → IsStepOff edges x y → HasWinding edges x (vector x y) w → (w ≡ k -ℤ pos 1 → ⊥) → (f : Segment) → IsIn edges f → is_on_segment x f.a f.b ≡ true → Hit edges k sound x (vector x y)
+-- **the step from a point x of the border, where its winding is not that of the right side, is stopped by a wall or a
+-- corner at x**
+pub first_hit : (edges : List Segment) (k w : ℤ) (sound : IsSound edges k) (x y : Point) → IsStepOff edges x y
+    → HasWinding edges x (vector x y) w → (w ≡ k -ℤ pos 1 → ⊥) → (f : Segment) → IsIn edges f
+    → is_on_segment x f.a f.b ≡ true → Hit edges k sound x (vector x y)
 first_hit edges k w sound x y step h other f there on = by_start (same_point x f.a) (same_point x f.b) refl refl
   where
     by_start : (s t : Bool) → same_point x f.a ≡ s → same_point x f.b ≡ t → Hit edges k sound x (vector x y)
     by_start true t e g = corner_hit edges k w sound x y step h other f there (same_from_test x f.a e)
-    by_start false true e g = let s = sound.sides f there in corner_hit edges k w sound x y step h other (wall f.b s.after) s.after_there (same_from_test x f.b g)
-    by_start false false e g = middle_hit edges k w sound x y step h other f there (record { between = between x f.a f.b on; apart = e }) g
+    by_start false true e g =
+        let s = sound.sides f there in corner_hit edges k w sound x y step h other (wall f.b s.after) s.after_there
+        (same_from_test x f.b g)
+    by_start false false e g =
+        middle_hit edges k w sound x y step h other f there (record { between = between x f.a f.b on; apart = e }) g

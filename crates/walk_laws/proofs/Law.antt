@@ -9,17 +9,20 @@ use Rattle.plane_spec.specs.declared.Segment.{Segment}
 use Rattle.plane_spec.specs.Vectors.{same_point}
 use Rattle.plane_laws.specs.Enlarged.{part_way}
 use Rattle.plane_laws.proofs.Tests.{clash}
-use Rattle.plane_laws.proofs.Members.{from_contains}
+use Rattle.plane_laws.proofs.Lists.Members.{from_contains}
 use Rattle.walk_laws.specs.Steps.{MeetsAtEnds}
 use Rattle.walk_laws.proofs.Walk.{met_at_ends}
 use Rattle.walk_laws.proofs.Fine.{FineSteps, fine_steps}
-
-apart_from : (p q : Point) → same_point p q ≡ false → q.x -ℤ p.x ≡ pos 0 → q.y -ℤ p.y ≡ pos 0 → ⊥
-apart_from p q h e f = clash h (and_from _ _ (equal_tested p.x q.x (omega (arith, ints, e))) (equal_tested p.y q.y (omega (arith, ints, f))))
+use Rattle.plane_laws.proofs.Points.Between.{apart_from}
 
 pub steps_meet_at_ends : (edges : List Segment) (p q : Point) → same_point p q ≡ false
     → (n : ℕ) × (0 < n) × ((i : ℕ) (e : Segment) → Contains edges e → MeetsAtEnds n i p q e)
-steps_meet_at_ends edges p q differ = (steps.number, some, λ i e there touch. met_at_ends steps.number i p q e (steps.fine e (from_contains edges e there)) touch)
+steps_meet_at_ends edges p q differ = (
+  steps.number,
+  some,
+  λ i e there touch. met_at_ends steps.number i p q e
+      (steps.fine e (from_contains edges e there)) touch,
+)
   where
     steps : FineSteps edges p q 1
     steps = fine_steps edges p q 1 (omega arith) (apart_from p q differ)

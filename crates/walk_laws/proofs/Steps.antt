@@ -1,23 +1,26 @@
--- From a step on an edge to the next, off all edges: the winding near the first, towards the second, is that of the second.
+-- From a step on an edge to the next, off all edges: the winding near the first, towards the second, is that of the
+-- second.
 use Rattle.std.specs.Prelude.{false, true}
 use Rattle.std.specs.Ordering.{int_eq}
-use Rattle.std.proofs.Common.{pos, ℕ, ℤ, ◌+ℤ◌, ◌*ℤ◌, arith, ◌≡◌, ◌<◌, ◌-ℤ◌, ◌<ℤ◌, ◌≤ℤ◌, ap, ◌∙◌, inl, inr, ◌⊎◌, neg_ℤ, sym}
+use Rattle.std.proofs.Common.{pos, ℕ, ℤ, ◌+ℤ◌, ◌*ℤ◌, arith, ◌≡◌, ◌<◌, ◌-ℤ◌, ◌<ℤ◌, ◌≤ℤ◌, ap, ◌∙◌, inl, inr, ◌⊎◌, neg_ℤ}
+use Rattle.std.proofs.Common.{sym}
 use Rattle.std.proofs.lemmas.Int.{ints, by_lt_z}
 use Rattle.std.proofs.lemmas.Bool.{false_from_ne_true}
 use Rattle.int_laws.proofs.Signs.{not_negative_product, positive_product, zero_factor}
-use Rattle.int_laws.proofs.Ring.{times_minus, minus_times, one_times, times_sum, times_neg, product_swapped, times_zero, zero_times}
+use Rattle.int_laws.proofs.Ring.{times_minus, minus_times, one_times, times_sum, times_neg, product_swapped}
+use Rattle.int_laws.proofs.Ring.{times_zero, zero_times}
 use Rattle.plane_spec.specs.declared.Point.{Point}
 use Rattle.plane_spec.specs.Segments.{is_between, do_touch, is_on_segment}
 use Rattle.plane_spec.specs.Vectors.{same_point, cross_of, dot_of, orient_of, point, vector}
 use Rattle.exact_geom.proofs.Orientation.{orient_of_first_exchanged}
 use Rattle.plane_laws.specs.Enlarged.{enlarged}
-use Rattle.plane_laws.proofs.Apart.{AreBefore, free_east, free_north, free_south, free_west}
+use Rattle.plane_laws.proofs.Segments.Apart.{AreBefore, free_east, free_north, free_south, free_west}
 use Rattle.plane_laws.proofs.Tests.{clash}
-use Rattle.plane_laws.proofs.Heights.{along, height_from}
-use Rattle.plane_laws.proofs.Directions.{at_end, back_cross, cross_back, exchanged, some_square}
-use Rattle.plane_laws.proofs.Between.{between}
-use Rattle.plane_laws.proofs.Touching.{changes, never_down, never_up}
-use Rattle.plane_laws.proofs.Shared.{on_line_x, on_line_y}
+use Rattle.plane_laws.proofs.Points.Heights.{along, height_from}
+use Rattle.plane_laws.proofs.Points.Directions.{at_end, back_cross, cross_back, exchanged, some_square}
+use Rattle.plane_laws.proofs.Points.Between.{between}
+use Rattle.plane_laws.proofs.Segments.Touching.{changes, never_down, never_up}
+use Rattle.plane_laws.proofs.Segments.Shared.{on_line_x, on_line_y}
 use Rattle.winding_laws.proofs.Near.{Eventually, eventually_then, linear, square}
 use Rattle.winding_laws.proofs.Strips.{Clears, clears_down, clears_left, clears_right, clears_up}
 use Rattle.walk_laws.proofs.Walk.{zero_by}
@@ -32,7 +35,8 @@ abbrev AfterNear : ℤ → ℤ → ℤ → ℤ → ℤ → ℕ → Type 0
 AfterNear x d y a b n = AreBefore (pos n *ℤ a) (pos n *ℤ b) (pos n *ℤ x +ℤ d) (pos n *ℤ y +ℤ pos 0)
 
 -- a is at x or before it: it is before what is near x, and before y
-at_or_before : (n : ℕ) (x d y a : ℤ) → 0 < n → y ≡ x +ℤ d → pos 0 <ℤ d → a ≤ℤ x → ((pos n *ℤ a) <ℤ (pos n *ℤ x +ℤ d)) × ((pos n *ℤ a) <ℤ (pos n *ℤ y +ℤ pos 0))
+at_or_before : (n : ℕ) (x d y a : ℤ) → 0 < n → y ≡ x +ℤ d → pos 0 <ℤ d → a ≤ℤ x
+    → ((pos n *ℤ a) <ℤ (pos n *ℤ x +ℤ d)) × ((pos n *ℤ a) <ℤ (pos n *ℤ y +ℤ pos 0))
 at_or_before n x d y a some e up h =
     let p = not_negative_product (pos n) (x -ℤ a) (omega (arith, ints)) (omega (arith, ints, h)) in
     let q = positive_product (pos n) (y -ℤ a) (omega (arith, ints, some)) (omega (arith, ints, h, e, up)) in
@@ -41,7 +45,8 @@ at_or_before n x d y a some e up h =
     (omega (arith, ints, p, f, up), omega (arith, ints, q, g))
 
 -- a is past y
-past : (n : ℕ) (x d y a : ℤ) → 0 < n → y ≡ x +ℤ d → pos 0 <ℤ d → y <ℤ a → ((pos n *ℤ x +ℤ d) <ℤ (pos n *ℤ a)) × ((pos n *ℤ y +ℤ pos 0) <ℤ (pos n *ℤ a))
+past : (n : ℕ) (x d y a : ℤ) → 0 < n → y ≡ x +ℤ d → pos 0 <ℤ d → y <ℤ a
+    → ((pos n *ℤ x +ℤ d) <ℤ (pos n *ℤ a)) × ((pos n *ℤ y +ℤ pos 0) <ℤ (pos n *ℤ a))
 past n x d y a some e up h =
     let p = positive_product (pos n) (a -ℤ y) (omega (arith, ints, some)) (omega (arith, ints, h)) in
     let q = not_negative_product (pos n -ℤ pos 1) d (omega (arith, ints, some)) (omega (arith, ints, up)) in
@@ -51,19 +56,28 @@ past n x d y a some e up h =
     let o = one_times d in
     (omega (arith, ints, p, q, f, g, h', o), omega (arith, ints, p, f))
 
-apart_up : (x d y a b : ℤ) → y ≡ x +ℤ d → pos 0 <ℤ d → (is_between a x y ≡ true → a ≡ x) → (is_between b x y ≡ true → b ≡ x) → is_between y a b ≡ false
+apart_up : (x d y a b : ℤ) → y ≡ x +ℤ d → pos 0 <ℤ d → (is_between a x y ≡ true → a ≡ x)
+    → (is_between b x y ≡ true → b ≡ x) → is_between y a b ≡ false
     → Eventually (BeforeNear x d y a b) ⊎ Eventually (AfterNear x d y a b)
 apart_up x d y a b e up a_at b_at y_off =
     by_lt_z y a
     (λ a_past. by_lt_z y b
-    (λ b_past. inl (record { after = 0; from_there = λ n l. let p = past n x d y a l e up a_past in let q = past n x d y b l e up b_past in record { pa = p.0; pb = q.0; qa = p.1; qb = q.1 } }))
+    (λ b_past. inl (record {
+      after = 0;
+      from_there = λ n l. let p = past n x d y a l e up a_past in
+          let q = past n x d y b l e up b_past in record { pa = p.0; pb = q.0; qa = p.1; qb = q.1 };
+    }))
     (λ b_low. absurd (clash y_off (between_down y a b (omega (arith, ints, a_past)) b_low))))
     (λ a_low. by_lt_z y b
     (λ b_past. absurd (clash y_off (between_up y a b a_low (omega (arith, ints, b_past)))))
     (λ b_low.
     let a_under = under a a_low a_at in
     let b_under = under b b_low b_at in
-    inr (record { after = 0; from_there = λ n l. let p = at_or_before n x d y a l e up a_under in let q = at_or_before n x d y b l e up b_under in record { pa = p.0; pb = p.1; qa = q.0; qb = q.1 } })))
+    inr (record {
+      after = 0;
+      from_there = λ n l. let p = at_or_before n x d y a l e up a_under in
+          let q = at_or_before n x d y b l e up b_under in record { pa = p.0; pb = p.1; qa = q.0; qb = q.1 };
+    })))
   where
     between_down : (y a b : ℤ) → y ≤ℤ a → b ≤ℤ y → is_between y a b ≡ true
     between_down y a b h k = grind (arith, ints)
@@ -72,38 +86,60 @@ apart_up x d y a b e up a_at b_at y_off =
     between_up y a b h k = grind (arith, ints)
 
     under : (c : ℤ) → c ≤ℤ y → (is_between c x y ≡ true → c ≡ x) → c ≤ℤ x
-    under c low at = by_lt_z x c (λ p. let s = at (between_up c x y (omega (arith, ints, p)) low) in omega (arith, ints, s)) (λ q. q)
+    under c low at =
+        by_lt_z x c (λ p. let s = at (between_up c x y (omega (arith, ints, p)) low) in omega (arith, ints, s))
+        (λ q. q)
 
 neg_between : (m a b : ℤ) → is_between (neg_ℤ m) (neg_ℤ a) (neg_ℤ b) ≡ is_between m a b
 neg_between m a b = grind (arith, ints)
 
 -- the two lie apart near x, towards y
-apart_along : (x d y a b : ℤ) → y ≡ x +ℤ d → (d ≡ pos 0 → ⊥) → (is_between a x y ≡ true → a ≡ x) → (is_between b x y ≡ true → b ≡ x) → is_between y a b ≡ false
+apart_along : (x d y a b : ℤ) → y ≡ x +ℤ d → (d ≡ pos 0 → ⊥) → (is_between a x y ≡ true → a ≡ x)
+    → (is_between b x y ≡ true → b ≡ x) → is_between y a b ≡ false
     → Eventually (BeforeNear x d y a b) ⊎ Eventually (AfterNear x d y a b)
 apart_along x d y a b e some a_at b_at y_off =
     by_lt_z (pos 0) d
     (λ up. apart_up x d y a b e up a_at b_at y_off)
     (λ not_up. by_lt_z d (pos 0)
-    (λ down. turned (apart_up (neg_ℤ x) (neg_ℤ d) (neg_ℤ y) (neg_ℤ a) (neg_ℤ b) (omega (arith, ints, e)) (omega (arith, ints, down))
-    (λ h. ap neg_ℤ (a_at (sym (neg_between a x y) ∙ h))) (λ h. ap neg_ℤ (b_at (sym (neg_between b x y) ∙ h))) (neg_between y a b ∙ y_off)))
+    (λ down. turned (apart_up (neg_ℤ x) (neg_ℤ d) (neg_ℤ y) (neg_ℤ a) (neg_ℤ b) (omega (arith, ints, e))
+    (omega (arith, ints, down))
+    (λ h. ap neg_ℤ (a_at (sym (neg_between a x y) ∙ h))) (λ h. ap neg_ℤ (b_at (sym (neg_between b x y) ∙ h)))
+    (neg_between y a b ∙ y_off)))
     (λ none. absurd (some (omega (arith, ints, not_up, none)))))
   where
     back_before : (n : ℕ) → BeforeNear (neg_ℤ x) (neg_ℤ d) (neg_ℤ y) (neg_ℤ a) (neg_ℤ b) n → AfterNear x d y a b n
     back_before n h =
         let p = h.pa in let q = h.pb in let r = h.qa in let s = h.qb in
-        let ex = times_neg (pos n) x in let ey = times_neg (pos n) y in let ea = times_neg (pos n) a in let eb = times_neg (pos n) b in
-        record { pa = omega (arith, ints, p, ex, ea); pb = omega (arith, ints, r, ey, ea); qa = omega (arith, ints, q, ex, eb); qb = omega (arith, ints, s, ey, eb) }
+        let ex = times_neg (pos n) x in let ey = times_neg (pos n) y in let ea = times_neg (pos n) a in
+        let eb = times_neg (pos n) b in
+        record {
+          pa = omega (arith, ints, p, ex, ea);
+          pb = omega (arith, ints, r, ey, ea);
+          qa = omega (arith, ints, q, ex, eb);
+          qb = omega (arith, ints, s, ey, eb);
+        }
 
     back_after : (n : ℕ) → AfterNear (neg_ℤ x) (neg_ℤ d) (neg_ℤ y) (neg_ℤ a) (neg_ℤ b) n → BeforeNear x d y a b n
     back_after n h =
         let p = h.pa in let q = h.pb in let r = h.qa in let s = h.qb in
-        let ex = times_neg (pos n) x in let ey = times_neg (pos n) y in let ea = times_neg (pos n) a in let eb = times_neg (pos n) b in
-        record { pa = omega (arith, ints, p, ex, ea); pb = omega (arith, ints, r, ex, eb); qa = omega (arith, ints, q, ey, ea); qb = omega (arith, ints, s, ey, eb) }
+        let ex = times_neg (pos n) x in let ey = times_neg (pos n) y in let ea = times_neg (pos n) a in
+        let eb = times_neg (pos n) b in
+        record {
+          pa = omega (arith, ints, p, ex, ea);
+          pb = omega (arith, ints, r, ex, eb);
+          qa = omega (arith, ints, q, ey, ea);
+          qb = omega (arith, ints, s, ey, eb);
+        }
 
-    turned : Eventually (BeforeNear (neg_ℤ x) (neg_ℤ d) (neg_ℤ y) (neg_ℤ a) (neg_ℤ b)) ⊎ Eventually (AfterNear (neg_ℤ x) (neg_ℤ d) (neg_ℤ y) (neg_ℤ a) (neg_ℤ b))
+    turned : Eventually (BeforeNear (neg_ℤ x) (neg_ℤ d) (neg_ℤ y) (neg_ℤ a) (neg_ℤ b))
+        ⊎ Eventually (AfterNear (neg_ℤ x) (neg_ℤ d) (neg_ℤ y) (neg_ℤ a) (neg_ℤ b))
         → Eventually (BeforeNear x d y a b) ⊎ Eventually (AfterNear x d y a b)
-    turned (inl h) = inr (eventually_then (BeforeNear (neg_ℤ x) (neg_ℤ d) (neg_ℤ y) (neg_ℤ a) (neg_ℤ b)) (AfterNear x d y a b) back_before h)
-    turned (inr h) = inl (eventually_then (AfterNear (neg_ℤ x) (neg_ℤ d) (neg_ℤ y) (neg_ℤ a) (neg_ℤ b)) (BeforeNear x d y a b) back_after h)
+    turned (inl h) =
+        inr (eventually_then (BeforeNear (neg_ℤ x) (neg_ℤ d) (neg_ℤ y) (neg_ℤ a) (neg_ℤ b))
+        (AfterNear x d y a b) back_before h)
+    turned (inr h) =
+        inl (eventually_then (AfterNear (neg_ℤ x) (neg_ℤ d) (neg_ℤ y) (neg_ℤ a) (neg_ℤ b))
+        (BeforeNear x d y a b) back_after h)
 
 -- ---- an edge
 
@@ -118,7 +154,8 @@ pub record MeetsAtStart (a b x y : Point) : Type 0 where
 abbrev IsStep : Point → Point → Point → Type 0
 IsStep x d y = (y.x ≡ x.x +ℤ d.x) × (y.y ≡ x.y +ℤ d.y)
 
-pub clears_step : (a b x d y : Point) → IsStep x d y → (d.x ≡ pos 0 → d.y ≡ pos 0 → ⊥) → MeetsAtStart a b x y → Clears a b x d y (point (pos 0) (pos 0))
+pub clears_step : (a b x d y : Point) → IsStep x d y → (d.x ≡ pos 0 → d.y ≡ pos 0 → ⊥) → MeetsAtStart a b x y
+    → Clears a b x d y (point (pos 0) (pos 0))
 clears_step a b x d y step some m =
     let from = height_from a b x y in
     let rise : cross_of (vector a b) (vector x y) ≡ cross_of (vector a b) d = ways (b.x -ℤ a.x) (b.y -ℤ a.y) in
@@ -129,18 +166,31 @@ clears_step a b x d y step some m =
     (λ y_up. by_lt_z (pos 0) (orient_of a b x)
     (λ x_up. clears_left a b x d y zero (square x_up) (square y_up))
     (λ x_low. by_lt_z (orient_of a b x) (pos 0)
-    (λ x_down. crossing (off_line (λ e. omega (arith, ints, e, x_down))) (λ free at_a at_b. absurd (never_less (omega (arith, ints, x_down, y_up)) at_a at_b)) (λ free at_a at_b. never_up a b x y free x_low (omega (arith, ints, y_up)) at_a at_b (omega (arith, ints, x_down, y_up))))
-    (λ x_on. clears_left a b x d y zero (linear (omega (arith, ints, x_low, x_on)) (omega (arith, ints, from, rise, x_low, y_up))) (square y_up))))
+    (λ x_down. crossing (off_line (λ e. omega (arith, ints, e, x_down)))
+    (λ free at_a at_b. absurd (never_less (omega (arith, ints, x_down, y_up)) at_a at_b))
+    (λ free at_a at_b. never_up a b x y free x_low (omega (arith, ints, y_up)) at_a at_b
+    (omega (arith, ints, x_down, y_up))))
+    (λ x_on. clears_left a b x d y zero (linear (omega (arith, ints, x_low, x_on))
+    (omega (arith, ints, from, rise, x_low, y_up))) (square y_up))))
     (λ y_low. by_lt_z (orient_of a b y) (pos 0)
     (λ y_down. by_lt_z (orient_of a b x) (pos 0)
-    (λ x_down. clears_right a b x d y zero (square (omega (arith, ints, o_x, x_down))) (square (omega (arith, ints, o_y, y_down))))
+    (λ x_down. clears_right a b x d y zero (square (omega (arith, ints, o_x, x_down)))
+    (square (omega (arith, ints, o_y, y_down))))
     (λ x_high. by_lt_z (pos 0) (orient_of a b x)
-    (λ x_up. crossing (off_line (λ e. omega (arith, ints, e, x_up))) (λ free at_a at_b. never_down a b x y free x_high y_low at_a at_b (omega (arith, ints, x_up, y_down))) (λ free at_a at_b. absurd (never_more (omega (arith, ints, x_up, y_down)) at_a at_b)))
-    (λ x_on. clears_right a b x d y zero (linear (omega (arith, ints, o_x, x_high, x_on)) (omega (arith, ints, back, from, rise, x_high, x_on, y_down))) (square (omega (arith, ints, o_y, y_down))))))
+    (λ x_up. crossing (off_line (λ e. omega (arith, ints, e, x_up)))
+    (λ free at_a at_b. never_down a b x y free x_high y_low at_a at_b (omega (arith, ints, x_up, y_down)))
+    (λ free at_a at_b. absurd (never_more (omega (arith, ints, x_up, y_down)) at_a at_b)))
+    (λ x_on. clears_right a b x d y zero (linear (omega (arith, ints, o_x, x_high, x_on))
+    (omega (arith, ints, back, from, rise, x_high, x_on, y_down))) (square (omega (arith, ints, o_y, y_down))))))
     (λ y_on. by_lt_z (pos 0) (orient_of a b x)
-    (λ x_up. crossing (off_line (λ e. omega (arith, ints, e, x_up))) (λ free at_a at_b. never_down a b x y free (omega (arith, ints, x_up)) y_low at_a at_b (omega (arith, ints, x_up, y_low))) (λ free at_a at_b. absurd (never_more (omega (arith, ints, x_up, y_low)) at_a at_b)))
+    (λ x_up. crossing (off_line (λ e. omega (arith, ints, e, x_up)))
+    (λ free at_a at_b. never_down a b x y free (omega (arith, ints, x_up)) y_low at_a at_b
+    (omega (arith, ints, x_up, y_low))) (λ free at_a at_b. absurd
+    (never_more (omega (arith, ints, x_up, y_low)) at_a at_b)))
     (λ x_low. by_lt_z (orient_of a b x) (pos 0)
-    (λ x_down. crossing (off_line (λ e. omega (arith, ints, e, x_down))) (λ free at_a at_b. absurd (never_less (omega (arith, ints, x_down, y_on)) at_a at_b)) (λ free at_a at_b. never_up a b x y free x_low y_on at_a at_b (omega (arith, ints, x_down, y_on))))
+    (λ x_down. crossing (off_line (λ e. omega (arith, ints, e, x_down)))
+    (λ free at_a at_b. absurd (never_less (omega (arith, ints, x_down, y_on)) at_a at_b))
+    (λ free at_a at_b. never_up a b x y free x_low y_on at_a at_b (omega (arith, ints, x_down, y_on))))
     (λ x_on. in_line (omega (arith, ints, x_low, x_on)) (omega (arith, ints, y_low, y_on))))))
   where
     zero : Point
@@ -162,7 +212,9 @@ clears_step a b x d y step some m =
     off_line : (orient_of a b x ≡ pos 0 → ⊥) → do_touch a b x y ≡ false
     off_line off = m.free (λ on. off (between x a b on).line)
 
-    crossing : do_touch a b x y ≡ false → (do_touch a b x y ≡ false → orient_of x y a ≤ℤ pos 0 → pos 0 ≤ℤ orient_of x y b → ⊥) → (do_touch a b x y ≡ false → pos 0 ≤ℤ orient_of x y a → orient_of x y b ≤ℤ pos 0 → ⊥)
+    crossing : do_touch a b x y ≡ false → (do_touch a b x y ≡ false → orient_of x y a ≤ℤ pos 0
+        → pos 0 ≤ℤ orient_of x y b → ⊥) → (do_touch a b x y ≡ false → pos 0 ≤ℤ orient_of x y a
+        → orient_of x y b ≤ℤ pos 0 → ⊥)
         → Clears a b x d y (point (pos 0) (pos 0))
     crossing free not_down not_up =
         by_lt_z (pos 0) (orient_of x y a)
@@ -180,17 +232,21 @@ clears_step a b x d y step some m =
         under : (c : Point) → orient_of x y c <ℤ pos 0 → pos 0 <ℤ orient_of y x c
         under c low = let o = orient_of_first_exchanged x y c in omega (arith, ints, o, low)
 
-    parallel : (u j v : Point) → pos 0 <ℤ dot_of u u → cross_of u j ≡ pos 0 → cross_of u v ≡ pos 0 → cross_of j v ≡ pos 0
+    parallel : (u j v : Point) → pos 0 <ℤ dot_of u u → cross_of u j ≡ pos 0 → cross_of u v ≡ pos 0
+        → cross_of j v ≡ pos 0
     parallel u j v some_u uj uv =
         let e = along u j v in
         let s = exchanged u j in
-        let f = ap (λ t. dot_of u v *ℤ t) (let z : cross_of j u ≡ pos 0 = omega (arith, ints, s, uj) in z) ∙ times_zero (dot_of u v) in
+        let f = ap (λ t. dot_of u v *ℤ t) (let z : cross_of j u ≡ pos 0 = omega (arith, ints, s, uj) in z)
+        ∙ times_zero (dot_of u v) in
         let g = ap (λ t. t *ℤ dot_of j u) uv ∙ zero_times (dot_of j u) in
         let t = product_swapped (dot_of u u) (cross_of j v) in
         zero_factor (cross_of j v) (dot_of u u) (omega (arith, ints, e, f, g, t)) some_u
 
     differ : (p q r : ℤ) → q ≡ p +ℤ r → (r ≡ pos 0 → ⊥) → int_eq p q ≡ false
-    differ p q r e never = by_lt_z p q (λ h. grind (arith, ints)) (λ h. by_lt_z q p (λ k. grind (arith, ints)) (λ k. absurd (never (omega (arith, ints, e, h, k)))))
+    differ p q r e never =
+        by_lt_z p q (λ h. grind (arith, ints)) (λ h. by_lt_z q p (λ k. grind (arith, ints))
+        (λ k. absurd (never (omega (arith, ints, e, h, k)))))
 
     -- an edge along the step isn't level where the step isn't, and so across
     wide : (ux uy dx dy : ℤ) → ux *ℤ dy -ℤ uy *ℤ dx ≡ pos 0 → (dx ≡ pos 0 → ⊥) → ux ≡ pos 0 → uy ≡ pos 0
@@ -212,31 +268,41 @@ clears_step a b x d y step some m =
         let h = ap (λ t. t *ℤ (b.y -ℤ a.y)) f ∙ zero_times (b.y -ℤ a.y) in
         absurd (omega (arith, ints, k, g, h))
 
-    across : orient_of x y a ≡ pos 0 → orient_of x y b ≡ pos 0 → orient_of a b y ≡ pos 0 → cross_of (vector a b) (vector x y) ≡ pos 0 → (d.x ≡ pos 0 → ⊥) → Clears a b x d y (point (pos 0) (pos 0))
+    across : orient_of x y a ≡ pos 0 → orient_of x y b ≡ pos 0 → orient_of a b y ≡ pos 0
+        → cross_of (vector a b) (vector x y) ≡ pos 0 → (d.x ≡ pos 0 → ⊥) → Clears a b x d y (point (pos 0) (pos 0))
     across at_a at_b y_on par never =
         let sx = step.0 in
         let apart_xy = differ x.x y.x d.x sx never in
         let never_xy : y.x -ℤ x.x ≡ pos 0 → ⊥ = λ e. never (omega (arith, ints, e, sx)) in
-        let apart_ab = differ a.x b.x (b.x -ℤ a.x) (omega (arith, ints)) (λ e. nothing e (wide (b.x -ℤ a.x) (b.y -ℤ a.y) (y.x -ℤ x.x) (y.y -ℤ x.y) par never_xy e)) in
-        elim (apart_along x.x d.x y.x a.x b.x sx never (λ h. ap (λ t. t.x) (m.a_at (on_line_x a x y at_a apart_xy h))) (λ h. ap (λ t. t.x) (m.b_at (on_line_x b x y at_b apart_xy h)))
+        let apart_ab = differ a.x b.x (b.x -ℤ a.x) (omega (arith, ints))
+        (λ e. nothing e (wide (b.x -ℤ a.x) (b.y -ℤ a.y) (y.x -ℤ x.x) (y.y -ℤ x.y) par never_xy e)) in
+        elim (apart_along x.x d.x y.x a.x b.x sx never (λ h. ap (λ t. t.x) (m.a_at (on_line_x a x y at_a apart_xy h)))
+        (λ h. ap (λ t. t.x) (m.b_at (on_line_x b x y at_b apart_xy h)))
         (false_from_ne_true (is_between y.x a.x b.x) (λ h. clash m.y_off (on_line_x y a b y_on apart_ab h)))) [
-          | inl h ↦ eventually_then (BeforeNear x.x d.x y.x a.x b.x) (λ n. do_touch (enlarged n a) (enlarged n b) (near n x d) (near n y (point (pos 0) (pos 0))) ≡ false)
+          | inl h ↦ eventually_then (BeforeNear x.x d.x y.x a.x b.x)
+              (λ n. do_touch (enlarged n a) (enlarged n b) (near n x d) (near n y (point (pos 0) (pos 0))) ≡ false)
               (λ n k. free_west (enlarged n a) (enlarged n b) (near n x d) (near n y (point (pos 0) (pos 0))) k) h
-          | inr h ↦ eventually_then (AfterNear x.x d.x y.x a.x b.x) (λ n. do_touch (enlarged n a) (enlarged n b) (near n x d) (near n y (point (pos 0) (pos 0))) ≡ false)
+          | inr h ↦ eventually_then (AfterNear x.x d.x y.x a.x b.x)
+              (λ n. do_touch (enlarged n a) (enlarged n b) (near n x d) (near n y (point (pos 0) (pos 0))) ≡ false)
               (λ n k. free_east (enlarged n a) (enlarged n b) (near n x d) (near n y (point (pos 0) (pos 0))) k) h
         ]
 
-    upwards : orient_of x y a ≡ pos 0 → orient_of x y b ≡ pos 0 → orient_of a b y ≡ pos 0 → cross_of (vector a b) (vector x y) ≡ pos 0 → (d.y ≡ pos 0 → ⊥) → Clears a b x d y (point (pos 0) (pos 0))
+    upwards : orient_of x y a ≡ pos 0 → orient_of x y b ≡ pos 0 → orient_of a b y ≡ pos 0
+        → cross_of (vector a b) (vector x y) ≡ pos 0 → (d.y ≡ pos 0 → ⊥) → Clears a b x d y (point (pos 0) (pos 0))
     upwards at_a at_b y_on par never =
         let sy = step.1 in
         let apart_xy = differ x.y y.y d.y sy never in
         let never_xy : y.y -ℤ x.y ≡ pos 0 → ⊥ = λ e. never (omega (arith, ints, e, sy)) in
-        let apart_ab = differ a.y b.y (b.y -ℤ a.y) (omega (arith, ints)) (λ e. nothing (tall (b.x -ℤ a.x) (b.y -ℤ a.y) (y.x -ℤ x.x) (y.y -ℤ x.y) par never_xy e) e) in
-        elim (apart_along x.y d.y y.y a.y b.y sy never (λ h. ap (λ t. t.y) (m.a_at (on_line_y a x y at_a apart_xy h))) (λ h. ap (λ t. t.y) (m.b_at (on_line_y b x y at_b apart_xy h)))
+        let apart_ab = differ a.y b.y (b.y -ℤ a.y) (omega (arith, ints))
+        (λ e. nothing (tall (b.x -ℤ a.x) (b.y -ℤ a.y) (y.x -ℤ x.x) (y.y -ℤ x.y) par never_xy e) e) in
+        elim (apart_along x.y d.y y.y a.y b.y sy never (λ h. ap (λ t. t.y) (m.a_at (on_line_y a x y at_a apart_xy h)))
+        (λ h. ap (λ t. t.y) (m.b_at (on_line_y b x y at_b apart_xy h)))
         (false_from_ne_true (is_between y.y a.y b.y) (λ h. clash m.y_off (on_line_y y a b y_on apart_ab h)))) [
-          | inl h ↦ eventually_then (BeforeNear x.y d.y y.y a.y b.y) (λ n. do_touch (enlarged n a) (enlarged n b) (near n x d) (near n y (point (pos 0) (pos 0))) ≡ false)
+          | inl h ↦ eventually_then (BeforeNear x.y d.y y.y a.y b.y)
+              (λ n. do_touch (enlarged n a) (enlarged n b) (near n x d) (near n y (point (pos 0) (pos 0))) ≡ false)
               (λ n k. free_south (enlarged n a) (enlarged n b) (near n x d) (near n y (point (pos 0) (pos 0))) k) h
-          | inr h ↦ eventually_then (AfterNear x.y d.y y.y a.y b.y) (λ n. do_touch (enlarged n a) (enlarged n b) (near n x d) (near n y (point (pos 0) (pos 0))) ≡ false)
+          | inr h ↦ eventually_then (AfterNear x.y d.y y.y a.y b.y)
+              (λ n. do_touch (enlarged n a) (enlarged n b) (near n x d) (near n y (point (pos 0) (pos 0))) ≡ false)
               (λ n k. free_north (enlarged n a) (enlarged n b) (near n x d) (near n y (point (pos 0) (pos 0))) k) h
         ]
 
@@ -250,7 +316,8 @@ clears_step a b x d y step some m =
         let turn = height_from a b b x in
         let at_end_b = at_end a b in
         let to_b = back_cross (vector a b) b x in
-        let at_b = parallel (vector a b) (vector x y) (vector x b) some_way par (omega (arith, ints, turn, at_end_b, to_b, x_on)) in
+        let at_b = parallel (vector a b) (vector x y) (vector x b) some_way par
+        (omega (arith, ints, turn, at_end_b, to_b, x_on)) in
         by_lt_z d.x (pos 0)
         (λ p. across at_a at_b y_on par (λ e. omega (arith, ints, e, p)))
         (λ p. by_lt_z (pos 0) d.x

@@ -1,17 +1,18 @@
-//! Laws of walks: from a point of a segment that the edges don't go round as they do its start, a walk back in fine steps
-//! comes to a wall or a corner that the rule says is in the way.
+//! Laws of walks: from a point of a segment that the edges don't go round as they do its start, a walk back in fine
+//! steps comes to a wall or a corner that the rule says is in the way.
 //!
 //! ```text
-//!   p ────·────·────●────·────·──── q      In a plane n times as large the segment has n whole steps, and where n is a
-//!                  ╱ G j     G i          multiple of enough numbers, an edge that touches a step has one of its ends on it.
-//!        ─────────                         Between points off all edges the winding is kept. Walking back from G i, a bad
-//!                                          point, to the first point on an edge, G j: the winding is still that of G i.
+//!   p ───·───·───●───·───·─── q    In a plane n times as large the segment has n whole steps. If n is a multiple of
+//!               ╱ G j    G i       enough numbers, an edge that touches a step has one of its ends on it. Between
+//!      ────────                    points off all edges the winding is kept. On the way back from a bad point G i the
+//!                                  first point on an edge is G j: up to there the winding is that of G i.
 //! ```
 //!
-//! The bad point's winding isn't that of the walls' right side, which is one less than that of their left, and p, if it is
-//! off the edges, hasn't the bad point's winding. So the walk back ends at an edge, before p or at p itself. There the
-//! next step leads to the winding of the bad point, which isn't the right's; so it leads to the left of the edge, if G j is
-//! in its middle, or into the cone, if it is a corner: a hit. Which of the two sides it is needs no proof beyond parity.
+//! The bad point's winding isn't that of the walls' right side, which is one less than that of their left, and p, if
+//! it is off the edges, hasn't the bad point's winding. So the walk back ends at an edge, before p or at p itself.
+//! There the next step leads to the winding of the bad point, which isn't the right's; so it leads to the left of the
+//! edge, if G j is in its middle, or into the cone, if it is a corner: a hit. Which of the two sides it is needs no
+//! proof beyond parity.
 //!
 //! A law is a function without parameters and with an empty body, whose contract states it.
 //!
@@ -28,8 +29,8 @@ ghost use Rattle.plane_spec.specs.declared.Segment.{Segment};
 ghost use Rattle.plane_spec.specs.Vectors.{same_point};
 ghost use Rattle.walk_laws.specs.Steps.{MeetsAtEnds};
 
-/// A segment can be cut into so many equal steps that, of any given edges, each that touches a step has one of the step's
-/// ends on it: it crosses no step between its ends. The steps are whole in a plane so many times as large.
+/// A segment can be cut into so many equal steps that, of any given edges, each that touches a step has one of the
+/// step's ends on it: it crosses no step between its ends. The steps are whole in a plane so many times as large.
 pub fn fine_steps_meet_edges_at_their_ends()
     ensures { (edges : List Segment) (p q : Point) → same_point p q ≡ false
         → (n : ℕ) × (0 < n) × ((i : ℕ) (e : Segment) → Contains edges e → MeetsAtEnds n i p q e) }

@@ -9,13 +9,14 @@ use Rattle.plane_spec.specs.declared.Point.{Point}
 use Rattle.plane_spec.specs.declared.Segment.{Segment}
 use Rattle.plane_spec.specs.Vectors.{orient_of}
 use Rattle.plane_laws.specs.Enlarged.{enlarged_wall}
-use Rattle.plane_laws.proofs.Scaled.{orient_scaled, scaled, scaled_wall}
+use Rattle.plane_laws.proofs.Points.Scaled.{orient_scaled, scaled, scaled_wall}
 use Rattle.winding_laws.specs.Windings.{wind, winding, near}
 use Rattle.winding_laws.proofs.Near.{eventually_then}
 use Rattle.winding_laws.proofs.Strips.{HasWinding}
 use Rattle.winding_laws.proofs.Closed.{rises_along}
 
-pub wind_scaled : (r s : ℤ) (x : Point) (f : Segment) → pos 0 <ℤ r → pos 0 <ℤ s → wind (scaled r s x) (scaled_wall r s f) ≡ wind x f
+pub wind_scaled : (r s : ℤ) (x : Point) (f : Segment) → pos 0 <ℤ r → pos 0 <ℤ s
+    → wind (scaled r s x) (scaled_wall r s f) ≡ wind x f
 unfolding wind
 wind_scaled r s x f h k =
     let p = positive_product r s h k in
@@ -48,26 +49,38 @@ enlarged_scaled_by n r x =
 near_scaled : (n : ℕ) (r s : ℤ) (x d : Point) → near n (scaled r s x) (scaled r s d) ≡ scaled r s (near n x d)
 near_scaled n r s x d = rw (near_scaled_by (pos n) r x.x d.x, near_scaled_by (pos n) s x.y d.y) refl
 
-enlarged_scaled : (n : ℕ) (r s : ℤ) (f : Segment) → enlarged_wall n (scaled_wall r s f) ≡ scaled_wall r s (enlarged_wall n f)
+enlarged_scaled : (n : ℕ) (r s : ℤ) (f : Segment)
+    → enlarged_wall n (scaled_wall r s f) ≡ scaled_wall r s (enlarged_wall n f)
 enlarged_scaled n r s f =
-    rw (enlarged_scaled_by (pos n) r f.a.x, enlarged_scaled_by (pos n) s f.a.y, enlarged_scaled_by (pos n) r f.b.x, enlarged_scaled_by (pos n) s f.b.y) refl
+    rw (
+      enlarged_scaled_by (pos n) r f.a.x,
+      enlarged_scaled_by (pos n) s f.a.y,
+      enlarged_scaled_by (pos n) r f.b.x,
+      enlarged_scaled_by (pos n) s f.b.y,
+    ) refl
 
 winding_scaled : (n : ℕ) (r s : ℤ) (x d : Point) (edges : List Segment) → pos 0 <ℤ r → pos 0 <ℤ s
-    → winding (near n (scaled r s x) (scaled r s d)) (map (enlarged_wall n) (map (scaled_wall r s) edges)) ≡ winding (near n x d) (map (enlarged_wall n) edges)
+    → winding (near n (scaled r s x) (scaled r s d)) (map (enlarged_wall n) (map (scaled_wall r s) edges))
+    ≡ winding (near n x d) (map (enlarged_wall n) edges)
 winding_scaled n r s x d [] h k = refl
 winding_scaled n r s x d (f ∷ edges) h k =
     let rest = winding_scaled n r s x d edges h k in
-    let first = ap (λ t. wind t (enlarged_wall n (scaled_wall r s f))) (near_scaled n r s x d) ∙ ap (λ t. wind (scaled r s (near n x d)) t) (enlarged_scaled n r s f)
+    let first = ap (λ t. wind t (enlarged_wall n (scaled_wall r s f))) (near_scaled n r s x d)
+    ∙ ap (λ t. wind (scaled r s (near n x d)) t) (enlarged_scaled n r s f)
     ∙ wind_scaled r s (near n x d) (enlarged_wall n f) h k in
     omega (arith, ints, rest, first)
 
-pub has_scaled : (r s : ℤ) (x d : Point) (k : ℤ) (edges : List Segment) → pos 0 <ℤ r → pos 0 <ℤ s → HasWinding edges x d k → HasWinding (map (scaled_wall r s) edges) (scaled r s x) (scaled r s d) k
+pub has_scaled : (r s : ℤ) (x d : Point) (k : ℤ) (edges : List Segment) → pos 0 <ℤ r → pos 0 <ℤ s
+    → HasWinding edges x d k → HasWinding (map (scaled_wall r s) edges) (scaled r s x) (scaled r s d) k
 has_scaled r s x d k edges h i w =
-    eventually_then (λ n. winding (near n x d) (map (enlarged_wall n) edges) ≡ k) (λ n. winding (near n (scaled r s x) (scaled r s d)) (map (enlarged_wall n) (map (scaled_wall r s) edges)) ≡ k)
+    eventually_then (λ n. winding (near n x d) (map (enlarged_wall n) edges) ≡ k)
+    (λ n. winding (near n (scaled r s x) (scaled r s d)) (map (enlarged_wall n) (map (scaled_wall r s) edges)) ≡ k)
     (λ n e. winding_scaled n r s x d edges h i ∙ e) w
 
 -- ---- sound edges
 
-pub rises_scaled : (r s : ℤ) (value : Point → ℤ) (edges : List Segment) → rises_along value (map (scaled_wall r s) edges) ≡ rises_along (λ v. value (scaled r s v)) edges
+pub rises_scaled : (r s : ℤ) (value : Point → ℤ) (edges : List Segment)
+    → rises_along value (map (scaled_wall r s) edges) ≡ rises_along (λ v. value (scaled r s v)) edges
 rises_scaled r s value [] = refl
-rises_scaled r s value (e ∷ edges) = ap (λ t. (value (scaled r s e.b) -ℤ value (scaled r s e.a)) +ℤ t) (rises_scaled r s value edges)
+rises_scaled r s value (e ∷ edges) =
+    ap (λ t. (value (scaled r s e.b) -ℤ value (scaled r s e.a)) +ℤ t) (rises_scaled r s value edges)

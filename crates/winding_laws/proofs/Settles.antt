@@ -8,7 +8,8 @@ use Rattle.plane_spec.specs.declared.Segment.{Segment}
 use Rattle.plane_spec.specs.Vectors.{cross_of, orient_of, vector}
 use Rattle.plane_laws.specs.Enlarged.{enlarged_wall}
 use Rattle.winding_laws.specs.Windings.{wind, winding, near}
-use Rattle.winding_laws.proofs.Near.{Eventually, Leads, constant, linear, square, value_at, eventually_positive, eventually_then, eventually_both}
+use Rattle.winding_laws.proofs.Near.{Eventually, Leads, constant, linear, square, value_at, eventually_positive}
+use Rattle.winding_laws.proofs.Near.{eventually_then, eventually_both}
 use Rattle.winding_laws.proofs.Strips.{side_near, HasWinding}
 use Rattle.winding_laws.proofs.OneEdge.{wind_by, wind_is}
 
@@ -32,7 +33,8 @@ sign a b c =
     (λ r. by_lt_z b (pos 0) (λ s. down (linear (omega (arith, ints, a_none)) (omega (arith, ints, s))))
     (λ s. let b_none : b ≡ pos 0 = omega (arith, ints, r, s) in
     by_lt_z (pos 0) c (λ t. up (constant a_none b_none t))
-    (λ t. by_lt_z c (pos 0) (λ u. down (constant (omega (arith, ints, a_none)) (omega (arith, ints, b_none)) (omega (arith, ints, u))))
+    (λ t. by_lt_z c (pos 0) (λ u. down (constant (omega (arith, ints, a_none)) (omega (arith, ints, b_none))
+    (omega (arith, ints, u))))
     (λ u. none a_none b_none (omega (arith, ints, t, u))))))))
 
 value_neg : (n : ℕ) (a b c : ℤ) → value_at n (neg_ℤ a) (neg_ℤ b) (neg_ℤ c) ≡ neg_ℤ (value_at n a b c)
@@ -57,7 +59,8 @@ record Signs (value : ℕ → ℤ) : Type 0 where
 signs : (a b c : ℤ) → Signs (λ n. value_at n a b c)
 signs a b c = by_sign (sign a b c)
   where
-    both_up : (n : ℕ) → pos 0 <ℤ value_at n a b c → (int_lt (pos 0) (value_at n a b c) ≡ true) × (int_lt (value_at n a b c) (pos 0) ≡ false)
+    both_up : (n : ℕ) → pos 0 <ℤ value_at n a b c → (int_lt (pos 0) (value_at n a b c) ≡ true)
+        × (int_lt (value_at n a b c) (pos 0) ≡ false)
     both_up n h = (tested (value_at n a b c) h, not_tested (value_at n a b c) h)
       where
         tested : (z : ℤ) → pos 0 <ℤ z → int_lt (pos 0) z ≡ true
@@ -66,8 +69,14 @@ signs a b c = by_sign (sign a b c)
         not_tested : (z : ℤ) → pos 0 <ℤ z → int_lt z (pos 0) ≡ false
         not_tested z h = grind (arith, ints)
 
-    both_down : (n : ℕ) → pos 0 <ℤ value_at n (neg_ℤ a) (neg_ℤ b) (neg_ℤ c) → (int_lt (pos 0) (value_at n a b c) ≡ false) × (int_lt (value_at n a b c) (pos 0) ≡ true)
-    both_down n h = let e = value_neg n a b c in (not_tested (value_at n a b c) (omega (arith, ints, e, h)), tested (value_at n a b c) (omega (arith, ints, e, h)))
+    both_down : (n : ℕ) → pos 0 <ℤ value_at n (neg_ℤ a) (neg_ℤ b) (neg_ℤ c)
+        → (int_lt (pos 0) (value_at n a b c) ≡ false) × (int_lt (value_at n a b c) (pos 0) ≡ true)
+    both_down n h =
+        let e = value_neg n a b c in (
+          not_tested (value_at n a b c) (omega (arith, ints, e, h)),
+          tested
+              (value_at n a b c) (omega (arith, ints, e, h)),
+        )
       where
         tested : (z : ℤ) → z <ℤ pos 0 → int_lt z (pos 0) ≡ true
         tested z h = grind (arith, ints)
@@ -79,19 +88,49 @@ signs a b c = by_sign (sign a b c)
     by_sign (up h) =
         let e = eventually_positive a b c h in
         record {
-          positive = record { is = true; same = eventually_then (λ n. pos 0 <ℤ value_at n a b c) (λ n. int_lt (pos 0) (value_at n a b c) ≡ true) (λ n k. (both_up n k).0) e };
-          negative = record { is = false; same = eventually_then (λ n. pos 0 <ℤ value_at n a b c) (λ n. int_lt (value_at n a b c) (pos 0) ≡ false) (λ n k. (both_up n k).1) e };
+          positive = record {
+            is = true;
+            same = eventually_then (λ n. pos 0 <ℤ value_at n a b c)
+                (λ n. int_lt (pos 0) (value_at n a b c) ≡ true) (λ n k. (both_up n k).0) e;
+          };
+          negative = record {
+            is = false;
+            same = eventually_then (λ n. pos 0 <ℤ value_at n a b c)
+                (λ n. int_lt (value_at n a b c) (pos 0) ≡ false) (λ n k. (both_up n k).1) e;
+          };
         }
     by_sign (down h) =
         let e = eventually_positive (neg_ℤ a) (neg_ℤ b) (neg_ℤ c) h in
         record {
-          positive = record { is = false; same = eventually_then (λ n. pos 0 <ℤ value_at n (neg_ℤ a) (neg_ℤ b) (neg_ℤ c)) (λ n. int_lt (pos 0) (value_at n a b c) ≡ false) (λ n k. (both_down n k).0) e };
-          negative = record { is = true; same = eventually_then (λ n. pos 0 <ℤ value_at n (neg_ℤ a) (neg_ℤ b) (neg_ℤ c)) (λ n. int_lt (value_at n a b c) (pos 0) ≡ true) (λ n k. (both_down n k).1) e };
+          positive = record {
+            is = false;
+            same = eventually_then
+                (λ n. pos 0 <ℤ value_at n (neg_ℤ a) (neg_ℤ b) (neg_ℤ c))
+                (λ n. int_lt (pos 0) (value_at n a b c) ≡ false) (λ n k. (both_down n k).0) e;
+          };
+          negative = record {
+            is = true;
+            same = eventually_then
+                (λ n. pos 0 <ℤ value_at n (neg_ℤ a) (neg_ℤ b) (neg_ℤ c)) (λ n. int_lt (value_at n a b c) (pos 0) ≡ true)
+                (λ n k. (both_down n k).1) e;
+          };
         }
     by_sign (none e f g) =
         record {
-          positive = record { is = false; same = record { after = 0; from_there = λ n l. ap (λ t. int_lt (pos 0) t) (value_none n a b c e f g) } };
-          negative = record { is = false; same = record { after = 0; from_there = λ n l. ap (λ t. int_lt t (pos 0)) (value_none n a b c e f g) } };
+          positive = record {
+            is = false;
+            same = record {
+              after = 0;
+              from_there = λ n l. ap (λ t. int_lt (pos 0) t) (value_none n a b c e f g);
+            };
+          };
+          negative = record {
+            is = false;
+            same = record {
+              after = 0;
+              from_there = λ n l. ap (λ t. int_lt t (pos 0)) (value_none n a b c e f g);
+            };
+          };
         }
 
 low_is : (n : ℕ) (a x d : ℤ) → int_le (pos n *ℤ a) (pos n *ℤ x +ℤ d) ≡ int_le (pos 0) (value_at n (pos 0) (x -ℤ a) d)
@@ -120,7 +159,9 @@ low_settles a x d =
     let s = (signs (pos 0) (x -ℤ a) d).negative in
     record {
       is = flip s.is;
-      same = eventually_then (λ n. int_lt (value_at n (pos 0) (x -ℤ a) d) (pos 0) ≡ s.is) (λ n. int_le (pos n *ℤ a) (pos n *ℤ x +ℤ d) ≡ flip s.is)
+      same =
+          eventually_then (λ n. int_lt (value_at n (pos 0) (x -ℤ a) d) (pos 0) ≡ s.is)
+          (λ n. int_le (pos n *ℤ a) (pos n *ℤ x +ℤ d) ≡ flip s.is)
           (λ n h. low_is n a x d ∙ not_below (value_at n (pos 0) (x -ℤ a) d) s.is h) s.same;
     }
 
@@ -133,15 +174,24 @@ wind_settles f x d =
     let fourth = side.negative in
     record {
       is = wind_by first.is second.is third.is fourth.is;
-      same = eventually_then _ (λ n. wind (near n x d) (enlarged_wall n f) ≡ wind_by first.is second.is third.is fourth.is)
+      same =
+          eventually_then _
+          (λ n. wind (near n x d) (enlarged_wall n f) ≡ wind_by first.is second.is third.is fourth.is)
           (λ n h. wind_is (near n x d) (enlarged_wall n f)
-          ∙ four (int_le (pos n *ℤ f.a.y) (pos n *ℤ x.y +ℤ d.y)) (int_le (pos n *ℤ f.b.y) (pos n *ℤ x.y +ℤ d.y)) _ _ first.is second.is third.is fourth.is h.0.0 h.0.1
-          (ap (λ t. int_lt (pos 0) t) (side_near n f.a f.b x d) ∙ h.1.0) (ap (λ t. int_lt t (pos 0)) (side_near n f.a f.b x d) ∙ h.1.1))
-          (eventually_both (λ n. (int_le (pos n *ℤ f.a.y) (pos n *ℤ x.y +ℤ d.y) ≡ first.is) × (int_le (pos n *ℤ f.b.y) (pos n *ℤ x.y +ℤ d.y) ≡ second.is))
-          (λ n. (int_lt (pos 0) (value_at n (orient_of f.a f.b x) (cross_of (vector f.a f.b) d) (pos 0)) ≡ third.is) × (int_lt (value_at n (orient_of f.a f.b x) (cross_of (vector f.a f.b) d) (pos 0)) (pos 0) ≡ fourth.is))
-          (eventually_both (λ n. int_le (pos n *ℤ f.a.y) (pos n *ℤ x.y +ℤ d.y) ≡ first.is) (λ n. int_le (pos n *ℤ f.b.y) (pos n *ℤ x.y +ℤ d.y) ≡ second.is) first.same second.same)
-          (eventually_both (λ n. int_lt (pos 0) (value_at n (orient_of f.a f.b x) (cross_of (vector f.a f.b) d) (pos 0)) ≡ third.is)
-          (λ n. int_lt (value_at n (orient_of f.a f.b x) (cross_of (vector f.a f.b) d) (pos 0)) (pos 0) ≡ fourth.is) third.same fourth.same));
+          ∙ four (int_le (pos n *ℤ f.a.y) (pos n *ℤ x.y +ℤ d.y))
+          (int_le (pos n *ℤ f.b.y) (pos n *ℤ x.y +ℤ d.y)) _ _ first.is second.is third.is fourth.is h.0.0 h.0.1
+          (ap (λ t. int_lt (pos 0) t) (side_near n f.a f.b x d) ∙ h.1.0)
+          (ap (λ t. int_lt t (pos 0)) (side_near n f.a f.b x d) ∙ h.1.1))
+          (eventually_both (λ n. (int_le (pos n *ℤ f.a.y) (pos n *ℤ x.y +ℤ d.y) ≡ first.is) ×
+          (int_le (pos n *ℤ f.b.y) (pos n *ℤ x.y +ℤ d.y) ≡ second.is))
+          (λ n. (int_lt (pos 0) (value_at n (orient_of f.a f.b x) (cross_of (vector f.a f.b) d) (pos 0)) ≡ third.is) ×
+          (int_lt (value_at n (orient_of f.a f.b x) (cross_of (vector f.a f.b) d) (pos 0)) (pos 0) ≡ fourth.is))
+          (eventually_both (λ n. int_le (pos n *ℤ f.a.y) (pos n *ℤ x.y +ℤ d.y) ≡ first.is)
+          (λ n. int_le (pos n *ℤ f.b.y) (pos n *ℤ x.y +ℤ d.y) ≡ second.is) first.same second.same)
+          (eventually_both (λ n. int_lt (pos 0) (value_at n (orient_of f.a f.b x) (cross_of (vector f.a f.b) d)
+          (pos 0)) ≡ third.is)
+          (λ n. int_lt (value_at n (orient_of f.a f.b x) (cross_of (vector f.a f.b) d) (pos 0))
+          (pos 0) ≡ fourth.is) third.same fourth.same));
     }
   where
     four : (a b c e a' b' c' e' : Bool) → a ≡ a' → b ≡ b' → c ≡ c' → e ≡ e' → wind_by a b c e ≡ wind_by a' b' c' e'
@@ -154,9 +204,12 @@ some_winding (f ∷ edges) x d =
     let first = wind_settles f x d in
     let rest = some_winding edges x d in (
       first.is +ℤ rest.0,
-      eventually_then (λ n. (wind (near n x d) (enlarged_wall n f) ≡ first.is) × (winding (near n x d) (map (enlarged_wall n) edges) ≡ rest.0))
-          (λ n. winding (near n x d) (map (enlarged_wall n) (f ∷ edges)) ≡ first.is +ℤ rest.0) (λ n h. sums _ _ _ _ h.0 h.1)
-          (eventually_both (λ n. wind (near n x d) (enlarged_wall n f) ≡ first.is) (λ n. winding (near n x d) (map (enlarged_wall n) edges) ≡ rest.0) first.same rest.1),
+      eventually_then (λ n. (wind (near n x d) (enlarged_wall n f) ≡ first.is) ×
+          (winding (near n x d) (map (enlarged_wall n) edges) ≡ rest.0))
+          (λ n. winding (near n x d) (map (enlarged_wall n) (f ∷ edges)) ≡ first.is +ℤ rest.0)
+          (λ n h. sums _ _ _ _ h.0 h.1)
+          (eventually_both (λ n. wind (near n x d) (enlarged_wall n f) ≡ first.is)
+          (λ n. winding (near n x d) (map (enlarged_wall n) edges) ≡ rest.0) first.same rest.1),
     )
   where
     sums : (a b c d : ℤ) → a ≡ c → b ≡ d → a +ℤ b ≡ c +ℤ d

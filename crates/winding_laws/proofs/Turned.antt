@@ -18,16 +18,21 @@ winding_turned x (f ∷ edges) =
     let rest = winding_turned x edges in
     omega (arith, ints, first, rest)
 
-turned_enlarged : (n : ℕ) (edges : List Segment) → map (enlarged_wall n) (map turned edges) ≡ map turned (map (enlarged_wall n) edges)
+turned_enlarged : (n : ℕ) (edges : List Segment)
+    → map (enlarged_wall n) (map turned edges) ≡ map turned (map (enlarged_wall n) edges)
 turned_enlarged n [] = refl
 turned_enlarged n (f ∷ edges) = ap (λ t. turned (enlarged_wall n f) ∷ t) (turned_enlarged n edges)
 
-pub has_turned : (edges : List Segment) (x d : Point) (k : ℤ) → HasWinding edges x d k → HasWinding (map turned edges) x d (neg_ℤ k)
+pub has_turned : (edges : List Segment) (x d : Point) (k : ℤ) → HasWinding edges x d k
+    → HasWinding (map turned edges) x d (neg_ℤ k)
 has_turned edges x d k h =
-    eventually_then (λ n. winding (near n x d) (map (enlarged_wall n) edges) ≡ k) (λ n. winding (near n x d) (map (enlarged_wall n) (map turned edges)) ≡ neg_ℤ k)
-    (λ n e. ap (λ t. winding (near n x d) t) (turned_enlarged n edges) ∙ winding_turned (near n x d) (map (enlarged_wall n) edges) ∙ ap neg_ℤ e) h
+    eventually_then (λ n. winding (near n x d) (map (enlarged_wall n) edges) ≡ k)
+    (λ n. winding (near n x d) (map (enlarged_wall n) (map turned edges)) ≡ neg_ℤ k)
+    (λ n e. ap (λ t. winding (near n x d) t) (turned_enlarged n edges)
+    ∙ winding_turned (near n x d) (map (enlarged_wall n) edges) ∙ ap neg_ℤ e) h
 
-rises_turned : (value : Point → ℤ) (edges : List Segment) → rises_along value (map turned edges) ≡ neg_ℤ (rises_along value edges)
+rises_turned : (value : Point → ℤ) (edges : List Segment)
+    → rises_along value (map turned edges) ≡ neg_ℤ (rises_along value edges)
 rises_turned value [] = refl
 rises_turned value (f ∷ edges) = let rest = rises_turned value edges in omega (arith, ints, rest)
 

@@ -1,4 +1,4 @@
-use Rattle.plane_laws.proofs.Separated.{separated}
+use Rattle.plane_laws.proofs.Segments.Separated.{separated}
 use Rattle.plane_laws.proofs.a_line_keeps_segments_apart.Goals as goal
 
 pub returns : goal.returns

@@ -1,10 +1,13 @@
--- What is strictly inside a convex polygon, on small figures: why it has to be simple, and a plan for which the law of open points has something to say.
+-- What is strictly inside a convex polygon, on small figures: why it has to be simple, and a plan for which the law
+-- of open points has something to say.
 use Rattle.std.specs.Prelude.{◌≡◌, refl, List, ◌++◌, true, false}
 use Rattle.std.proofs.Common.{arith}
 use Rattle.plane_spec.specs.declared.Point.{Point}
 use Rattle.plane_spec.specs.Segments.{is_on_segment, cross_properly, do_touch}
-use Rattle.plane_spec.specs.Polygons.{edges_to, is_counterclockwise, passes_right, is_inside, may_stand, crosses_nowhere, is_simple}
-use Rattle.plan_spec.specs.Accepted.{lies_within, do_obstacles_stand, do_screens_stand, do_routes_stand, is_within_limits, is_sound}
+use Rattle.plane_spec.specs.Polygons.{edges_to, is_counterclockwise, passes_right, is_inside, may_stand}
+use Rattle.plane_spec.specs.Polygons.{crosses_nowhere, is_simple}
+use Rattle.plan_spec.specs.Accepted.{lies_within, do_obstacles_stand, do_screens_stand, do_routes_stand}
+use Rattle.plan_spec.specs.Accepted.{is_within_limits, is_sound}
 use Rattle.plan_spec.specs.Scene.{walls_round}
 use Rattle.plan_spec.specs.Sight.{is_open}
 use Rattle.plan_spec.proofs.Figures.{at, box, room_with, middle}

@@ -1,4 +1,5 @@
--- Inside and strictly inside, on small figures: a repeated point is a wall that nothing is left of, and a notch shows that the obstacle must be convex.
+-- Inside and strictly inside, on small figures: a repeated point is a wall that nothing is left of, and a notch shows
+-- that the obstacle must be convex.
 use Rattle.std.specs.Prelude.{◌≡◌, refl, List, [], ◌∷◌, ℤ, pos, true, false}
 use Rattle.plane_spec.specs.declared.Point.{Point}
 use Rattle.plane_spec.specs.Vectors.{point}
@@ -12,11 +13,13 @@ at x y = point x y
 
 -- the box from (0,0) to (3,3), with its first point twice
 abbrev box_with_a_repeat : List Point
-box_with_a_repeat = at (pos 0) (pos 0) ∷ at (pos 0) (pos 0) ∷ at (pos 3) (pos 0) ∷ at (pos 3) (pos 3) ∷ at (pos 0) (pos 3) ∷ []
+box_with_a_repeat =
+    at (pos 0) (pos 0) ∷ at (pos 0) (pos 0) ∷ at (pos 3) (pos 0) ∷ at (pos 3) (pos 3) ∷ at (pos 0) (pos 3) ∷ []
 
 -- the same box with its upper side pushed in
 abbrev notched_box : List Point
-notched_box = at (pos 0) (pos 0) ∷ at (pos 3) (pos 0) ∷ at (pos 3) (pos 3) ∷ at (pos 1) (pos 2) ∷ at (pos 0) (pos 3) ∷ []
+notched_box =
+    at (pos 0) (pos 0) ∷ at (pos 3) (pos 0) ∷ at (pos 3) (pos 3) ∷ at (pos 1) (pos 2) ∷ at (pos 0) (pos 3) ∷ []
 
 -- a repeated point leaves the box convex, and what is inside it isn't left of the wall between the two
 a_repeat_is_convex : is_convex box_with_a_repeat ≡ true

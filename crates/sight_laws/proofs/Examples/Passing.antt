@@ -20,11 +20,13 @@ clockwise_box = at (pos 0) (pos 0) ∷ at (pos 0) (pos 3) ∷ at (pos 3) (pos 3)
 
 -- the same box with a point more on its lower side
 abbrev box_with_a_straight_corner : List Point
-box_with_a_straight_corner = at (pos 0) (pos 0) ∷ at (pos 1) (pos 0) ∷ at (pos 3) (pos 0) ∷ at (pos 3) (pos 3) ∷ at (pos 0) (pos 3) ∷ []
+box_with_a_straight_corner =
+    at (pos 0) (pos 0) ∷ at (pos 1) (pos 0) ∷ at (pos 3) (pos 0) ∷ at (pos 3) (pos 3) ∷ at (pos 0) (pos 3) ∷ []
 
 -- the same box with its upper side pushed in
 abbrev notched_box : List Point
-notched_box = at (pos 0) (pos 0) ∷ at (pos 3) (pos 0) ∷ at (pos 3) (pos 3) ∷ at (pos 1) (pos 2) ∷ at (pos 0) (pos 3) ∷ []
+notched_box =
+    at (pos 0) (pos 0) ∷ at (pos 3) (pos 0) ∷ at (pos 3) (pos 3) ∷ at (pos 1) (pos 2) ∷ at (pos 0) (pos 3) ∷ []
 
 -- ---- convex
 

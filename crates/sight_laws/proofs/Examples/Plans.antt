@@ -14,7 +14,8 @@ use Rattle.sight_laws.proofs.Past.{seen_past_convex}
 
 -- ---- the outer polygon
 
-the_border_is_on_or_inside : (is_on_or_inside (at 0 5) (box 0 0 10 10) && is_on_or_inside (at 10 10) (box 0 0 10 10)) ≡ true
+the_border_is_on_or_inside : (is_on_or_inside (at 0 5) (box 0 0 10 10) && is_on_or_inside (at 10 10) (box 0 0 10 10))
+    ≡ true
 unfolding walls_round is_counterclockwise edges_to
 the_border_is_on_or_inside = refl
 
@@ -58,7 +59,8 @@ past_the_box_the_other_wall_is_seen = refl
 nothing_of_the_box_is_passed_through : SeesPast (room_with middle) (at 0 6) (at 10 6)
 unfolding walls_round is_counterclockwise edges_to
 nothing_of_the_box_is_passed_through =
-    (seen_past_convex (room_with middle) (at 0 6) (at 10 6) the_box_is_simple_and_convex refl refl refl).0 past_the_box_the_other_wall_is_seen
+    (seen_past_convex (room_with middle) (at 0 6)
+    (at 10 6) the_box_is_simple_and_convex refl refl refl).0 past_the_box_the_other_wall_is_seen
 
 -- one unit further down it is
 through_the_box_it_is_not_seen : are_in_sight (scene_of (room_with middle)) (at 0 5) (at 10 5) ≡ false

@@ -76,7 +76,8 @@ some_square u v apart =
     let x = square_of (v.x -ℤ u.x) in
     let y = square_of (v.y -ℤ u.y) in
     by_lt_z (pos 0) (dot_of (vector u v) (vector u v)) (λ p. p)
-    (λ q. absurd (never (no_root (v.x -ℤ u.x) (omega (arith, ints, x, y, q))) (no_root (v.y -ℤ u.y) (omega (arith, ints, x, y, q)))))
+    (λ q. absurd (never (no_root (v.x -ℤ u.x) (omega (arith, ints, x, y, q)))
+    (no_root (v.y -ℤ u.y) (omega (arith, ints, x, y, q)))))
   where
     no_root : (z : ℤ) → z *ℤ z ≡ pos 0 → z ≡ pos 0
     no_root z e =

@@ -1,9 +1,10 @@
 -- The elements of a list, and what passes a test.
-use Rattle.std.specs.Prelude.{All, Contains}
+use Rattle.std.specs.Prelude.{All, Contains, List, ◌∷◌, Bool, true, ◌||◌, false}
 use Rattle.std.proofs.lemmas.List.Elements.{All-cons, All-head, All-tail, All-nil, All-contains_itself}
-use Rattle.std.specs.List.{list_all, list_any}
+use Rattle.std.specs.List.{list_all, list_any, flat_map}
 use Rattle.std.specs.Prelude.{◌++◌}
-use Rattle.std.proofs.Common.{List, ◌≡◌, ◌⊎◌, [], ◌∷◌, Bool, true, inl, inr, subst, refl, ap, map, false, ◌||◌, ◌+◌, sym, ◌∙◌}
+use Rattle.std.proofs.Common.{List, ◌≡◌, ◌⊎◌, [], ◌∷◌, Bool, true, inl, inr, subst, refl, ap, map, false, ◌||◌, ◌+◌}
+use Rattle.std.proofs.Common.{sym, ◌∙◌}
 use Rattle.std.proofs.lemmas.Bool.{and_parts, and_from, or_cases}
 use Rattle.plane_spec.specs.Lists.{pairs, with_each}
 
@@ -19,13 +20,15 @@ pub record Found {X : Type 0} (test : X → Bool) (xs : List X) : Type 0 where
   pub passes : test it ≡ true
 
 -- where all pass, each one does
-pub each_passes : {X : Type 0} (test : X → Bool) (xs : List X) (x : X) → list_all test xs ≡ true → IsIn xs x → test x ≡ true
+pub each_passes : {X : Type 0} (test : X → Bool) (xs : List X) (x : X) → list_all test xs ≡ true → IsIn xs x
+    → test x ≡ true
 each_passes test [] x h k = absurd k
 each_passes test (y ∷ ys) x h (inl e) = subst (λ t. test t ≡ true) e (and_parts (test y) (list_all test ys) h).0
 each_passes test (y ∷ ys) x h (inr k) = each_passes test ys x (and_parts (test y) (list_all test ys) h).1 k
 
 -- where each one passes, all do
-pub all_pass : {X : Type 0} (test : X → Bool) (xs : List X) → ((x : X) → IsIn xs x → test x ≡ true) → list_all test xs ≡ true
+pub all_pass : {X : Type 0} (test : X → Bool) (xs : List X) → ((x : X) → IsIn xs x → test x ≡ true)
+    → list_all test xs ≡ true
 all_pass test [] h = refl
 all_pass test (y ∷ ys) h = and_from (test y) (list_all test ys) (h y (inl refl)) (all_pass test ys (λ x k. h x (inr k)))
 
@@ -71,7 +74,8 @@ both_fail false true h = cc
 both_fail false false h = record { first = refl; second = refl }
 
 -- where none passes, each one fails
-pub each_fails : {X : Type 0} (test : X → Bool) (xs : List X) (x : X) → list_any test xs ≡ false → IsIn xs x → test x ≡ false
+pub each_fails : {X : Type 0} (test : X → Bool) (xs : List X) (x : X) → list_any test xs ≡ false → IsIn xs x
+    → test x ≡ false
 each_fails test [] x h k = absurd k
 each_fails test (y ∷ ys) x h (inl e) = subst (λ t. test t ≡ false) e (both_fail (test y) (list_any test ys) h).first
 each_fails test (y ∷ ys) x h (inr k) = each_fails test ys x (both_fail (test y) (list_any test ys) h).second k
@@ -88,14 +92,20 @@ in_right [] ys x h = h
 in_right (y ∷ xs) ys x h = inr (in_right xs ys x h)
 
 -- two elements are one, or a pair in one order or the other
-pub in_pairs : {X : Type 0} (xs : List X) (x y : X) → IsIn xs x → IsIn xs y → (x ≡ y) ⊎ (IsIn (pairs xs) (x, y) ⊎ IsIn (pairs xs) (y, x))
+pub in_pairs : {X : Type 0} (xs : List X) (x y : X) → IsIn xs x → IsIn xs y
+    → (x ≡ y) ⊎ (IsIn (pairs xs) (x, y) ⊎ IsIn (pairs xs) (y, x))
 in_pairs [] x y h k = absurd h
 in_pairs (z ∷ xs) x y (inl e) (inl f) = inl (sym e ∙ f)
-in_pairs (z ∷ xs) x y (inl e) (inr k) = inr (inl (in_left (map (with_each z) xs) (pairs xs) (x, y) (subst (λ t. IsIn (map (with_each z) xs) (t, y)) e (mapped (with_each z) xs y k))))
-in_pairs (z ∷ xs) x y (inr h) (inl f) = inr (inr (in_left (map (with_each z) xs) (pairs xs) (y, x) (subst (λ t. IsIn (map (with_each z) xs) (t, x)) f (mapped (with_each z) xs x h))))
+in_pairs (z ∷ xs) x y (inl e) (inr k) =
+    inr (inl (in_left (map (with_each z) xs) (pairs xs) (x, y)
+    (subst (λ t. IsIn (map (with_each z) xs) (t, y)) e (mapped (with_each z) xs y k))))
+in_pairs (z ∷ xs) x y (inr h) (inl f) =
+    inr (inr (in_left (map (with_each z) xs) (pairs xs) (y, x)
+    (subst (λ t. IsIn (map (with_each z) xs) (t, x)) f (mapped (with_each z) xs x h))))
 in_pairs (z ∷ xs) x y (inr h) (inr k) = later (in_pairs xs x y h k)
   where
-    later : (x ≡ y) ⊎ (IsIn (pairs xs) (x, y) ⊎ IsIn (pairs xs) (y, x)) → (x ≡ y) ⊎ (IsIn (pairs (z ∷ xs)) (x, y) ⊎ IsIn (pairs (z ∷ xs)) (y, x))
+    later : (x ≡ y) ⊎ (IsIn (pairs xs) (x, y) ⊎ IsIn (pairs xs) (y, x))
+        → (x ≡ y) ⊎ (IsIn (pairs (z ∷ xs)) (x, y) ⊎ IsIn (pairs (z ∷ xs)) (y, x))
     later (inl e) = inl e
     later (inr (inl p)) = inr (inl (in_right (map (with_each z) xs) (pairs xs) (x, y) p))
     later (inr (inr p)) = inr (inr (in_right (map (with_each z) xs) (pairs xs) (y, x) p))
@@ -117,7 +127,8 @@ each_in {X = X} (x ∷ xs) = All-cons (IsIn (x ∷ xs)) x xs (inl refl) (weaker 
   where
     weaker : (ys : List X) → All (IsIn xs) ys → All (IsIn (x ∷ xs)) ys
     weaker [] all = All-nil (IsIn (x ∷ xs))
-    weaker (y ∷ ys) all = All-cons (IsIn (x ∷ xs)) y ys (inr (All-head (IsIn xs) y ys all)) (weaker ys (All-tail (IsIn xs) y ys all))
+    weaker (y ∷ ys) all =
+        All-cons (IsIn (x ∷ xs)) y ys (inr (All-head (IsIn xs) y ys all)) (weaker ys (All-tail (IsIn xs) y ys all))
 
 pub from_contains : {X : Type 0} (xs : List X) (x : X) → Contains xs x → IsIn xs x
 from_contains xs x h = subst (λ t. IsIn xs t) h.2 (each_in xs h.0 x h.1)
@@ -129,3 +140,37 @@ to_contains {X = X} xs x h = each_of (Contains xs) xs x (All-contains_itself xs)
     each_of holds [] x all k = absurd k
     each_of holds (y ∷ ys) x all (inl e) = subst holds e (All-head holds y ys all)
     each_of holds (y ∷ ys) x all (inr k) = each_of holds ys x (All-tail holds y ys all) k
+
+pub in_part : {X Y : Type 0} (f : X → List Y) (xs : List X) (x : X) (y : Y) → IsIn xs x → IsIn (f x) y
+    → IsIn (flat_map f xs) y
+in_part f [] x y k h = absurd k
+in_part f (z ∷ xs) x y (inl e) h = in_left (f z) (flat_map f xs) y (subst (λ t. IsIn (f t) y) (sym e) h)
+in_part f (z ∷ xs) x y (inr k) h = in_right (f z) (flat_map f xs) y (in_part f xs x y k h)
+
+-- which part an element stands in
+pub record Part {X Y : Type 0} (f : X → List Y) (xs : List X) (y : Y) : Type 0 where
+  pub of : X
+  pub of_there : IsIn xs of
+  pub there : IsIn (f of) y
+
+pub part : {X Y : Type 0} (f : X → List Y) (xs : List X) (y : Y) → IsIn (flat_map f xs) y → Part f xs y
+part f [] y k = absurd k
+part f (x ∷ xs) y k = elim (from_append (f x) (flat_map f xs) y k) [
+  | inl h ↦ record { of = x; of_there = inl refl; there = h }
+  | inr h ↦ later (part f xs y h)
+]
+  where
+    later : Part f xs y → Part f (x ∷ xs) y
+    later p = record { of = p.of; of_there = inr p.of_there; there = p.there }
+
+pub first_true : (s t : Bool) → s ≡ true → (s || t) ≡ true
+first_true s t h = rw h refl
+
+pub second_true : (s t : Bool) → t ≡ true → (s || t) ≡ true
+second_true true t h = refl
+second_true false t h = h
+
+pub any_by : {X : Type 0} (test : X → Bool) (xs : List X) (x : X) → IsIn xs x → test x ≡ true → list_any test xs ≡ true
+any_by test [] x k h = absurd k
+any_by test (y ∷ ys) x (inl e) h = first_true (test y) (list_any test ys) (subst (λ t. test t ≡ true) (sym e) h)
+any_by test (y ∷ ys) x (inr k) h = second_true (test y) (list_any test ys) (any_by test ys x k h)

@@ -1,19 +1,21 @@
 -- Points between two others, and their heights.
 use Rattle.plane_laws.proofs.Tests.{clash}
 use Rattle.std.specs.Ordering.{int_eq}
-use Rattle.std.proofs.Common.{arith, true, ℤ, ◌≡◌, ◌⊎◌, ◌≤ℤ◌, inl, inr, pos, ◌-ℤ◌, ◌*ℤ◌, false, ◌<ℤ◌, ◌&&◌, ◌+ℤ◌, ap, ◌∙◌, sym, subst, refl}
+use Rattle.std.proofs.Common.{arith, true, ℤ, ◌≡◌, ◌⊎◌, ◌≤ℤ◌, inl, inr, pos, ◌-ℤ◌, ◌*ℤ◌, false, ◌<ℤ◌, ◌&&◌, ◌+ℤ◌, ap}
+use Rattle.std.proofs.Common.{◌∙◌, sym, subst, refl}
 use Rattle.std.proofs.lemmas.Int.{ints}
 use Rattle.std.proofs.lemmas.Bool.Decides.{Decides-int_eq}
 use Rattle.std.proofs.lemmas.Bool.{false_from_ne_true, and_parts, and_cases, and_from}
-use Rattle.int_laws.proofs.Signs.{negative_factors, not_negative_product, negative_product_both, positive_product, none_times, positive_factor, zero_factor, not_negative_factor}
+use Rattle.int_laws.proofs.Signs.{negative_factors, not_negative_product, negative_product_both, positive_product}
+use Rattle.int_laws.proofs.Signs.{none_times, positive_factor, zero_factor, not_negative_factor}
 use Rattle.int_laws.proofs.Ring.{sum_times, times_sum, product_swapped, times_zero}
 use Rattle.int_laws.proofs.Tests.{equal_tested, tested_equal}
 use Rattle.plane_spec.specs.declared.Point.{Point}
 use Rattle.plane_spec.specs.declared.Segment.{Segment}
 use Rattle.plane_spec.specs.Segments.{is_between, is_on_segment}
 use Rattle.plane_spec.specs.Vectors.{orient_of, dot_of, vector, same_point, cross_of, point}
-use Rattle.plane_laws.proofs.Heights.{times_steps, along, height, height_from}
-use Rattle.plane_laws.proofs.Directions.{at_start, at_end, some_square}
+use Rattle.plane_laws.proofs.Points.Heights.{times_steps, along, height, height_from}
+use Rattle.plane_laws.proofs.Points.Directions.{at_start, at_end, some_square}
 use Rattle.std.specs.Prelude.{false, true}
 
 -- ---- one coordinate
@@ -106,7 +108,8 @@ high_apart m a b h n =
     ]
 
 -- the parts before and after m make the whole
-pub parts_of : (a b m : Point) → dot_of (vector a b) (vector a b) ≡ dot_of (vector a b) (vector m b) +ℤ dot_of (vector a b) (vector a m)
+pub parts_of : (a b m : Point)
+    → dot_of (vector a b) (vector a b) ≡ dot_of (vector a b) (vector m b) +ℤ dot_of (vector a b) (vector a m)
 parts_of a b m =
     let x = times_steps (b.x -ℤ a.x) a.x m.x b.x in
     let y = times_steps (b.y -ℤ a.y) a.y m.y b.y in
@@ -131,7 +134,8 @@ mixed a b m j line =
     let v = cross_of way (vector a m) in
     let c = cross_of way d in
     let parts = along d way (vector a m) in
-    let none : cross_of d (vector a m) *ℤ dot_of way d ≡ pos 0 = none_times (cross_of d (vector a m)) (dot_of way d) line in
+    let none : cross_of d (vector a m) *ℤ dot_of way d ≡ pos 0 = none_times (cross_of d (vector a m))
+    (dot_of way d) line in
     let e : dot_of d d *ℤ v ≡ dot_of d (vector a m) *ℤ c = omega (arith, ints, parts, none) in
     ap (λ t. dot_of d d *ℤ t) (height_from j.a j.b a m)
     ∙ mixed_by (dot_of d d) (dot_of d (vector m b)) (dot_of d (vector a m)) (height j a) v c (parts_of a b m) e
@@ -179,16 +183,19 @@ same_ends a b e = subst (λ t. same_point a t ≡ true) e (own a)
         own_by x y = grind (arith, ints)
 
 -- what has both ends of the wall on one side has x on it
-pub height_positive : (v z x : Point) (j : Segment) → IsAlong v z x → pos 0 ≤ℤ height j v → pos 0 <ℤ height j z → pos 0 <ℤ height j x
+pub height_positive : (v z x : Point) (j : Segment) → IsAlong v z x → pos 0 ≤ℤ height j v → pos 0 <ℤ height j z
+    → pos 0 <ℤ height j x
 height_positive v z x j h hv hz =
     let m = mixed v z x j h.between.line in
     let k = long v z x h in
     let first = not_negative_product (dot_of (vector v z) (vector x z)) (height j v) (high x v z h.between) hv in
-    let second = positive_product (dot_of (vector v z) (vector v x)) (height j z) (low_apart x v z h.between h.apart) hz in
+    let second = positive_product (dot_of (vector v z) (vector v x)) (height j z)
+    (low_apart x v z h.between h.apart) hz in
     let turn = product_swapped (dot_of (vector v z) (vector v z)) (height j x) in
     positive_factor (height j x) (dot_of (vector v z) (vector v z)) (omega (arith, ints, m, first, second, turn)) k
 
-pub height_none : (v z x : Point) (j : Segment) → IsAlong v z x → height j v ≡ pos 0 → height j z ≡ pos 0 → height j x ≡ pos 0
+pub height_none : (v z x : Point) (j : Segment) → IsAlong v z x → height j v ≡ pos 0 → height j z ≡ pos 0
+    → height j x ≡ pos 0
 height_none v z x j h hv hz =
     let m = mixed v z x j h.between.line in
     let k = long v z x h in
@@ -197,7 +204,8 @@ height_none v z x j h hv hz =
     let turn = product_swapped (dot_of (vector v z) (vector v z)) (height j x) in
     zero_factor (height j x) (dot_of (vector v z) (vector v z)) (omega (arith, ints, m, first, second, turn)) k
 
-pub weak_mean : (v z x : Point) (j : Segment) → same_point v z ≡ false → IsBetween x v z → pos 0 ≤ℤ height j v → pos 0 ≤ℤ height j z → pos 0 ≤ℤ height j x
+pub weak_mean : (v z x : Point) (j : Segment) → same_point v z ≡ false → IsBetween x v z → pos 0 ≤ℤ height j v
+    → pos 0 ≤ℤ height j z → pos 0 ≤ℤ height j x
 weak_mean v z x j apart on hv hz =
     let m = mixed v z x j on.line in
     let k = some_square v z apart in
@@ -216,3 +224,8 @@ same_from_test x v h =
 
 pub apart_back : (a b : Point) → same_point a b ≡ false → same_point b a ≡ false
 apart_back a b h = false_from_ne_true (same_point b a) (λ same. clash h (same_ends a b (same_from_test b a same)))
+
+pub apart_from : (p q : Point) → same_point p q ≡ false → q.x -ℤ p.x ≡ pos 0 → q.y -ℤ p.y ≡ pos 0 → ⊥
+apart_from p q h e f =
+    clash h (and_from _ _ (equal_tested p.x q.x (omega (arith, ints, e)))
+    (equal_tested p.y q.y (omega (arith, ints, f))))

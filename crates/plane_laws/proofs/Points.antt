@@ -1,0 +1,4 @@
+pub mod Directions
+pub mod Heights
+pub mod Between
+pub mod Scaled

@@ -1,0 +1,4 @@
+pub mod Touching
+pub mod Apart
+pub mod Shared
+pub mod Separated
