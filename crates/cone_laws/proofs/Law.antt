@@ -4,6 +4,7 @@ use Rattle.std.proofs.Common.{◌≡◌, ℤ, pos, ◌-ℤ◌, sym, ap, subst}
 use Rattle.plane_spec.specs.declared.Point.{Point}
 use Rattle.plane_spec.specs.declared.Segment.{Segment}
 use Rattle.plane_spec.specs.declared.Corner.{Corner}
+use Rattle.plane_spec.specs.declared.Orientation.TheVariants.{Counterclockwise, Clockwise}
 use Rattle.plane_spec.specs.Vectors.{vector}
 use Rattle.plane_spec.specs.Polygons.{is_simple}
 use Rattle.plane_spec.specs.Cones.{corner, is_in_cone}
@@ -63,23 +64,23 @@ out_of points walls corners k round c d there off h =
         (subst (λ t. is_in_cone t d ≡ false) (sym o.is) h)
 
 pub obstacle_into : (points : List Point) (c : Corner) (d : Point) → is_simple points ≡ true
-    → Contains (corners_round true points) c
-    → is_in_cone c d ≡ true → GoesRoundNear (walls_round true points) c.here d (pos 1)
+    → Contains (corners_round Counterclockwise points) c
+    → is_in_cone c d ≡ true → GoesRoundNear (walls_round Counterclockwise points) c.here d (pos 1)
 obstacle_into points c d simple there h =
-    into points (walls_round true points) (corners_round true points) (pos 1)
+    into points (walls_round Counterclockwise points) (corners_round Counterclockwise points) (pos 1)
     (obstacle_round points simple) c d there h
 
 pub obstacle_out : (points : List Point) (c : Corner) (d : Point) → is_simple points ≡ true
-    → Contains (corners_round true points) c
+    → Contains (corners_round Counterclockwise points) c
     → LeadsOff (vector c.prev c.here) (vector c.here c.next) d → is_in_cone c d ≡ false
-    → GoesRoundNear (walls_round true points) c.here d (pos 0)
+    → GoesRoundNear (walls_round Counterclockwise points) c.here d (pos 0)
 obstacle_out points c d simple there off h =
-    out_of points (walls_round true points) (corners_round true points) (pos 1)
+    out_of points (walls_round Counterclockwise points) (corners_round Counterclockwise points) (pos 1)
     (obstacle_round points simple) c d there off h
 
 pub outer_into : (points : List Point) (c : Corner) (d : Point) → is_simple points ≡ true
-    → Contains (corners_round false points) c
-    → is_in_cone c d ≡ true → GoesRoundNear (walls_round false points) c.here d (pos 0)
+    → Contains (corners_round Clockwise points) c
+    → is_in_cone c d ≡ true → GoesRoundNear (walls_round Clockwise points) c.here d (pos 0)
 outer_into points c d simple there h =
-    into points (walls_round false points) (corners_round false points) (pos 0)
+    into points (walls_round Clockwise points) (corners_round Clockwise points) (pos 0)
     (outer_round points simple) c d there h

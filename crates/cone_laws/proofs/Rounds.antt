@@ -4,6 +4,7 @@ use Rattle.std.proofs.Common.{ap, inl, inr, subst, sym, ℤ, ◌≡◌, ◌⊎�
 use Rattle.plane_spec.specs.declared.Segment.{Segment}
 use Rattle.plane_spec.specs.declared.Corner.{Corner}
 use Rattle.plane_spec.specs.declared.Point.{Point}
+use Rattle.plane_spec.specs.declared.Orientation.TheVariants.{Counterclockwise, Clockwise}
 use Rattle.plane_spec.specs.Segments.{is_on_segment}
 use Rattle.plane_spec.specs.Cones.{corner}
 use Rattle.plane_spec.specs.Polygons.{edges_to, edges_of, is_counterclockwise, is_simple}
@@ -216,7 +217,7 @@ turned_about points k s =
 
 -- of an obstacle
 pub obstacle_round : (points : List Point) → is_simple points ≡ true
-    → IsRound points (walls_round true points) (corners_round true points) (pos 1)
+    → IsRound points (walls_round Counterclockwise points) (corners_round Counterclockwise points) (pos 1)
 unfolding walls_round corners_round
 obstacle_round points h =
     by_turn (is_counterclockwise points) (left_of_counterclockwise points h)
@@ -232,7 +233,7 @@ obstacle_round points h =
 
 -- of the outer polygon
 pub outer_round : (points : List Point) → is_simple points ≡ true
-    → IsRound points (walls_round false points) (corners_round false points) (pos 0)
+    → IsRound points (walls_round Clockwise points) (corners_round Clockwise points) (pos 0)
 unfolding walls_round corners_round
 outer_round points h =
     by_turn (is_counterclockwise points) (λ e. turned_sound (edges_of points) (pos 1)

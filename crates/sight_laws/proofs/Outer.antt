@@ -9,6 +9,7 @@ use Rattle.int_laws.proofs.Signs.{tested_positive}
 use Rattle.plane_spec.specs.declared.Point.{Point}
 use Rattle.plane_spec.specs.declared.Segment.{Segment}
 use Rattle.plane_spec.specs.declared.Corner.{Corner}
+use Rattle.plane_spec.specs.declared.Orientation.TheVariants.{Counterclockwise, Clockwise}
 use Rattle.plane_spec.specs.Vectors.{vector, cross_of, orient_of, same_point, is_left, lies_left}
 use Rattle.plane_spec.specs.Segments.{is_on_segment, cross_properly}
 use Rattle.plane_spec.specs.Polygons.{edges_of, is_counterclockwise}
@@ -29,8 +30,8 @@ use Rattle.sight_laws.proofs.Walls.{over_walls}
 -- ---- the outer polygon's walls and corners
 
 -- turned round, a wall of the outer polygon is one of an obstacle of that shape
-turned_wall : (points : List Point) (w : Segment) → IsIn (walls_round false points) w
-    → IsIn (walls_round true points) (turned_edge w)
+turned_wall : (points : List Point) (w : Segment) → IsIn (walls_round Clockwise points) w
+    → IsIn (walls_round Counterclockwise points) (turned_edge w)
 unfolding walls_round
 turned_wall points w there = by_turn (is_counterclockwise points) there
   where
@@ -42,8 +43,8 @@ turned_wall points w there = by_turn (is_counterclockwise points) there
     by_turn false k = mapped turned_edge (edges_of points) w k
 
 -- each of its corners is between two of its walls
-corner_between : (points : List Point) (c : Corner) → IsIn (corners_round false points) c
-    → CornerOf (walls_round false points) c
+corner_between : (points : List Point) (c : Corner) → IsIn (corners_round Clockwise points) c
+    → CornerOf (walls_round Clockwise points) c
 unfolding walls_round corners_round
 corner_between points c there = by_turn (is_counterclockwise points) there
   where
@@ -78,11 +79,11 @@ left_of_one u v z d h = by_turn (lies_left u v z) h
 
 never_in_the_way : (points : List Point) (p q : Point) → is_on_or_inside p points ≡ true
     → is_on_or_inside q points ≡ true
-    → InTheWay (walls_round false points) (corners_round false points) p q → ⊥
+    → InTheWay (walls_round Clockwise points) (corners_round Clockwise points) p q → ⊥
 unfolding cross_properly leaves_wall corner_stops
 never_in_the_way points p q p_over q_over way = by_way way
   where
-    right : (x : Point) → is_on_or_inside x points ≡ true → (w : Segment) → IsIn (walls_round false points) w
+    right : (x : Point) → is_on_or_inside x points ≡ true → (w : Segment) → IsIn (walls_round Clockwise points) w
         → orient_of w.a w.b x ≤ℤ pos 0
     right x over w there =
         let h = over_walls points x over (turned_edge w) (turned_wall points w there) in
@@ -93,7 +94,7 @@ never_in_the_way points p q p_over q_over way = by_way way
     by_signs s t h k (rises a b) = absurd (omega (arith, ints, k, b))
     by_signs s t h k (falls a b) = absurd (omega (arith, ints, h, a))
 
-    by_way : InTheWay (walls_round false points) (corners_round false points) p q → ⊥
+    by_way : InTheWay (walls_round Clockwise points) (corners_round Clockwise points) p q → ⊥
     by_way (crossed w there h) =
         let parts = and_parts _ _ h in
         by_signs (orient_of w.a w.b p) (orient_of w.a w.b q) (right p p_over w there) (right q q_over w there)
@@ -112,8 +113,8 @@ never_in_the_way points p q p_over q_over way = by_way way
         (left_of_one o.before.a o.edge.a o.edge.b (vector o.edge.a q)
         (subst (λ t. is_in_cone t (vector t.here q) ≡ true) (sym o.is) second.1))
       where
-        at_corner : (before edge : Segment) → IsIn (walls_round false points) before
-            → IsIn (walls_round false points) edge → before.b ≡ edge.a
+        at_corner : (before edge : Segment) → IsIn (walls_round Clockwise points) before
+            → IsIn (walls_round Clockwise points) edge → before.b ≡ edge.a
             → (pos 0 <ℤ cross_of (vector before.a edge.a) (vector edge.a q))
             ⊎ (pos 0 <ℤ cross_of (vector edge.a edge.b) (vector edge.a q)) → ⊥
         at_corner before edge before_there edge_there meets (inl left) =
@@ -130,9 +131,9 @@ pub outer_unblocked : (points : List Point) (p q : Point) → is_on_or_inside p 
     → is_blocked (outer_alone points) p q ≡ false
 outer_unblocked points p q p_over q_over =
     false_from_ne_true (is_blocked (outer_alone points) p q)
-    (λ h. by_side (no_screens (walls_round false points) (corners_round false points) p q h))
+    (λ h. by_side (no_screens (walls_round Clockwise points) (corners_round Clockwise points) p q h))
   where
-    by_side : InTheWay (walls_round false points) (corners_round false points) p q
-        ⊎ InTheWay (walls_round false points) (corners_round false points) q p → ⊥
+    by_side : InTheWay (walls_round Clockwise points) (corners_round Clockwise points) p q
+        ⊎ InTheWay (walls_round Clockwise points) (corners_round Clockwise points) q p → ⊥
     by_side (inl way) = never_in_the_way points p q p_over q_over way
     by_side (inr way) = never_in_the_way points q p q_over p_over way

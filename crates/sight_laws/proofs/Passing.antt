@@ -15,6 +15,7 @@ use Rattle.int_laws.proofs.Signs.{positive_factor, tested_positive}
 use Rattle.plane_spec.specs.declared.Point.{Point}
 use Rattle.plane_spec.specs.declared.Segment.{Segment}
 use Rattle.plane_spec.specs.declared.Corner.{Corner}
+use Rattle.plane_spec.specs.declared.Orientation.TheVariants.{Counterclockwise}
 use Rattle.plane_spec.specs.Vectors.{vector, cross_of, orient_of, same_point, lies_left}
 use Rattle.plane_spec.specs.Segments.{is_between, is_on_segment, cross_properly}
 use Rattle.plane_spec.specs.Polygons.{is_on_edge, is_inside, is_simple, has_repeat, crosses_nowhere}
@@ -22,7 +23,7 @@ use Rattle.plane_spec.specs.Cones.{is_in_cone}
 use Rattle.plan_spec.specs.Scene.{Scene, walls_round, corners_round, lines_of_scene}
 use Rattle.plan_spec.specs.Sight.{crosses, is_on_middle, leaves_wall, enters_wall, corner_stops, corner_blocks}
 use Rattle.plan_spec.specs.Sight.{is_blocked}
-use Rattle.plan_laws.proofs.Lists.{list_any_agree}
+use Rattle.list_laws.proofs.Tests.{list_any_agree}
 use Rattle.plane_laws.specs.Enlarged.{enlarged, part_way}
 use Rattle.plane_laws.proofs.Tests.{clash}
 use Rattle.plane_laws.proofs.Lists.Members.{IsIn, source, mapped}
@@ -95,9 +96,9 @@ through_between points p q p_in q_in =
         let f = height_from w.a w.b p q in
         omega (arith, ints, e, f, h, k)
 
-    left : (w : Segment) → IsIn (walls_round true (map (enlarged 2) points)) w → pos 0 <ℤ height w (part_way 1 2 p q)
+    left : (w : Segment) → IsIn (walls_round Counterclockwise (map (enlarged 2) points)) w → pos 0 <ℤ height w (part_way 1 2 p q)
     left w there =
-        let o = source (scaled_wall (pos 2) (pos 2)) (walls_round true points) w
+        let o = source (scaled_wall (pos 2) (pos 2)) (walls_round Counterclockwise points) w
         (subst (λ t. IsIn t w) (walls_enlarged 2 points (omega arith)) there) in
         subst (λ t. pos 0 <ℤ height t (part_way 1 2 p q)) o.is
         (over o.it (left_of_walls points p p_in o.it o.is_in) (left_of_walls points q q_in o.it o.is_in))
@@ -121,11 +122,11 @@ through_point points p w = from_left_of_walls points p left
         let b = product_swapped (pos n) z in
         positive_factor z (pos n) (omega (arith, ints, first, b, e)) up
 
-    left : (f : Segment) → IsIn (walls_round true points) f → pos 0 <ℤ height f p
+    left : (f : Segment) → IsIn (walls_round Counterclockwise points) f → pos 0 <ℤ height f p
     left f there =
         let h = left_of_walls (map (enlarged n) points) (part_way w.0 n p p) w.4 (scaled_wall (pos n) (pos n) f)
         (subst (λ t. IsIn t (scaled_wall (pos n) (pos n) f)) (sym (walls_enlarged n points some))
-        (mapped (scaled_wall (pos n) (pos n)) (walls_round true points) f there)) in
+        (mapped (scaled_wall (pos n) (pos n)) (walls_round Counterclockwise points) f there)) in
         by_sign (height f p) (pos w.0) (cross_of (vector f.a f.b) (vector p p)) (cross_none (vector f.a f.b) p)
         (subst (λ t. pos 0 <ℤ t) (height_of_step n w.0 p p f) h)
 
@@ -174,12 +175,12 @@ nothing_in_the_way walls corners p (stopped c there h) =
     at x p h = grind (arith, ints)
 
 pub point_unblocked : (points : List Point) (p : Point) → is_blocked (obstacle_alone points) p p ≡ true → ⊥
-point_unblocked points p h = by_side (no_screens (walls_round true points) (corners_round true points) p p h)
+point_unblocked points p h = by_side (no_screens (walls_round Counterclockwise points) (corners_round Counterclockwise points) p p h)
   where
-    by_side : InTheWay (walls_round true points) (corners_round true points) p p
-        ⊎ InTheWay (walls_round true points) (corners_round true points) p p → ⊥
-    by_side (inl way) = nothing_in_the_way (walls_round true points) (corners_round true points) p way
-    by_side (inr way) = nothing_in_the_way (walls_round true points) (corners_round true points) p way
+    by_side : InTheWay (walls_round Counterclockwise points) (corners_round Counterclockwise points) p p
+        ⊎ InTheWay (walls_round Counterclockwise points) (corners_round Counterclockwise points) p p → ⊥
+    by_side (inl way) = nothing_in_the_way (walls_round Counterclockwise points) (corners_round Counterclockwise points) p way
+    by_side (inr way) = nothing_in_the_way (walls_round Counterclockwise points) (corners_round Counterclockwise points) p way
 
 -- ---- the laws
 

@@ -8,6 +8,7 @@ use Rattle.std.specs.List.{list_any, list_all}
 use Rattle.std.proofs.Common.{◌≡◌, ◌⊎◌, inl, inr, ◌↔◌, sym, ap, ◌∙◌, subst}
 use Rattle.std.proofs.lemmas.Bool.{and_parts, and_from, or_cases, false_from_ne_true, not-true}
 use Rattle.plane_spec.specs.declared.Point.{Point}
+use Rattle.plane_spec.specs.declared.Orientation.TheVariants.{Counterclockwise}
 use Rattle.plane_spec.specs.Vectors.{same_point}
 use Rattle.plane_spec.specs.Polygons.{is_simple, is_inside}
 use Rattle.plan_spec.specs.Accepted.{is_sound}
@@ -32,9 +33,9 @@ use Rattle.sight_laws.proofs.Passing.{through_blocked, blocked_through}
 -- ---- any plan
 
 no_screen : (points : List Point) (p q : Point) → is_blocked (obstacle_alone points) p q ≡ true
-    → InTheWay (walls_round true points) (corners_round true points) p q
-    ⊎ InTheWay (walls_round true points) (corners_round true points) q p
-no_screen points p q h = no_screens (walls_round true points) (corners_round true points) p q h
+    → InTheWay (walls_round Counterclockwise points) (corners_round Counterclockwise points) p q
+    ⊎ InTheWay (walls_round Counterclockwise points) (corners_round Counterclockwise points) q p
+no_screen points p q h = no_screens (walls_round Counterclockwise points) (corners_round Counterclockwise points) p q h
 
 -- what blocks by itself blocks in the plan
 obstacle_in_plan : (plan : Plan) (o : Obstacle) (p q : Point) → IsIn plan.obstacles o
