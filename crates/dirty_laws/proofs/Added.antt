@@ -7,6 +7,7 @@
 -- it. Each corner of the scene differs from one of the two, and so has a dirty pair with that one.
 use Rattle.std.proofs.Common.{◌≡◌, ◌∙◌, Bool, true, false, cond, not, ◌&&◌, ◌||◌, ℕ, ℤ, List, [], ◌∷◌, ◌++◌, map}
 use Rattle.std.proofs.Common.{filter, Some, None, refl, sym, ap, subst, arith}
+use Rattle.std.specs.Prelude.{nat_le, length}
 use Rattle.std.specs.List.{All, Contains, list_any, list_all, flat_map}
 use Rattle.std.proofs.lemmas.Int.{ints}
 use Rattle.std.proofs.lemmas.Bool.{and_parts}
@@ -179,11 +180,23 @@ no_repeat points h = by (has_repeat points) refl
     by false e = refl
     by true e = grind arith
 
+-- a polygon has at least three points
+three_points : (points : List Point) → is_polygon points ≡ true → nat_le 3 (length points) ≡ true
+three_points points h = by (nat_le 3 (length points)) refl
+  where
+    by : (t : Bool) → nat_le 3 (length points) ≡ t → t ≡ true
+    by true e = refl
+    by false e = grind arith
+
+-- so fewer are no polygon
+too_few : {P : Type 0} → false ≡ true → P
+too_few e = cc
+
 -- the first two points of a polygon differ
 two_of_polygon : (points : List Point) → is_polygon points ≡ true → HasTwo points
 unfolding edges_to
-two_of_polygon [] h = cc
-two_of_polygon (p ∷ []) h = cc
+two_of_polygon [] h = too_few (three_points [] h)
+two_of_polygon (p ∷ []) h = too_few (three_points (p ∷ []) h)
 two_of_polygon (p ∷ q ∷ points) h = record {
   one = p;
   other = q;

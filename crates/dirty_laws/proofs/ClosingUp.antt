@@ -9,25 +9,22 @@
 use Rattle.std.proofs.Common.{◌≡◌, ◌∙◌, ◌≤ℤ◌, Bool, true, false, not, ◌&&◌, ℕ, List, [], ◌∷◌, ◌++◌, map, filter}
 use Rattle.std.proofs.Common.{None, refl, sym, ap, subst, append_assoc, arith, ℤ}
 use Rattle.std.specs.List.{All, list_any, list_all, flat_map}
-use Rattle.std.specs.Str.{bytes_eq}
 use Rattle.std.proofs.lemmas.Int.{ints}
-use Rattle.std.proofs.lemmas.Bool.{and_parts, and_from, not-true, false_from_ne_true, both_ways}
-use Rattle.std.proofs.lemmas.Slice.Eq.{bytes_eq-Decides}
+use Rattle.std.proofs.lemmas.Bool.{and_parts, and_from}
 use Rattle.std.proofs.lemmas.Grind.{flat_map-append}
 use Rattle.std.proofs.lemmas.List.{map-append}
 use Rattle.std.proofs.lemmas.List.Elements.{All-nil, All-cons, All-head, All-tail, All-map}
 use Rattle.plane_spec.specs.declared.Point.{Point}
 use Rattle.plane_spec.specs.declared.PlanBox.{PlanBox}
 use Rattle.plane_spec.specs.declared.Corner.{Corner}
-use Rattle.plane_spec.specs.Segments.{do_touch}
 use Rattle.plane_spec.specs.Boxes.{box_of_points, does_meet_box, do_overlap, reaches_line}
 use Rattle.plan_spec.specs.declared.kinds.Screen.{Screen}
 use Rattle.plan_spec.specs.declared.changes.Edit.{Edit}
 use Rattle.plan_spec.specs.declared.changes.Edit.TheVariants.{Add, Remove, Move, AddScreen, RemoveScreen, AddRoute}
 use Rattle.plan_spec.specs.declared.changes.Edit.TheVariants.{RemoveRoute}
 use Rattle.plan_spec.specs.Plan.{Obstacle, Plan, with_obstacles, with_screens, is_obstacle_named, is_screen_named}
-use Rattle.plan_spec.specs.Accepted.{obstacles_apart, polygons_meet, screens_apart, is_sound}
-use Rattle.plan_spec.specs.Scene.{scene_of, corners_round, corners_of_obstacle, ends_of_screen}
+use Rattle.plan_spec.specs.Accepted.{is_sound}
+use Rattle.plan_spec.specs.Scene.{scene_of, corners_of_obstacle, ends_of_screen}
 use Rattle.plan_spec.specs.Edits.{changed, changed_boxes, edited, points_named, ends_named, without_obstacle}
 use Rattle.plan_spec.specs.Axial.{here_of}
 use Rattle.plan_laws.proofs.Names.{obstacle_alone, screen_alone}

@@ -7,7 +7,7 @@
 -- their points. So the ends of their walls and their corners, or the ends of the screens, lie in it (`Parts`); the
 -- other
 -- obstacles and screens stay in their order, and with them their walls and corners.
-use Rattle.std.proofs.Common.{◌≡◌, ◌∙◌, true, false, not, ℤ, List, [], ◌∷◌, ◌++◌, map}
+use Rattle.std.proofs.Common.{◌≡◌, ◌∙◌, not, ℤ, List, [], ◌∷◌, ◌++◌, map}
 use Rattle.std.proofs.Common.{filter, All, Some, None, refl, sym, ap}
 use Rattle.std.specs.List.{flat_map}
 use Rattle.std.proofs.lemmas.List.Elements.{All-nil, All-cons, All-head, All-tail}
@@ -20,7 +20,7 @@ use Rattle.plan_spec.specs.declared.changes.Edit.TheVariants.{Add, Remove, Move,
 use Rattle.plan_spec.specs.declared.changes.Edit.TheVariants.{RemoveRoute}
 use Rattle.plan_spec.specs.declared.changes.Changed.{Changed}
 use Rattle.plan_spec.specs.Plan.{Obstacle, Plan, with_obstacles, with_screens, is_obstacle_named, is_screen_named}
-use Rattle.plan_spec.specs.Scene.{scene_of, walls_round, walls_of_obstacle, corners_round, corners_of_obstacle}
+use Rattle.plan_spec.specs.Scene.{scene_of, walls_of_obstacle, corners_of_obstacle}
 use Rattle.plan_spec.specs.Scene.{segment_of_screen, lone_end, ends_of_screen}
 use Rattle.plan_spec.specs.Edits.{changed_boxes, edited, points_named, ends_named, without_obstacle}
 use Rattle.plan_spec.specs.Edits.{shifted_point}

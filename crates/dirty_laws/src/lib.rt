@@ -87,9 +87,9 @@ pub fn the_corners_after_a_removal()
         → ClosesUp box before after }
 {}
 
-/// Where an edit that nothing refuses has a box after it, each corner of the new scene is dirty, and with it each
-/// point: two corners of what it adds or moves stand at different points of the box. So after an addition or a move
-/// all lines are asked for again.
+/// Where an edit that nothing refuses has a box after it, each corner of the new scene is dirty: two corners of what it
+/// adds or moves stand at different points of the box, and every other point makes a dirty pair with one of them. So
+/// after an addition or a move all lines are asked for again.
 pub fn every_corner_is_dirty_after_an_addition()
     ensures { (box : PlanBox) (before after : Scene) (boxes : Changed) → IsEdited before after boxes
         → boxes.second ≡ Some box → (lines : List AxialLine) (p : Point)

@@ -2,3 +2,4 @@ pub mod Without
 pub mod Corners
 pub mod Updated
 pub mod Laws
+mod Examples

@@ -4,6 +4,7 @@
 //!
 //! | file | what its laws say |
 //! |---|---|
+//! | `Conditions` | laws of `&&`, `||` and `not`, by which conditions are put in order |
 //! | `Tests` | tests of all elements and of any, over lists joined, mapped and filtered |
 //! | `Elements` | what holds of all elements, of lists joined, mapped and filtered |
 //! | `Dropped` | a list without some elements: what a function gives of it, and which tests are passed as before |
