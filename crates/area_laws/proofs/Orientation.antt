@@ -295,7 +295,9 @@ by_meeting left base m n edges k sound on f there meeting =
               (omega (arith, ints, w, none)),
         )
 
-    by_side : Beside k (winding (cell left base meeting.i meeting.j) edges) (winding (cell left base meeting.i (meeting.j + 1)) edges) → IsFine k (winding (cell left base meeting.i (meeting.j + 1)) edges)
+    by_side : Beside k (winding (cell left base meeting.i meeting.j) edges)
+        (winding (cell left base meeting.i (meeting.j + 1)) edges)
+        → IsFine k (winding (cell left base meeting.i (meeting.j + 1)) edges)
         → IsTurnedRound k (doubled_area edges)
     by_side (inl b) fine =
         let l = meeting.j_in in elim (decided k (winding (cell left base meeting.i (meeting.j + 1)) edges)

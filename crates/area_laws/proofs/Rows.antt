@@ -20,8 +20,7 @@ use Rattle.winding_laws.specs.Windings.{wind, winding, near}
 use Rattle.winding_laws.proofs.OneEdge.{turned, wind_above, wind_below, wind_turned}
 use Rattle.winding_laws.proofs.Strips.{HasWinding}
 use Rattle.side_laws.proofs.Sound.{Distinct}
-use Rattle.area_laws.proofs.Cells.{IsOnGrid, place_at, wind_at, orient_sloped}
-use Rattle.area_laws.proofs.Area.{back_slope}
+use Rattle.area_laws.proofs.Cells.{IsOnGrid, place_at, wind_at, orient_sloped, back_slope}
 
 -- ---- an edge at a row
 

@@ -36,7 +36,8 @@ pub left_of_wall : (edges : List Segment) (k : ℤ) → IsSound edges k → (f :
     → IsAlong f.a f.b x → same_point x f.b ≡ false → pos 0 <ℤ cross_of (vector f.a f.b) d → GoesRoundOff edges x d k
 left_of_wall edges k sound f there x d here short left =
     let s = sound.sides f there in
-    side_middle edges s.before f.a f.b s.after x d k sound.closed sound.some s.first s.second s.alone s.side here short left
+    side_middle edges s.before f.a f.b s.after x d k sound.closed sound.some s.first s.second s.alone s.side here
+    short left
 
 pub right_of_wall : (edges : List Segment) (k : ℤ) → IsSound edges k → (f : Segment) → IsIn edges f → (x d : Point)
     → IsAlong f.a f.b x → same_point x f.b ≡ false → cross_of (vector f.a f.b) d <ℤ pos 0

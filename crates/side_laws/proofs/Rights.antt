@@ -256,7 +256,8 @@ in_the_middle f apart = (
     last_same a b c d h = rw (last_test a b, last_test c d) h
 
     on_line : (ax ay bx by : ℤ)
-        → (pos 2 *ℤ bx -ℤ pos 2 *ℤ ax) *ℤ ((ay +ℤ by) -ℤ pos 2 *ℤ ay) -ℤ (pos 2 *ℤ by -ℤ pos 2 *ℤ ay) *ℤ ((ax +ℤ bx) -ℤ pos 2 *ℤ ax) ≡ pos 0
+        → (pos 2 *ℤ bx -ℤ pos 2 *ℤ ax) *ℤ ((ay +ℤ by) -ℤ pos 2 *ℤ ay)
+        -ℤ (pos 2 *ℤ by -ℤ pos 2 *ℤ ay) *ℤ ((ax +ℤ bx) -ℤ pos 2 *ℤ ax) ≡ pos 0
     on_line ax ay bx by =
         let u : (ax +ℤ bx) -ℤ pos 2 *ℤ ax ≡ bx -ℤ ax = omega (arith, ints) in
         let v : (ay +ℤ by) -ℤ pos 2 *ℤ ay ≡ by -ℤ ay = omega (arith, ints) in
@@ -296,7 +297,8 @@ right_at edges k f sound there s =
     let m = in_the_middle f (sound.some f there) in
     let d = s2.first.inner.way in
     let d_left = s2.first.inner.after_left in
-    let left = (side_middle twice s2.before f2.a f2.b s2.after x d k twice_sound.closed twice_sound.some s2.first s2.second s2.alone s2.side m.0 m.1 d_left).has in
+    let left = (side_middle twice s2.before f2.a f2.b s2.after x d k twice_sound.closed twice_sound.some s2.first
+    s2.second s2.alone s2.side m.0 m.1 d_left).has in
     let right = right_of_middle twice k f2 x d twice_sound f2_there m.0 m.1 d_left left in
     let other = map (scaled_wall (pos 2) (pos 2)) (map turned edges) in
     let same = turned_scaled edges in
