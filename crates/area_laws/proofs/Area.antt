@@ -21,11 +21,12 @@ use Rattle.plane_spec.specs.Polygons.{doubled_area}
 use Rattle.plane_laws.proofs.Points.Between.{in_order}
 use Rattle.plane_laws.proofs.Lists.Members.{IsIn}
 use Rattle.winding_laws.specs.Windings.{wind, winding}
-use Rattle.winding_laws.proofs.OneEdge.{wind_below, wind_above, turned, wind_turned}
+use Rattle.winding_laws.proofs.OneEdge.{wind_below, wind_above, wind_turned}
 use Rattle.winding_laws.proofs.Closed.{rises_along, AreClosed}
-use Rattle.area_laws.proofs.Cells.{cell, IsOnGrid, place_at, place_between, wind_at}
+use Rattle.area_laws.proofs.Cells.{cell, IsOnGrid, place_at, place_between, wind_at, back_slope}
 use Rattle.area_laws.proofs.Sums.{sum_to, count_before, is_before_place, sum_to-same, sum_to-none, sum_to-neg}
 use Rattle.area_laws.proofs.Sums.{sum_to-plus, sum_to-not_negative, sum_to-positive}
+use Rattle.plan_spec.specs.Scene.{turned_edge}
 
 abbrev pub row : ℤ → ℤ → ℕ → Segment → ℕ → ℤ
 row left base m e i = sum_to m (λ j. wind (cell left base i j) e)
@@ -188,7 +189,7 @@ edge_level left base m n e g level =
 -- ---- turned round
 
 pub turned_on_grid : (left base : ℤ) (m n : ℕ) (e : Segment) → IsOnGrid left base m n e
-    → IsOnGrid left base m n (turned e)
+    → IsOnGrid left base m n (turned_edge e)
 turned_on_grid left base m n e g =
     record {
       from = g.to;
@@ -198,28 +199,22 @@ turned_on_grid left base m n e g =
       to_in = g.from_in;
       a_y = g.b_y;
       b_y = g.a_y;
-      sloped = elim g.sloped [ inl h ↦ inl (sym h) | inr h ↦ inr (back e.a.x e.b.x e.a.y e.b.y g.slope h) ];
+      sloped = elim g.sloped [ inl h ↦ inl (sym h) | inr h ↦ inr (back_slope e.a.x e.b.x e.a.y e.b.y g.slope h) ];
       a_low = g.b_low;
       a_high = g.b_high;
       b_low = g.a_low;
       b_high = g.a_high;
     }
-  where
-    back : (ax bx ay by c : ℤ) → bx -ℤ ax ≡ c *ℤ (by -ℤ ay) → ax -ℤ bx ≡ c *ℤ (ay -ℤ by)
-    back ax bx ay by c h =
-        let first = times_minus c by ay in
-        let second = times_minus c ay by in
-        omega (arith, ints, h, first, second)
 
-rows_turned : (left base : ℤ) (m n : ℕ) (e : Segment) → rows left base m n (turned e) ≡ neg_ℤ (rows left base m n e)
+rows_turned : (left base : ℤ) (m n : ℕ) (e : Segment) → rows left base m n (turned_edge e) ≡ neg_ℤ (rows left base m n e)
 rows_turned left base m n e =
-    sum_to-same n (row left base m (turned e)) (λ i. neg_ℤ (row left base m e i))
-    (λ i k. sum_to-same m (λ j. wind (cell left base i j) (turned e)) (λ j. neg_ℤ (wind (cell left base i j) e))
+    sum_to-same n (row left base m (turned_edge e)) (λ i. neg_ℤ (row left base m e i))
+    (λ i k. sum_to-same m (λ j. wind (cell left base i j) (turned_edge e)) (λ j. neg_ℤ (wind (cell left base i j) e))
     (λ j l. wind_turned (cell left base i j) e)
     ∙ sum_to-neg m (λ j. wind (cell left base i j) e))
     ∙ sum_to-neg n (row left base m e)
 
-beside_turned : (left : ℤ) (e : Segment) → beside left (turned e) ≡ neg_ℤ (beside left e)
+beside_turned : (left : ℤ) (e : Segment) → beside left (turned_edge e) ≡ neg_ℤ (beside left e)
 beside_turned left e =
     let first : e.a.y -ℤ e.b.y ≡ neg_ℤ (e.b.y -ℤ e.a.y) = omega (arith, ints) in
     let second : (e.b.x -ℤ left) +ℤ (e.a.x -ℤ left) ≡ (e.a.x -ℤ left) +ℤ (e.b.x -ℤ left) = omega (arith, ints) in
@@ -234,19 +229,13 @@ one_edge_beside left base m n e g = elim g.sloped [
   | inl level ↦ edge_level left base m n e g level
   | inr sl ↦ by_lt_z (pos g.to) (pos g.from)
       (λ down. let back = turned_on_grid left base m n e g in
-      let sl' = turned_slope e.a.x e.b.x e.a.y e.b.y g.slope sl in
-      let h = edge_up left base m n (turned e) back (omega (arith, ints, down)) sl' in
+      let sl' = back_slope e.a.x e.b.x e.a.y e.b.y g.slope sl in
+      let h = edge_up left base m n (turned_edge e) back (omega (arith, ints, down)) sl' in
       let first = rows_turned left base m n e in
       let second = beside_turned left e in
       omega (arith, ints, h, first, second))
       (λ rising. edge_up left base m n e g (omega (arith, ints, rising)) sl)
 ]
-  where
-    turned_slope : (ax bx ay by c : ℤ) → bx -ℤ ax ≡ c *ℤ (by -ℤ ay) → ax -ℤ bx ≡ c *ℤ (ay -ℤ by)
-    turned_slope ax bx ay by c h =
-        let first = times_minus c by ay in
-        let second = times_minus c ay by in
-        omega (arith, ints, h, first, second)
 
 -- ---- all edges
 
@@ -345,12 +334,6 @@ area_negative left base m n edges closed on none i j i_in j_in some =
     let turned_all = sum_to-neg n (λ k. sum_to m (λ l. winding (cell left base k l) edges)) in
     omega (arith, ints, e, all, turned_row, turned_all)
 
-pub back_slope : (ax bx ay by c : ℤ) → bx -ℤ ax ≡ c *ℤ (by -ℤ ay) → ax -ℤ bx ≡ c *ℤ (ay -ℤ by)
-back_slope ax bx ay by c h =
-    let first = times_minus c by ay in
-    let second = times_minus c ay by in
-    omega (arith, ints, h, first, second)
-
 pub falls_on : (left base : ℤ) (m n : ℕ) (f : Segment) (g : IsOnGrid left base m n f) → g.to < g.from
     → (turned_on_grid left base m n f g).from < (turned_on_grid left base m n f g).to
 unfolding turned_on_grid
@@ -358,6 +341,6 @@ falls_on left base m n f g h = h
 
 pub slope_of : (left base : ℤ) (m n : ℕ) (f : Segment) (g : IsOnGrid left base m n f)
     → f.b.x -ℤ f.a.x ≡ g.slope *ℤ (f.b.y -ℤ f.a.y)
-    → (turned f).b.x -ℤ (turned f).a.x ≡ (turned_on_grid left base m n f g).slope *ℤ ((turned f).b.y -ℤ (turned f).a.y)
+    → (turned_edge f).b.x -ℤ (turned_edge f).a.x ≡ (turned_on_grid left base m n f g).slope *ℤ ((turned_edge f).b.y -ℤ (turned_edge f).a.y)
 unfolding turned_on_grid
 slope_of left base m n f g s = back_slope f.a.x f.b.x f.a.y f.b.y g.slope s

@@ -13,6 +13,13 @@ use Rattle.plane_laws.proofs.Segments.Touching.{between_by}
 use Rattle.winding_laws.specs.Windings.{wind}
 use Rattle.winding_laws.proofs.OneEdge.{wind_across}
 
+-- the slope of an edge that is turned round
+pub back_slope : (ax bx ay by c : ℤ) → bx -ℤ ax ≡ c *ℤ (by -ℤ ay) → ax -ℤ bx ≡ c *ℤ (ay -ℤ by)
+back_slope ax bx ay by c h =
+    let first = times_minus c by ay in
+    let second = times_minus c ay by in
+    omega (arith, ints, h, first, second)
+
 -- ---- an edge on the grid
 
 -- a cell: column j from `left` on, and the middle of row i from `base` on, where a row is two high

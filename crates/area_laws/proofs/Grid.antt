@@ -157,7 +157,8 @@ slope_by e d (inr k) = k.0 *ℤ (e.b.x -ℤ e.a.x)
 on_grid : (edges : List Segment) (e : Segment) (d : ℤ) (wide : ℕ)
     → (q : (e.a.y ≡ e.b.y) ⊎ ((q : ℤ) × (d ≡ q *ℤ (e.b.y -ℤ e.a.y)))) → pos 0 <ℤ d → AreSmall (bound edges) e
     → pos wide ≡ (d +ℤ d) *ℤ pos (bound edges)
-    → IsOnGrid (neg_ℤ (pos wide)) (neg_ℤ (pos (bound edges) +ℤ pos (bound edges))) (wide + wide) (bound edges + bound edges) (scaled_wall (d +ℤ d) (pos 2) e)
+    → IsOnGrid (neg_ℤ (pos wide)) (neg_ℤ (pos (bound edges)
+    +ℤ pos (bound edges))) (wide + wide) (bound edges + bound edges) (scaled_wall (d +ℤ d) (pos 2) e)
 on_grid edges e d wide q d_up s wide_is =
     let l = bound edges in
     let ay = s.ay in

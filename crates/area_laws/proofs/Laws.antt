@@ -4,7 +4,6 @@ use Rattle.std.proofs.Common.{ℤ, ◌≡◌, arith, inl, inr, pos, subst, ◌<�
 use Rattle.std.proofs.lemmas.Int.{ints}
 use Rattle.plane_spec.specs.declared.Point.{Point}
 use Rattle.plane_spec.specs.Polygons.{doubled_area, edges_of, is_simple, is_counterclockwise}
-use Rattle.winding_laws.proofs.OneEdge.{turned}
 use Rattle.side_laws.specs.Sides.{GoesRoundOnLeft}
 use Rattle.side_laws.proofs.Sound.{IsSound}
 use Rattle.side_laws.proofs.Law.{simple_from, goes_round}
@@ -13,6 +12,7 @@ use Rattle.side_laws.proofs.Simple.{sound}
 use Rattle.side_laws.proofs.Rights.{turned_sound}
 use Rattle.area_laws.proofs.Orientation.{IsTurnedRound}
 use Rattle.area_laws.proofs.Grid.{turned_round}
+use Rattle.plan_spec.specs.Scene.{turned_edge}
 
 -- what a simple polygon has on the left of its edges
 sides : (points : List Point) → is_simple points ≡ true
@@ -55,9 +55,9 @@ pub counterclockwise_left : (points : List Point) → is_simple points ≡ true 
 counterclockwise_left points h round = goes_round (edges_of points) (pos 1) (left_of_counterclockwise points h round)
 
 pub counterclockwise_right : (points : List Point) → is_simple points ≡ true → is_counterclockwise points ≡ true
-    → GoesRoundOnLeft (map turned (edges_of points)) (pos 0)
+    → GoesRoundOnLeft (map turned_edge (edges_of points)) (pos 0)
 counterclockwise_right points h round =
-    goes_round (map turned (edges_of points)) (pos 0) (turned_sound (edges_of points) (pos 1)
+    goes_round (map turned_edge (edges_of points)) (pos 0) (turned_sound (edges_of points) (pos 1)
     (left_of_counterclockwise points h round))
 
 pub clockwise_left : (points : List Point) → is_simple points ≡ true → is_counterclockwise points ≡ false
@@ -65,7 +65,7 @@ pub clockwise_left : (points : List Point) → is_simple points ≡ true → is_
 clockwise_left points h round = goes_round (edges_of points) (pos 0) (left_of_clockwise points h round)
 
 pub clockwise_right : (points : List Point) → is_simple points ≡ true → is_counterclockwise points ≡ false
-    → GoesRoundOnLeft (map turned (edges_of points)) (pos 1)
+    → GoesRoundOnLeft (map turned_edge (edges_of points)) (pos 1)
 clockwise_right points h round =
-    goes_round (map turned (edges_of points)) (pos 1) (turned_sound (edges_of points) (pos 0)
+    goes_round (map turned_edge (edges_of points)) (pos 1) (turned_sound (edges_of points) (pos 0)
     (left_of_clockwise points h round))

@@ -26,13 +26,14 @@ use Rattle.plane_laws.proofs.Lists.Members.{IsIn, each_fails, found}
 use Rattle.plane_laws.proofs.Segments.Touching.{on_turned}
 use Rattle.winding_laws.specs.Windings.{wind, winding}
 use Rattle.winding_laws.proofs.Strips.{HasWinding, same_value}
-use Rattle.winding_laws.proofs.OneEdge.{turned, wind_turned, wind_above, wind_below}
+use Rattle.winding_laws.proofs.OneEdge.{wind_turned, wind_above, wind_below}
 use Rattle.side_laws.proofs.Sound.{IsSound, on_one}
 use Rattle.side_laws.proofs.Sides.{side_middle}
 use Rattle.area_laws.proofs.Rows.{AtRow, falls, over, rises, under, east, one_step, rising_jump, west, windings_left}
 use Rattle.area_laws.proofs.Rows.{windings_right, free_step, at_row, rising_off}
 use Rattle.area_laws.proofs.Cells.{place_at, place_between, wind_at, IsOnGrid, cell}
 use Rattle.area_laws.proofs.Area.{area_negative, area_positive, falls_on, slope_of, turned_on_grid}
+use Rattle.plan_spec.specs.Scene.{turned_edge}
 
 -- ---- at an edge
 
@@ -103,7 +104,7 @@ beside edges k f x y sound rows there on =
     by_row here short change (falls slope h l s) =
         let right = same_value edges (point x y) east (winding (point x y) edges) k (windings_right edges x y rows)
         (at here short east (to_east (vector f.a f.b) (omega (arith, ints, h, l)))) in
-        let jump = rising_jump (turned f) slope x y h l s (turned_line (point x y) f.a f.b here.between.line) in
+        let jump = rising_jump (turned_edge f) slope x y h l s (turned_line (point x y) f.a f.b here.between.line) in
         let first = wind_turned (point (x -ℤ pos 1) y) f in
         let second = wind_turned (point x y) f in
         inr (omega (arith, ints, right, change, jump, first, second), right)
@@ -171,7 +172,7 @@ past_all f x y (under h k) past = wind_above (point x y) f (omega (arith, ints, 
 past_all f x y (over h k) past = wind_below (point x y) f h k
 past_all f x y (rises slope h k s) past = rising_past f slope x y h k s past
 past_all f x y (falls slope h k s) past =
-    let e = rising_past (turned f) slope x y h k s (past.1, past.0) in
+    let e = rising_past (turned_edge f) slope x y h k s (past.1, past.0) in
     let t = wind_turned (point x y) f in
     omega (arith, ints, e, t)
 
@@ -295,7 +296,9 @@ by_meeting left base m n edges k sound on f there meeting =
               (omega (arith, ints, w, none)),
         )
 
-    by_side : Beside k (winding (cell left base meeting.i meeting.j) edges) (winding (cell left base meeting.i (meeting.j + 1)) edges) → IsFine k (winding (cell left base meeting.i (meeting.j + 1)) edges)
+    by_side : Beside k (winding (cell left base meeting.i meeting.j) edges)
+        (winding (cell left base meeting.i (meeting.j + 1)) edges)
+        → IsFine k (winding (cell left base meeting.i (meeting.j + 1)) edges)
         → IsTurnedRound k (doubled_area edges)
     by_side (inl b) fine =
         let l = meeting.j_in in elim (decided k (winding (cell left base meeting.i (meeting.j + 1)) edges)
@@ -328,11 +331,11 @@ orientation left base m n edges k sound on f there tall =
           let to = g.b_y in
           let falling : g.to < g.from = by_lt_z (pos g.to) (pos g.from) (λ p. omega (arith, ints, p))
           (λ q. absurd (tall (omega (arith, ints, from, to, q, not_rising)))) in
-          turned_meeting (meeting_up left base m n (turned f) (turned_on_grid left base m n f g)
+          turned_meeting (meeting_up left base m n (turned_edge f) (turned_on_grid left base m n f g)
           (falls_on left base m n f g falling) (slope_of left base m n f g s)))
     ]
       where
-        turned_meeting : Meeting left base m n (turned f) → Meeting left base m n f
+        turned_meeting : Meeting left base m n (turned_edge f) → Meeting left base m n f
         turned_meeting t =
             record {
               i = t.i;

@@ -17,11 +17,11 @@ use Rattle.plane_laws.proofs.Lists.Members.{IsIn}
 use Rattle.plane_laws.proofs.Segments.Touching.{on_by, on_turned}
 use Rattle.plane_laws.proofs.Tests.{clash}
 use Rattle.winding_laws.specs.Windings.{wind, winding, near}
-use Rattle.winding_laws.proofs.OneEdge.{turned, wind_above, wind_below, wind_turned}
+use Rattle.winding_laws.proofs.OneEdge.{wind_above, wind_below, wind_turned}
 use Rattle.winding_laws.proofs.Strips.{HasWinding}
 use Rattle.side_laws.proofs.Sound.{Distinct}
-use Rattle.area_laws.proofs.Cells.{IsOnGrid, place_at, wind_at, orient_sloped}
-use Rattle.area_laws.proofs.Area.{back_slope}
+use Rattle.area_laws.proofs.Cells.{IsOnGrid, place_at, wind_at, orient_sloped, back_slope}
+use Rattle.plan_spec.specs.Scene.{turned_edge}
 
 -- ---- an edge at a row
 
@@ -176,7 +176,7 @@ right_of n f x y some (over h k) =
 right_of n f x y some (rises slope h k s) = rising_right n f slope x y some h k s
 right_of n f x y some (falls slope h k s) =
     negated _ _ _ _ (wind_turned (near n (point x y) east) (enlarged_wall n f)) (wind_turned (point x y) f)
-    (rising_right n (turned f) slope x y some h k s)
+    (rising_right n (turned_edge f) slope x y some h k s)
 
 left_of : (n : ℕ) (f : Segment) (x y : ℤ) → 1 < n → AtRow f y
     → wind (near n (point x y) west) (enlarged_wall n f) ≡ wind (point (x -ℤ pos 1) y) f
@@ -191,7 +191,7 @@ left_of n f x y some (over h k) =
 left_of n f x y some (rises slope h k s) = rising_left n f slope x y some h k s
 left_of n f x y some (falls slope h k s) =
     negated _ _ _ _ (wind_turned (near n (point x y) west) (enlarged_wall n f)) (wind_turned (point (x -ℤ pos 1) y) f)
-    (rising_left n (turned f) slope x y some h k s)
+    (rising_left n (turned_edge f) slope x y some h k s)
 
 -- ---- all edges
 
@@ -271,7 +271,7 @@ off_step f x y (over h k) off = wind_below (point (x -ℤ pos 1) y) f h k ∙ sy
 off_step f x y (rises slope h k s) off = rising_step f slope x y h k s off
 off_step f x y (falls slope h k s) off =
     negated _ _ _ _ (wind_turned (point (x -ℤ pos 1) y) f) (wind_turned (point x y) f)
-    (rising_step (turned f) slope x y h k s (false_from_ne_true _ (λ on. clash off (on_turned (point x y) f.a f.b on))))
+    (rising_step (turned_edge f) slope x y h k s (false_from_ne_true _ (λ on. clash off (on_turned (point x y) f.a f.b on))))
 
 -- where no edge has the point on it, the winding stays
 pub free_step : (edges : List Segment) (x y : ℤ) → ((f : Segment) → IsIn edges f → AtRow f y)

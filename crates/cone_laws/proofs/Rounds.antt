@@ -19,7 +19,8 @@ use Rattle.side_laws.proofs.Rights.{turned_sound}
 use Rattle.area_laws.proofs.Laws.{left_of_clockwise, left_of_counterclockwise}
 
 -- an edge that ends where another begins is the one before it
-pub before_is : (edges : List Segment) (k : ℤ) (sound : IsSound edges k) (f : Segment) (there : IsIn edges f) (g : Segment) → IsIn edges g → g.b ≡ f.a → (sound.sides f there).before ≡ g.a
+pub before_is : (edges : List Segment) (k : ℤ) (sound : IsSound edges k) (f : Segment) (there : IsIn edges f)
+    (g : Segment) → IsIn edges g → g.b ≡ f.a → (sound.sides f there).before ≡ g.a
 before_is edges k sound f there g g_there meets = by_case (s.first.others g g_there)
   where
     s : SidesOf edges f k

@@ -3,8 +3,8 @@
 //!
 //! ```text
 //!       z             At v the walls u v and v z turn left, so the cone is what lies left of both, as d. Turned round,
-//!        ╲            the corner is z v u and turns right, so its cone is what lies left of one of the turned walls, as
-//!      d  ╲           e. Each direction but those along the walls is in one of the two cones.
+//!        ╲            the corner is z v u and turns right, so its cone is what lies left of one of the turned walls,
+//!      d  ╲           as e. Each direction but those along the walls is in one of the two cones.
 //!   u ─────v     e
 //! ```
 //!

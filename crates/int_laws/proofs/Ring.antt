@@ -84,6 +84,14 @@ product_turned_diff a b c d e f = simp product_diff (same_diff _ _ _ _ (omega ar
 pub product_turned : (x y z : ℤ) → (x *ℤ y) *ℤ z ≡ (x *ℤ z) *ℤ y
 product_turned x y z = rw (is_diff x, is_diff y, is_diff z) (product_turned_diff (up x) (down x) (up y) (down y) (up z) (down z))
 
+-- the first two factors of three may be exchanged
+pub product_moved : (x y z : ℤ) → x *ℤ (y *ℤ z) ≡ y *ℤ (x *ℤ z)
+product_moved x y z =
+    let e = product_grouped x y z in
+    let f = product_grouped y x z in
+    let g = ap (λ t. t *ℤ z) (product_swapped x y) in
+    omega (arith, ints, e, f, g)
+
 times_sum_diff : (a b c d e f : ℕ) → diff a b *ℤ (diff c d +ℤ diff e f) ≡ diff a b *ℤ diff c d +ℤ diff a b *ℤ diff e f
 times_sum_diff a b c d e f = simp (product_diff, sum_diff) (same_diff _ _ _ _ (omega arith))
 

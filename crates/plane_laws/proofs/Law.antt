@@ -10,7 +10,7 @@ use Rattle.plane_spec.specs.declared.Point.{Point}
 use Rattle.plane_spec.specs.Vectors.{point, same_point}
 use Rattle.plane_spec.specs.Segments.{is_between, is_on_segment, cross_properly, do_touch}
 use Rattle.plane_spec.proofs.Laws.{touching_is_symmetric}
-use Rattle.plane_laws.proofs.Points.Between.{between, same_from_test}
+use Rattle.plane_laws.proofs.Points.Between.{between, same_from_test, same_coordinates}
 use Rattle.plane_laws.specs.Enlarged.{enlarged}
 use Rattle.plane_laws.proofs.Points.Scaled.{touch_scaled}
 use Rattle.plane_laws.proofs.Segments.Shared.{none_shared}
@@ -44,13 +44,10 @@ fourth a b c d h =
 
 -- what is on a segment that is a point is that point
 only : (x a : Point) → is_on_segment x a a ≡ true → x ≡ a
-only x a on = let b = between x a a on in both x.x x.y a.x a.y (at x.x a.x b.x) (at x.y a.y b.y)
+only x a on = let b = between x a a on in same_coordinates x.x x.y a.x a.y (at x.x a.x b.x) (at x.y a.y b.y)
   where
     at : (x a : ℤ) → is_between x a a ≡ true → x ≡ a
     at x a h = grind (arith, ints)
-
-    both : (x y a b : ℤ) → x ≡ a → y ≡ b → point x y ≡ point a b
-    both x y a b e f = rw (e, f) refl
 
 pub common_point_touches : (a b c d x : Point) → is_on_segment x a b ≡ true → is_on_segment x c d ≡ true
     → do_touch a b c d ≡ true

@@ -10,13 +10,13 @@ use Rattle.plane_spec.specs.Vectors.{cross_of, vector}
 use Rattle.plane_spec.specs.Polygons.{edges_of, crosses_nowhere, has_repeat, is_simple}
 use Rattle.plane_laws.proofs.Lists.Members.{IsIn, mapped, from_contains}
 use Rattle.plane_laws.proofs.Points.Scaled.{scaled, scaled_wall}
-use Rattle.side_laws.specs.Sides.{GoesRoundOnLeft}
+use Rattle.side_laws.specs.Sides.{GoesRoundOnLeft, middle_of}
 use Rattle.side_laws.proofs.Sound.{IsSound}
-use Rattle.side_laws.proofs.Rights.{in_the_middle, middle, two_up, turned_sound}
+use Rattle.side_laws.proofs.Rights.{in_the_middle, two_up, turned_sound}
 use Rattle.side_laws.proofs.Scaled.{scaled_sound}
 use Rattle.side_laws.proofs.Sides.{side_middle}
 use Rattle.side_laws.proofs.Simple.{IsSimple, sound}
-use Rattle.winding_laws.proofs.OneEdge.{turned}
+use Rattle.plan_spec.specs.Scene.{turned_edge}
 
 doubled_left : (a b d : Point) → pos 0 <ℤ cross_of (vector a b) d
     → pos 0 <ℤ cross_of (vector (scaled (pos 2) (pos 2) a) (scaled (pos 2) (pos 2) b)) d
@@ -32,7 +32,6 @@ doubled_left a b d h = by_parts a.x a.y b.x b.y d.x d.y h
         omega (arith, ints, h, first, second)
 
 pub goes_round : (edges : List Segment) (k : ℤ) → IsSound edges k → GoesRoundOnLeft edges k
-unfolding middle
 goes_round edges k s e d there left =
     let e_there = from_contains edges e there in
     let twice = scaled_sound (pos 2) (pos 2) edges k two_up two_up s in
@@ -40,7 +39,7 @@ goes_round edges k s e d there left =
     let o = twice.sides e2 (mapped (scaled_wall (pos 2) (pos 2)) edges e e_there) in
     let m = in_the_middle e (s.some e e_there) in
     let w = (side_middle (map (scaled_wall (pos 2) (pos 2)) edges) o.before e2.a e2.b o.after
-    (middle e) d k twice.closed twice.some o.first o.second o.alone o.side m.0 m.1
+    (middle_of e) d k twice.closed twice.some o.first o.second o.alone o.side m.0 m.1
     (doubled_left e.a e.b d left)).has in
     (w.after, λ n l. w.from_there n l)
 
@@ -62,9 +61,9 @@ simple_from start points h =
 -- a polygon's edges that are sound, turned round too: there is one number for all left sides, and one less for the
 -- right
 pub sides_of_simple : (points : List Point) → is_simple points ≡ true
-    → (k : ℤ) × GoesRoundOnLeft (edges_of points) k × GoesRoundOnLeft (map turned (edges_of points)) (pos 1 -ℤ k)
+    → (k : ℤ) × GoesRoundOnLeft (edges_of points) k × GoesRoundOnLeft (map turned_edge (edges_of points)) (pos 1 -ℤ k)
 sides_of_simple [] h = cc
 sides_of_simple (start ∷ points) h =
     let s = sound start points (simple_from start points h) in
     let edges = edges_of (start ∷ points) in
-    (s.0, goes_round edges s.0 s.1, goes_round (map turned edges) (pos 1 -ℤ s.0) (turned_sound edges s.0 s.1))
+    (s.0, goes_round edges s.0 s.1, goes_round (map turned_edge edges) (pos 1 -ℤ s.0) (turned_sound edges s.0 s.1))

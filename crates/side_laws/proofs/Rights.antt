@@ -24,12 +24,12 @@ use Rattle.plane_laws.proofs.Points.Between.{IsAlong, apart_back}
 use Rattle.plane_laws.proofs.Lists.Members.{IsIn, source, mapped}
 use Rattle.plane_laws.proofs.Points.Directions.{at_both, exchanged, minus_cross, none_cross}
 use Rattle.plane_laws.proofs.Points.Scaled.{scaled, scaled_wall, cross_scaled}
-use Rattle.winding_laws.specs.Windings.{strip, winding, near}
+use Rattle.winding_laws.specs.Windings.{winding, near}
 use Rattle.winding_laws.proofs.Strips.{Clears, HasWinding, carried, line_linear, line_positive, side_positive}
 use Rattle.winding_laws.proofs.Strips.{clears_far, closed_enlarged, same_value}
 use Rattle.winding_laws.proofs.Near.{eventually_then, Eventually, eventually_both, linear, eventually_all}
 use Rattle.winding_laws.proofs.Closed.{AreClosed, rises_along}
-use Rattle.winding_laws.proofs.OneEdge.{Balanced, one_edge, turned}
+use Rattle.winding_laws.proofs.OneEdge.{Balanced, one_edge, strip}
 use Rattle.winding_laws.proofs.Crossed.{Differs, Crosses, crossed_edge}
 use Rattle.winding_laws.proofs.Turned.{closed_turned, has_turned}
 use Rattle.winding_laws.proofs.Scaled.{has_scaled}
@@ -39,6 +39,8 @@ use Rattle.side_laws.proofs.Corners.{clears_before, clears_later, clears_other, 
 use Rattle.side_laws.proofs.Sound.{Distinct, IsSound, on_one, SidesOf}
 use Rattle.side_laws.proofs.Turned.{back, back_way, turned_along, alone_turned, corner_turned, distinct_turned}
 use Rattle.side_laws.proofs.Scaled.{alone_scaled, corner_scaled, scaled_sound}
+use Rattle.plan_spec.specs.Scene.{turned_edge}
+use Rattle.side_laws.specs.Sides.{middle_of}
 
 -- ---- from the middle of a wall back to its corner
 
@@ -220,16 +222,9 @@ right_of_middle edges k f x d sound there here short left h =
         balanced g (inl i) = inl i
         balanced g (inr t) = inr (one_edge (near n x d) (near n x (back d)) (enlarged_wall n g) t)
 
--- ---- turned round
-
--- the point in the middle of a wall, in a plane twice as large
-unfoldable pub middle : Segment → Point
-middle f = point (f.a.x +ℤ f.b.x) (f.a.y +ℤ f.b.y)
-
 pub in_the_middle : (f : Segment) → same_point f.a f.b ≡ false
-    → IsAlong (scaled (pos 2) (pos 2) f.a) (scaled (pos 2) (pos 2) f.b) (middle f)
-    × (same_point (middle f) (scaled (pos 2) (pos 2) f.b) ≡ false)
-unfolding middle
+    → IsAlong (scaled (pos 2) (pos 2) f.a) (scaled (pos 2) (pos 2) f.b) (middle_of f)
+    × (same_point (middle_of f) (scaled (pos 2) (pos 2) f.b) ≡ false)
 in_the_middle f apart = (
   record {
     between = record { line = on_line f.a.x f.a.y f.b.x f.b.y; x = half f.a.x f.b.x; y = half f.a.y f.b.y };
@@ -256,7 +251,8 @@ in_the_middle f apart = (
     last_same a b c d h = rw (last_test a b, last_test c d) h
 
     on_line : (ax ay bx by : ℤ)
-        → (pos 2 *ℤ bx -ℤ pos 2 *ℤ ax) *ℤ ((ay +ℤ by) -ℤ pos 2 *ℤ ay) -ℤ (pos 2 *ℤ by -ℤ pos 2 *ℤ ay) *ℤ ((ax +ℤ bx) -ℤ pos 2 *ℤ ax) ≡ pos 0
+        → (pos 2 *ℤ bx -ℤ pos 2 *ℤ ax) *ℤ ((ay +ℤ by) -ℤ pos 2 *ℤ ay)
+        -ℤ (pos 2 *ℤ by -ℤ pos 2 *ℤ ay) *ℤ ((ax +ℤ bx) -ℤ pos 2 *ℤ ax) ≡ pos 0
     on_line ax ay bx by =
         let u : (ax +ℤ bx) -ℤ pos 2 *ℤ ax ≡ bx -ℤ ax = omega (arith, ints) in
         let v : (ay +ℤ by) -ℤ pos 2 *ℤ ay ≡ by -ℤ ay = omega (arith, ints) in
@@ -270,35 +266,36 @@ in_the_middle f apart = (
         omega (arith, ints, first, second, a, b, c)
 
 turned_scaled : (edges : List Segment)
-    → map turned (map (scaled_wall (pos 2) (pos 2)) edges) ≡ map (scaled_wall (pos 2) (pos 2)) (map turned edges)
+    → map turned_edge (map (scaled_wall (pos 2) (pos 2)) edges) ≡ map (scaled_wall (pos 2) (pos 2)) (map turned_edge edges)
 turned_scaled [] = refl
-turned_scaled (f ∷ edges) = ap (λ t. turned (scaled_wall (pos 2) (pos 2) f) ∷ t) (turned_scaled edges)
+turned_scaled (f ∷ edges) = ap (λ t. turned_edge (scaled_wall (pos 2) (pos 2) f) ∷ t) (turned_scaled edges)
 
 pub two_up : pos 0 <ℤ pos 2
 two_up = omega (arith, ints)
 
 some_turned : (edges : List Segment) → ((f : Segment) → IsIn edges f → same_point f.a f.b ≡ false) → (g : Segment)
-    → IsIn (map turned edges) g → same_point g.a g.b ≡ false
+    → IsIn (map turned_edge edges) g → same_point g.a g.b ≡ false
 some_turned edges some g there =
-    let o = source turned edges g there in
+    let o = source turned_edge edges g there in
     subst (λ t. same_point t.a t.b ≡ false) o.is (apart_back o.it.a o.it.b (some o.it o.is_in))
 
 -- the right side of an edge, at its end
 right_at : (edges : List Segment) (k : ℤ) (f : Segment) → IsSound edges k → IsIn edges f → (s : SidesOf edges f k)
-    → SideAt (map turned edges) s.after f.b f.a (pos 1 -ℤ k)
+    → SideAt (map turned_edge edges) s.after f.b f.a (pos 1 -ℤ k)
 right_at edges k f sound there s =
     let twice = map (scaled_wall (pos 2) (pos 2)) edges in
     let twice_sound = scaled_sound (pos 2) (pos 2) edges k two_up two_up sound in
     let f2 = scaled_wall (pos 2) (pos 2) f in
     let f2_there = mapped (scaled_wall (pos 2) (pos 2)) edges f there in
     let s2 = twice_sound.sides f2 f2_there in
-    let x = middle f in
+    let x = middle_of f in
     let m = in_the_middle f (sound.some f there) in
     let d = s2.first.inner.way in
     let d_left = s2.first.inner.after_left in
-    let left = (side_middle twice s2.before f2.a f2.b s2.after x d k twice_sound.closed twice_sound.some s2.first s2.second s2.alone s2.side m.0 m.1 d_left).has in
+    let left = (side_middle twice s2.before f2.a f2.b s2.after x d k twice_sound.closed twice_sound.some s2.first
+    s2.second s2.alone s2.side m.0 m.1 d_left).has in
     let right = right_of_middle twice k f2 x d twice_sound f2_there m.0 m.1 d_left left in
-    let other = map (scaled_wall (pos 2) (pos 2)) (map turned edges) in
+    let other = map (scaled_wall (pos 2) (pos 2)) (map turned_edge edges) in
     let same = turned_scaled edges in
     let e : neg_ℤ (k -ℤ pos 1) ≡ pos 1 -ℤ k = omega (arith, ints) in
     let turned_right = subst (λ t. HasWinding other x (back d) t) e
@@ -309,9 +306,9 @@ right_at edges k f sound there s =
     (some_turned twice twice_sound.some) in
     let here = corner_turned edges f.a f.b s.after s.second in
     let there_too = corner_turned edges s.before f.a f.b s.first in
-    let first = corner_scaled (pos 2) (pos 2) s.after f.b f.a (map turned edges) two_up two_up here in
-    let second = corner_scaled (pos 2) (pos 2) f.b f.a s.before (map turned edges) two_up two_up there_too in
-    let alone = alone_scaled (pos 2) (pos 2) (turned f) (map turned edges) two_up two_up
+    let first = corner_scaled (pos 2) (pos 2) s.after f.b f.a (map turned_edge edges) two_up two_up here in
+    let second = corner_scaled (pos 2) (pos 2) f.b f.a s.before (map turned_edge edges) two_up two_up there_too in
+    let alone = alone_scaled (pos 2) (pos 2) (turned_edge f) (map turned_edge edges) two_up two_up
     (alone_turned edges f s.alone) in
     let e_left : pos 0 <ℤ cross_of (vector f2.b f2.a) (back d) = subst (λ t. pos 0 <ℤ t)
     (sym (back_way f2.a f2.b d)) d_left in
@@ -327,32 +324,32 @@ right_at edges k f sound there s =
     (positive_product (pos 2 *ℤ pos 2) (cross_of (vector s.after f.b) y) four here.inner.before_left))
     (subst (λ t. pos 0 <ℤ t) (sym (cross_scaled (pos 2) (pos 2) f.b f.a y))
     (positive_product (pos 2 *ℤ pos 2) (cross_of (vector f.b f.a) y) four here.inner.after_left)) in
-    let own = some_winding (map turned edges) f.b y in
+    let own = some_winding (map turned_edge edges) f.b y in
     let is = same_value other f2.b (scaled (pos 2) (pos 2) y) own.0 (pos 1 -ℤ k)
-    (has_scaled (pos 2) (pos 2) f.b y own.0 (map turned edges) two_up two_up own.1) value.has in
-    side_at (map turned edges) s.after f.b f.a y (pos 1 -ℤ k)
+    (has_scaled (pos 2) (pos 2) f.b y own.0 (map turned_edge edges) two_up two_up own.1) value.has in
+    side_at (map turned_edge edges) s.after f.b f.a y (pos 1 -ℤ k)
     (closed_turned edges sound.closed) here here.inner.before_left here.inner.after_left
-    (subst (λ t. HasWinding (map turned edges) f.b y t) is own.1)
+    (subst (λ t. HasWinding (map turned_edge edges) f.b y t) is own.1)
 
 -- sound edges with k on their left, turned round, are sound with 1 - k on their left
-pub turned_sound : (edges : List Segment) (k : ℤ) → IsSound edges k → IsSound (map turned edges) (pos 1 -ℤ k)
+pub turned_sound : (edges : List Segment) (k : ℤ) → IsSound edges k → IsSound (map turned_edge edges) (pos 1 -ℤ k)
 turned_sound edges k sound =
     record {
       closed = closed_turned edges sound.closed;
       some = some_turned edges sound.some;
       distinct = distinct_turned edges sound.distinct;
-      sides = λ g there. let o = source turned edges g there in
-          subst (λ t. SidesOf (map turned edges) t (pos 1 -ℤ k)) o.is (sides_turned o.it o.is_in);
+      sides = λ g there. let o = source turned_edge edges g there in
+          subst (λ t. SidesOf (map turned_edge edges) t (pos 1 -ℤ k)) o.is (sides_turned o.it o.is_in);
     }
   where
-    sides_turned : (f : Segment) → IsIn edges f → SidesOf (map turned edges) (turned f) (pos 1 -ℤ k)
+    sides_turned : (f : Segment) → IsIn edges f → SidesOf (map turned_edge edges) (turned_edge f) (pos 1 -ℤ k)
     sides_turned f there =
         let s = sound.sides f there in
         record {
           before = s.after;
           after = s.before;
-          before_there = mapped turned edges (wall f.b s.after) s.after_there;
-          after_there = mapped turned edges (wall s.before f.a) s.before_there;
+          before_there = mapped turned_edge edges (wall f.b s.after) s.after_there;
+          after_there = mapped turned_edge edges (wall s.before f.a) s.before_there;
           first = corner_turned edges f.a f.b s.after s.second;
           second = corner_turned edges s.before f.a f.b s.first;
           alone = alone_turned edges f s.alone;

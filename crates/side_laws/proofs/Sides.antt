@@ -28,7 +28,7 @@ use Rattle.plane_laws.proofs.Tests.{clash}
 use Rattle.plane_laws.proofs.Points.Directions.{exchanged, some_square, turn_is, cross_itself, minus_right, at_end}
 use Rattle.plane_laws.proofs.Segments.Touching.{on_by}
 use Rattle.plane_laws.proofs.Lists.Members.{IsIn}
-use Rattle.plane_laws.proofs.Points.Between.{IsAlong, apart_back}
+use Rattle.plane_laws.proofs.Points.Between.{IsAlong, apart_back, between, on_end}
 use Rattle.winding_laws.proofs.Strips.{HasWinding, GoesRoundOff, Clears, carried, clears_far}
 use Rattle.winding_laws.proofs.Closed.{AreClosed}
 use Rattle.side_laws.proofs.Corners.{turns_after, turns_before, clears_after, clears_before, clears_other, clears_own}
@@ -165,7 +165,8 @@ pub record IsCornerOf (edges : List Segment) (u v z : Point) : Type 0 where
 -- walls that touch nothing but those at their ends
 abbrev pub KeepsApart : List Segment → Segment → Type 0
 KeepsApart edges e =
-    (f : Segment) → IsIn edges f → is_on_segment e.a f.a f.b ≡ false → is_on_segment e.b f.a f.b ≡ false → do_touch f.a f.b e.a e.b ≡ false
+    (f : Segment) → IsIn edges f → is_on_segment e.a f.a f.b ≡ false → is_on_segment e.b f.a f.b ≡ false → do_touch
+    f.a f.b e.a e.b ≡ false
 
 -- the edges go round each direction left of both walls of the corner k times
 abbrev pub SideAt : List Segment → Point → Point → Point → ℤ → Type 0
@@ -218,11 +219,7 @@ real a b d e apart more h k =
     nothing i s = let t = subst (λ t. pos 0 <ℤ dot_of t t) i s in absurd (omega (arith, ints, t))
 
 to_end : (v z : Point) → same_point v z ≡ false → IsAlong v z z
-to_end v z apart =
-    record { between = record { line = at_end v z; x = last v.x z.x; y = last v.y z.y }; apart = apart_back v z apart }
-  where
-    last : (a b : ℤ) → is_between b a b ≡ true
-    last a b = grind (arith, ints)
+to_end v z apart = record { between = between z v z (on_end v z); apart = apart_back v z apart }
 
 -- from one corner to the next
 pub side_step : (edges : List Segment) (u v z w : Point) (k : ℤ) → AreClosed edges

@@ -365,7 +365,8 @@ sound start points simple =
                   (flipped n.0 after.1 after.3);
               alone = alone start points simple n.0 f n.1;
               side = sides_from start points simple w.0
-                  (base_side start points simple e first.1 b.0 b.1 b.2 b.3 w.0 side) n.0 before.0 f before.1 n.1 before.2 before.3;
+                  (base_side start points simple e first.1 b.0 b.1 b.2 b.3 w.0 side) n.0 before.0 f before.1 n.1
+                  before.2 before.3;
             };
       },
     )

@@ -20,9 +20,9 @@ use Rattle.plane_laws.proofs.Points.Heights.{height}
 use Rattle.plane_laws.proofs.Points.Directions.{some_square, back_cross, cross_none, exchanged}
 use Rattle.plane_laws.proofs.Segments.Shared.{none_shared}
 use Rattle.winding_laws.proofs.Closed.{AreClosed}
-use Rattle.winding_laws.proofs.OneEdge.{turned}
 use Rattle.side_laws.proofs.Sides.{IsCornerOf, KeepsApart, SideAt, wall, Inward}
 use Rattle.side_laws.proofs.Corners.{way_positive}
+use Rattle.plan_spec.specs.Scene.{turned_edge}
 
 -- no element of the list occurs twice
 abbrev pub Distinct : List Segment → Type 0
@@ -97,11 +97,11 @@ off_after v z w x inner apart apart_too here short on =
     let turn = product_swapped (dot_of (vector v z) (vector v z)) (height (ray z d) x) in
     let up = positive_factor (height (ray z d) x) (dot_of (vector v z) (vector v z))
     (omega (arith, ints, m, first, second, turn)) k in
-    let back = weak_mean z w x (turned (ray z d)) apart_too (between x z w on) (flipped z) (flipped_w at_w s after) in
+    let back = weak_mean z w x (turned_edge (ray z d)) apart_too (between x z w on) (flipped z) (flipped_w at_w s after) in
     let o = orient_of_first_exchanged z (ray z d).b x in
     absurd (omega (arith, ints, up, back, o))
   where
-    flipped : (z : Point) → pos 0 ≤ℤ height (turned (ray z inner.way)) z
+    flipped : (z : Point) → pos 0 ≤ℤ height (turned_edge (ray z inner.way)) z
     flipped z =
         let o = orient_of_first_exchanged z (ray z inner.way).b z in
         let at_z : height (ray z inner.way) z ≡ pos 0 = over_ray z inner.way z ∙ cross_none inner.way z in
@@ -109,7 +109,7 @@ off_after v z w x inner apart apart_too here short on =
 
     flipped_w : height (ray z inner.way) w ≡ cross_of inner.way (vector z w)
         → cross_of inner.way (vector z w) ≡ neg_ℤ (cross_of (vector z w) inner.way)
-        → pos 0 <ℤ cross_of (vector z w) inner.way → pos 0 ≤ℤ height (turned (ray z inner.way)) w
+        → pos 0 <ℤ cross_of (vector z w) inner.way → pos 0 ≤ℤ height (turned_edge (ray z inner.way)) w
     flipped_w e f h = let o = orient_of_first_exchanged z (ray z inner.way).b w in omega (arith, ints, o, e, f, h)
 
 -- a point of the middle of an edge is on no other

@@ -11,9 +11,9 @@ use Rattle.exact_geom.proofs.Orientation.{orient_of_first_exchanged}
 use Rattle.plane_laws.proofs.Segments.Touching.{on_either, touch_swapped, touch_turned}
 use Rattle.plane_laws.proofs.Lists.Members.{source, IsIn}
 use Rattle.plane_laws.proofs.Points.Between.{IsAlong}
-use Rattle.winding_laws.proofs.OneEdge.{turned}
 use Rattle.side_laws.proofs.Sides.{IsCornerOf, wall, KeepsApart}
 use Rattle.side_laws.proofs.Sound.{Distinct}
+use Rattle.plan_spec.specs.Scene.{turned_edge}
 
 -- ---- edges turned round
 
@@ -31,7 +31,7 @@ back_way a b d =
     omega (arith, ints, e, f, g, h, i, j)
 
 pub corner_turned : (edges : List Segment) (u v z : Point) → IsCornerOf edges u v z
-    → IsCornerOf (map turned edges) z v u
+    → IsCornerOf (map turned_edge edges) z v u
 corner_turned edges u v z c =
     record {
       inner = record {
@@ -39,19 +39,19 @@ corner_turned edges u v z c =
         before_left = subst (λ t. pos 0 <ℤ t) (sym (back_way v z c.inner.way)) c.inner.after_left;
         after_left = subst (λ t. pos 0 <ℤ t) (sym (back_way u v c.inner.way)) c.inner.before_left;
       };
-      others = λ g there. let o = source turned edges g there in by_case g o.it o.is (c.others o.it o.is_in);
+      others = λ g there. let o = source turned_edge edges g there in by_case g o.it o.is (c.others o.it o.is_in);
     }
   where
-    by_case : (g f : Segment) → turned f ≡ g → (f ≡ wall u v) ⊎ ((f ≡ wall v z) ⊎ (is_on_segment v f.a f.b ≡ false))
+    by_case : (g f : Segment) → turned_edge f ≡ g → (f ≡ wall u v) ⊎ ((f ≡ wall v z) ⊎ (is_on_segment v f.a f.b ≡ false))
         → (g ≡ wall z v) ⊎ ((g ≡ wall v u) ⊎ (is_on_segment v g.a g.b ≡ false))
-    by_case g f e (inl i) = inr (inl (sym e ∙ ap turned i))
-    by_case g f e (inr (inl i)) = inl (sym e ∙ ap turned i)
+    by_case g f e (inl i) = inr (inl (sym e ∙ ap turned_edge i))
+    by_case g f e (inr (inl i)) = inl (sym e ∙ ap turned_edge i)
     by_case g f e (inr (inr off)) =
         inr (inr (subst (λ t. is_on_segment v t.a t.b ≡ false) e (on_either v f.a f.b ∙ off)))
 
-pub alone_turned : (edges : List Segment) (e : Segment) → KeepsApart edges e → KeepsApart (map turned edges) (turned e)
+pub alone_turned : (edges : List Segment) (e : Segment) → KeepsApart edges e → KeepsApart (map turned_edge edges) (turned_edge e)
 alone_turned edges e apart g there a_off b_off =
-    let o = source turned edges g there in
+    let o = source turned_edge edges g there in
     let f = o.it in
     subst (λ t. do_touch t.a t.b e.b e.a ≡ false) o.is
     (touch_turned f.a f.b e.b e.a
@@ -59,10 +59,10 @@ alone_turned edges e apart g there a_off b_off =
     ∙ apart f o.is_in (sym (on_either e.a f.a f.b) ∙ subst (λ t. is_on_segment e.a t.a t.b ≡ false) (sym o.is) b_off)
     (sym (on_either e.b f.a f.b) ∙ subst (λ t. is_on_segment e.b t.a t.b ≡ false) (sym o.is) a_off)))
 
-pub distinct_turned : (edges : List Segment) → Distinct edges → Distinct (map turned edges)
+pub distinct_turned : (edges : List Segment) → Distinct edges → Distinct (map turned_edge edges)
 distinct_turned [] d = tt
 distinct_turned (e ∷ edges) d = (
-  λ there. let o = source turned edges (turned e) there in d.0 (subst (λ t. IsIn edges t) (ap turned o.is) o.is_in),
+  λ there. let o = source turned_edge edges (turned_edge e) there in d.0 (subst (λ t. IsIn edges t) (ap turned_edge o.is) o.is_in),
   distinct_turned edges d.1,
 )
 

@@ -1,5 +1,4 @@
 mod Blocking
+mod Boxes
 mod Inside
-mod Notches
-mod Passing
 mod Plans

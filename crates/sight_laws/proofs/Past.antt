@@ -22,6 +22,7 @@ use Rattle.polygon_laws.specs.Alone.{obstacle_alone, outer_alone}
 use Rattle.polygon_laws.specs.Through.{PassesOutside, SeesOver, enlarged_obstacle, enlarged_plan}
 use Rattle.polygon_laws.proofs.Blocked.{InTheWay}
 use Rattle.polygon_laws.proofs.Plans.{blocked_by, ways_of, no_screens, outer_law, which, obstacle_blocks, open_parts}
+use Rattle.polygon_laws.proofs.Plans.{seen_parts}
 use Rattle.polygon_laws.proofs.Plans.{open_from, simple_outer, simple_obstacle, screen_blocks, seen_in_a_sound_plan}
 use Rattle.sight_laws.specs.Convex.{is_convex, is_on_or_inside, is_strictly_inside, PassesThrough, is_convex_obstacle}
 use Rattle.sight_laws.specs.Convex.{has_convex_polygons, has_both_inside, SeesPast}
@@ -59,16 +60,6 @@ pub through_unseen : (plan : Plan) (o : Obstacle) (p q : Point) → Contains pla
 through_unseen plan o p q there simple convex apart w =
     unseen plan p q (obstacle_in_plan plan o p q (from_contains plan.obstacles o there)
     (through_blocked o.points p q simple convex apart w))
-
--- ---- sound plans
-
--- the points differ, and nothing is in the way
-seen_parts : (plan : Plan) (p q : Point) → are_in_sight (scene_of plan) p q ≡ true
-    → (same_point p q ≡ false) × (is_blocked (scene_of plan) p q ≡ false)
-unfolding are_in_sight
-seen_parts plan p q seen =
-    let parts = and_parts (not (same_point p q)) (not (is_blocked (scene_of plan) p q)) seen in
-    (not-true (same_point p q) parts.0, not-true (is_blocked (scene_of plan) p q) parts.1)
 
 -- what passes through an obstacle leaves the open points
 not_all_open : (plan : Plan) (o : Obstacle) (p q : Point) → is_simple o.points ≡ true → is_convex o.points ≡ true

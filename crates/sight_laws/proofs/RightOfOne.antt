@@ -4,10 +4,11 @@
 -- of them: at x there is none, and further on it is strictly right of that line. Far enough along it a point is higher
 -- than all walls, or lower, and there the winding is 0. So it is 0 at x. Simplicity isn't needed.
 use Rattle.std.specs.Prelude.{false, List, [], ◌∷◌}
-use Rattle.std.proofs.Common.{◌≡◌, ◌⊎◌, inl, inr, ℕ, ◌+◌, ℤ, pos, neg_ℤ, ◌+ℤ◌, ◌-ℤ◌, ◌*ℤ◌, ◌<ℤ◌, ◌≤ℤ◌, refl, sym, ap}
+use Rattle.std.proofs.Common.{◌≡◌, ◌⊎◌, inl, inr, ℕ, ◌+◌, ℤ, pos, neg_ℤ, ◌+ℤ◌, ◌-ℤ◌, ◌*ℤ◌, ◌<ℤ◌, ◌≤ℤ◌, refl, ap}
 use Rattle.std.proofs.Common.{◌∙◌, arith}
 use Rattle.std.proofs.lemmas.Int.{ints, by_lt_z}
-use Rattle.int_laws.proofs.Ring.{times_minus, times_neg, times_one, times_zero, zero_times, product_grouped}
+use Rattle.int_laws.proofs.Ring.{times_minus, times_neg, times_one, times_zero, zero_times}
+use Rattle.int_laws.proofs.Ring.{product_moved}
 use Rattle.int_laws.proofs.Ring.{product_swapped}
 use Rattle.int_laws.proofs.Signs.{negative_product}
 use Rattle.plane_spec.specs.declared.Point.{Point}
@@ -39,13 +40,10 @@ height_stepped n w x d =
     by_parts ux uy x y n dx dy =
         let a : (y +ℤ n *ℤ dy) -ℤ y ≡ n *ℤ dy = omega (arith, ints) in
         let b : (x +ℤ n *ℤ dx) -ℤ x ≡ n *ℤ dx = omega (arith, ints) in
-        let c = ap (λ t. ux *ℤ t) a ∙ moved ux n dy in
-        let e = ap (λ t. uy *ℤ t) b ∙ moved uy n dx in
+        let c = ap (λ t. ux *ℤ t) a ∙ product_moved ux n dy in
+        let e = ap (λ t. uy *ℤ t) b ∙ product_moved uy n dx in
         let f = times_minus n (ux *ℤ dy) (uy *ℤ dx) in
         omega (arith, ints, c, e, f)
-      where
-        moved : (u n d : ℤ) → u *ℤ (n *ℤ d) ≡ n *ℤ (u *ℤ d)
-        moved u n d = sym (product_grouped u n d) ∙ ap (λ t. t *ℤ d) (product_swapped u n) ∙ product_grouped n u d
 
 -- ---- far away
 

@@ -1,12 +1,13 @@
 //! What a convex polygon by itself blocks, as an obstacle and as the outer polygon.
 
-ghost use Rattle.std.specs.Prelude.{Contains, List, false, true, ◌&&◌, ◌||◌, ◌≡◌};
+ghost use Rattle.std.specs.Prelude.{Contains, List, false, true, ◌&&◌, ◌≡◌};
 ghost use Rattle.plane_spec.specs.declared.Point.{Point};
-ghost use Rattle.plane_spec.specs.Polygons.{has_repeat, is_inside, is_on_border, is_simple};
+ghost use Rattle.plane_spec.specs.Polygons.{has_repeat, is_simple};
 ghost use Rattle.plan_spec.specs.Plan.{Obstacle, Plan};
 ghost use Rattle.plan_spec.specs.Scene.{scene_of};
 ghost use Rattle.plan_spec.specs.Sight.{are_in_sight, is_blocked};
 ghost use Rattle.polygon_laws.specs.Alone.{obstacle_alone, outer_alone};
+ghost use Rattle.polygon_laws.specs.Through.{is_within};
 ghost use Rattle.sight_laws.specs.Convex.{PassesThrough, is_convex, is_on_or_inside, is_strictly_inside};
 
 /// A segment that passes through a simple convex obstacle, and of which one end isn't strictly inside, is blocked by
@@ -35,8 +36,7 @@ pub fn a_convex_obstacle_blocks_no_more()
 /// walls.
 pub fn a_convex_outer_polygon_blocks_nothing()
     ensures within { (points : List Point) (p q : Point) → has_repeat points ≡ false → is_convex points ≡ true
-        → (is_on_border p points || is_inside p points) ≡ true → (is_on_border q points || is_inside q points) ≡ true
-        → is_blocked (outer_alone points) p q ≡ false }
+        → is_within p points ≡ true → is_within q points ≡ true → is_blocked (outer_alone points) p q ≡ false }
     ensures left_of_all { (points : List Point) (p q : Point) → is_on_or_inside p points ≡ true
         → is_on_or_inside q points ≡ true → is_blocked (outer_alone points) p q ≡ false }
 {}

@@ -20,7 +20,8 @@ use Rattle.walk_laws.proofs.Walk.{IsFine, Walked, corner_at_step, to_edge, to_st
 use Rattle.walk_laws.proofs.FirstStep.{kept, towards_next}
 
 -- a step before number i at which a wall or a corner is hit
-pub record HitBefore (edges : List Segment) (k : ℤ) (n : ℕ) (sound : IsSound (large n edges) k) (p q : Point) (i : ℕ) : Type 0 where
+pub record HitBefore (edges : List Segment) (k : ℤ) (n : ℕ) (sound : IsSound (large n edges) k) (p q : Point) (i : ℕ) :
+    Type 0 where
   pub j : ℕ
   pub before : j < i
   pub hit : Hit (large n edges) k sound (part_way j n p q) (vector (part_way j n p q) (part_way (j + 1) n p q))

@@ -73,7 +73,8 @@ pub towards_next : (edges : List Segment) → AreClosed edges
     → (q.x -ℤ p.x ≡ pos 0 → q.y -ℤ p.y ≡ pos 0 → ⊥)
     → ((f : Segment) → IsIn edges f → IsFine n p q f) → ((f : Segment) → IsIn edges f
     → is_on_segment (part_way (j + 1) n p q) (enlarged n f.a) (enlarged n f.b) ≡ false)
-    → HasWinding (map (enlarged_wall n) edges) (part_way j n p q) (vector p q) (winding (part_way (j + 1) n p q) (map (enlarged_wall n) edges))
+    → HasWinding (map (enlarged_wall n) edges) (part_way j n p q) (vector p q)
+    (winding (part_way (j + 1) n p q) (map (enlarged_wall n) edges))
 towards_next edges closed real n j p q some fine off =
     let x = part_way j n p q in
     let y = part_way (j + 1) n p q in

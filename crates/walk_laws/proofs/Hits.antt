@@ -17,7 +17,7 @@ use Rattle.plane_spec.specs.Segments.{is_on_segment}
 use Rattle.plane_laws.proofs.Points.Between.{IsAlong, IsBetween, between, high, on_again, same_from_test}
 use Rattle.plane_laws.proofs.Lists.Members.{IsIn}
 use Rattle.plane_laws.proofs.Tests.{clash}
-use Rattle.plane_laws.proofs.Points.Directions.{cross_back, at_end, back_cross, exchanged, some_square}
+use Rattle.plane_laws.proofs.Points.Directions.{cross_back, at_end, back_cross, exchanged, some_square, parallel}
 use Rattle.plane_laws.proofs.Segments.Touching.{on_turned}
 use Rattle.plane_laws.proofs.Points.Heights.{along, height_from}
 use Rattle.winding_laws.proofs.Strips.{HasWinding, same_value}
@@ -117,17 +117,6 @@ middle_hit edges k w sound x y step h other f there here short =
   where
     real : pos 0 <ℤ dot_of (vector f.a f.b) (vector f.a f.b)
     real = some_square f.a f.b (sound.some f there)
-
-    parallel : (u j v : Point) → pos 0 <ℤ dot_of u u → cross_of u j ≡ pos 0 → cross_of u v ≡ pos 0
-        → cross_of j v ≡ pos 0
-    parallel u j v some_u uj uv =
-        let e = along u j v in
-        let s = exchanged u j in
-        let f = ap (λ t. dot_of u v *ℤ t) (let z : cross_of j u ≡ pos 0 = omega (arith, ints, s, uj) in z)
-        ∙ times_zero (dot_of u v) in
-        let g = ap (λ t. t *ℤ dot_of j u) uv ∙ zero_times (dot_of j u) in
-        let t = product_swapped (dot_of u u) (cross_of j v) in
-        zero_factor (cross_of j v) (dot_of u u) (omega (arith, ints, e, f, g, t)) some_u
 
     onward : (u j v : Point) → pos 0 <ℤ dot_of u u → cross_of u j ≡ pos 0 → pos 0 ≤ℤ dot_of u j → pos 0 ≤ℤ dot_of u v
         → pos 0 ≤ℤ dot_of j v

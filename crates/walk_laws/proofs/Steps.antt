@@ -17,7 +17,7 @@ use Rattle.plane_laws.specs.Enlarged.{enlarged}
 use Rattle.plane_laws.proofs.Segments.Apart.{AreBefore, free_east, free_north, free_south, free_west}
 use Rattle.plane_laws.proofs.Tests.{clash}
 use Rattle.plane_laws.proofs.Points.Heights.{along, height_from}
-use Rattle.plane_laws.proofs.Points.Directions.{at_end, back_cross, cross_back, exchanged, some_square}
+use Rattle.plane_laws.proofs.Points.Directions.{at_end, back_cross, cross_back, exchanged, some_square, parallel}
 use Rattle.plane_laws.proofs.Points.Between.{between}
 use Rattle.plane_laws.proofs.Segments.Touching.{changes, never_down, never_up}
 use Rattle.plane_laws.proofs.Segments.Shared.{on_line_x, on_line_y}
@@ -231,17 +231,6 @@ clears_step a b x d y step some m =
       where
         under : (c : Point) → orient_of x y c <ℤ pos 0 → pos 0 <ℤ orient_of y x c
         under c low = let o = orient_of_first_exchanged x y c in omega (arith, ints, o, low)
-
-    parallel : (u j v : Point) → pos 0 <ℤ dot_of u u → cross_of u j ≡ pos 0 → cross_of u v ≡ pos 0
-        → cross_of j v ≡ pos 0
-    parallel u j v some_u uj uv =
-        let e = along u j v in
-        let s = exchanged u j in
-        let f = ap (λ t. dot_of u v *ℤ t) (let z : cross_of j u ≡ pos 0 = omega (arith, ints, s, uj) in z)
-        ∙ times_zero (dot_of u v) in
-        let g = ap (λ t. t *ℤ dot_of j u) uv ∙ zero_times (dot_of j u) in
-        let t = product_swapped (dot_of u u) (cross_of j v) in
-        zero_factor (cross_of j v) (dot_of u u) (omega (arith, ints, e, f, g, t)) some_u
 
     differ : (p q r : ℤ) → q ≡ p +ℤ r → (r ≡ pos 0 → ⊥) → int_eq p q ≡ false
     differ p q r e never =

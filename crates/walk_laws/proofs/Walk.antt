@@ -20,7 +20,7 @@ use Rattle.plane_spec.specs.declared.Segment.{Segment}
 use Rattle.plane_spec.specs.Segments.{are_opposite, is_between, is_on_segment, cross_properly, do_touch}
 use Rattle.plane_spec.specs.Vectors.{cross_of, vector, orient_of, point}
 use Rattle.plane_laws.specs.Enlarged.{enlarged, part_way}
-use Rattle.plane_laws.proofs.Points.Between.{in_order, IsBetween, between, on_end, on_start}
+use Rattle.plane_laws.proofs.Points.Between.{in_order, IsBetween, between, on_end, on_start, same_coordinates}
 use Rattle.plane_laws.proofs.Points.Scaled.{opposite_scaled}
 use Rattle.plane_laws.proofs.Tests.{clash}
 use Rattle.winding_laws.proofs.Strips.{side_near}
@@ -214,7 +214,8 @@ opposite_multiple : (n s t : ℤ) → pos 0 <ℤ n → are_opposite s t ≡ fals
 opposite_multiple n s t h e = opposite_scaled n s t h ∙ e
 
 not_crossing : (n i : ℕ) (p q : Point) (f : Segment) → IsFine n p q f
-    → are_opposite (orient_of (enlarged n f.a) (enlarged n f.b) (part_way i n p q)) (orient_of (enlarged n f.a) (enlarged n f.b) (part_way (i + 1) n p q)) ≡ false
+    → are_opposite (orient_of (enlarged n f.a) (enlarged n f.b) (part_way i n p q))
+    (orient_of (enlarged n f.a) (enlarged n f.b) (part_way (i + 1) n p q)) ≡ false
 not_crossing n i p q f fine =
     let some = fine.some in
     let s = orient_of f.a f.b p in
@@ -236,10 +237,7 @@ zero_by d z some e =
     (λ q. absurd (some (omega (arith, ints, p, q)))))
 
 same_point_by : (x a : Point) → x.x ≡ a.x → x.y ≡ a.y → x ≡ a
-same_point_by x a e f = both x.x x.y a.x a.y e f
-  where
-    both : (p q r s : ℤ) → p ≡ r → q ≡ s → point p q ≡ point r s
-    both p q r s e f = rw (e, f) refl
+same_point_by x a e f = same_coordinates x.x x.y a.x a.y e f
 
 -- in line with two points that differ in one coordinate, with one's coordinate: that point
 same_there_x : (x a b : Point) → orient_of a b x ≡ pos 0 → (b.x -ℤ a.x ≡ pos 0 → ⊥)

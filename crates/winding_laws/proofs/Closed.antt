@@ -13,8 +13,8 @@ use Rattle.plane_spec.specs.declared.Segment.{Segment}
 use Rattle.plane_spec.specs.Polygons.{edges_to, edges_of}
 use Rattle.plane_spec.specs.Segments.{do_touch}
 use Rattle.plane_laws.proofs.Lists.Members.{IsIn, each_fails}
-use Rattle.winding_laws.specs.Windings.{strip, winding}
-use Rattle.winding_laws.proofs.OneEdge.{one_edge}
+use Rattle.winding_laws.specs.Windings.{winding}
+use Rattle.winding_laws.proofs.OneEdge.{one_edge, strip}
 use Rattle.winding_laws.proofs.Parity.{none}
 
 -- ---- round the polygon

@@ -10,9 +10,10 @@ use Rattle.plane_spec.specs.declared.Point.{Point}
 use Rattle.plane_spec.specs.declared.Segment.{Segment}
 use Rattle.plane_spec.specs.Vectors.{orient_of}
 use Rattle.exact_geom.proofs.Orientation.{orient_of_first_exchanged}
-use Rattle.winding_laws.specs.Windings.{strip, wind}
-use Rattle.winding_laws.proofs.OneEdge.{start_identity, end_identity, strip_above, strip_below, strip_mid, wind_above}
-use Rattle.winding_laws.proofs.OneEdge.{wind_across, wind_below, turned, wind_turned, strip_turned}
+use Rattle.winding_laws.specs.Windings.{wind}
+use Rattle.winding_laws.proofs.OneEdge.{start_identity, end_identity, strip_above, strip_below, strip_mid, wind_above, strip}
+use Rattle.winding_laws.proofs.OneEdge.{wind_across, wind_below, wind_turned, strip_turned}
+use Rattle.plan_spec.specs.Scene.{turned_edge}
 
 -- p left and q right of the edge, whose start is right and whose end is left of the segment
 pub record Crosses (a b p q : Point) : Type 0 where
@@ -203,7 +204,7 @@ upwards_up p q e c segment edge =
         negative_by : (x f : ℤ) → x <ℤ pos 0 → pos 0 <ℤ f → (x *ℤ f) <ℤ pos 0
         negative_by x f h k = negative_product x f h k
 
-differs_turned : (p q : Point) (e : Segment) (n : ℤ) → Differs p q (turned e) (neg_ℤ n) → Differs p q e n
+differs_turned : (p q : Point) (e : Segment) (n : ℤ) → Differs p q (turned_edge e) (neg_ℤ n) → Differs p q e n
 differs_turned p q e n h =
     let first = wind_turned p e in
     let second = wind_turned q e in
@@ -221,13 +222,13 @@ crossed_edge p q e c =
     by_lt_z q.y p.y
     (λ down. differs_swapped p q e (pos 1) (by_lt_z e.b.y e.a.y
     (λ falls. differs_turned q p e (neg_ℤ (pos 1)) (twice
-    (upwards_down q p (turned e) (back_crosses e.a e.b p q c) (omega (arith, ints, down))
+    (upwards_down q p (turned_edge e) (back_crosses e.a e.b p q c) (omega (arith, ints, down))
     (omega (arith, ints, falls)))))
     (λ rises. upwards_up q p e c (omega (arith, ints, down)) rises)))
     (λ up. by_lt_z e.b.y e.a.y
-    (λ falls. differs_turned p q e (pos 1) (upwards_up p q (turned e) (back_crosses e.a e.b p q c) up
+    (λ falls. differs_turned p q e (pos 1) (upwards_up p q (turned_edge e) (back_crosses e.a e.b p q c) up
     (omega (arith, ints, falls))))
     (λ rises. upwards_down p q e c up rises))
   where
-    twice : Differs q p (turned e) (pos 1) → Differs q p (turned e) (neg_ℤ (neg_ℤ (pos 1)))
+    twice : Differs q p (turned_edge e) (pos 1) → Differs q p (turned_edge e) (neg_ℤ (neg_ℤ (pos 1)))
     twice h = omega (arith, ints, h)

@@ -13,7 +13,16 @@ use Rattle.plane_spec.specs.Segments.{do_touch}
 use Rattle.exact_geom.proofs.Orientation.{orient_of_first_exchanged}
 use Rattle.plane_laws.proofs.Points.Heights.{height_from}
 use Rattle.plane_laws.proofs.Segments.Touching.{line_y, never_down, changes, never_up, touch_turned, touch_swapped}
-use Rattle.winding_laws.specs.Windings.{wind, strip}
+use Rattle.winding_laws.specs.Windings.{wind}
+use Rattle.plan_spec.specs.Scene.{turned_edge}
+
+-- v lies right of the segment from p to q, above one of its ends and not above the other: 1 where the segment goes up,
+-- -1 where it goes down
+unfoldable pub strip : Point → Point → Point → ℤ
+strip p q v =
+    if int_le v.y p.y
+    then (if int_le v.y q.y then pos 0 else (if int_lt (pos 0) (orient_of p q v) then neg_ℤ (pos 1) else pos 0))
+    else (if int_le v.y q.y then (if int_lt (orient_of p q v) (pos 0) then pos 1 else pos 0) else pos 0)
 
 -- ---- three products that add up to nothing
 
@@ -327,9 +336,6 @@ less_negated s t e = grind (arith, ints)
 more_negated : (s t : ℤ) → t ≡ neg_ℤ s → int_lt (pos 0) t ≡ int_lt s (pos 0)
 more_negated s t e = grind (arith, ints)
 
-abbrev pub turned : Segment → Segment
-turned e = record { a = e.b; b = e.a }
-
 less_is : (x y : ℤ) → int_lt x y ≡ not (int_le y x)
 less_is x y = grind (arith, ints)
 
@@ -356,11 +362,11 @@ wind_by_turned false true l false = refl
 wind_by_turned false false l r = refl
 
 -- an edge turned round goes the other way
-pub wind_turned : (x : Point) (e : Segment) → wind x (turned e) ≡ neg_ℤ (wind x e)
+pub wind_turned : (x : Point) (e : Segment) → wind x (turned_edge e) ≡ neg_ℤ (wind x e)
 wind_turned x e =
     let o = orient_of_first_exchanged e.a e.b x in
     rw (
-      wind_is x (turned e),
+      wind_is x (turned_edge e),
       wind_is x e,
       less_negated (orient_of e.a e.b x) (orient_of e.b e.a x) o,
       more_negated
@@ -402,7 +408,7 @@ strip_turned p q v =
     (strip_by_turned (int_le v.y p.y) (int_le v.y q.y) (int_lt (pos 0) (orient_of p q v))
     (int_lt (orient_of p q v) (pos 0)))
 
-balanced_turned : (p q : Point) (e : Segment) → Balanced p q (turned e) → Balanced p q e
+balanced_turned : (p q : Point) (e : Segment) → Balanced p q (turned_edge e) → Balanced p q e
 balanced_turned p q e h =
     let first = wind_turned p e in
     let second = wind_turned q e in
@@ -417,7 +423,7 @@ balanced_swapped p q e h =
 segment_up : (p q : Point) (e : Segment) → do_touch e.a e.b p q ≡ false → p.y ≤ℤ q.y → Balanced p q e
 segment_up p q e free up =
     by_lt_z e.b.y e.a.y
-    (λ down. balanced_turned p q e (upwards p q (turned e) (touch_turned e.a e.b p q ∙ free) up
+    (λ down. balanced_turned p q e (upwards p q (turned_edge e) (touch_turned e.a e.b p q ∙ free) up
     (omega (arith, ints, down))))
     (λ edge. upwards p q e free up edge)
 

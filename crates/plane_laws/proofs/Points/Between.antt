@@ -214,13 +214,13 @@ weak_mean v z x j apart on hv hz =
     let turn = product_swapped (dot_of (vector v z) (vector v z)) (height j x) in
     not_negative_factor (height j x) (dot_of (vector v z) (vector v z)) (omega (arith, ints, m, first, second, turn)) k
 
+pub same_coordinates : (p q r s : ℤ) → p ≡ r → q ≡ s → point p q ≡ point r s
+same_coordinates p q r s e f = rw (e, f) refl
+
 pub same_from_test : (x v : Point) → same_point x v ≡ true → v ≡ x
 same_from_test x v h =
     let parts = and_parts _ _ h in
-    both v.x v.y x.x x.y (sym (tested_equal x.x v.x parts.0)) (sym (tested_equal x.y v.y parts.1))
-  where
-    both : (p q r s : ℤ) → p ≡ r → q ≡ s → point p q ≡ point r s
-    both p q r s e f = rw (e, f) refl
+    same_coordinates v.x v.y x.x x.y (sym (tested_equal x.x v.x parts.0)) (sym (tested_equal x.y v.y parts.1))
 
 pub apart_back : (a b : Point) → same_point a b ≡ false → same_point b a ≡ false
 apart_back a b h = false_from_ne_true (same_point b a) (λ same. clash h (same_ends a b (same_from_test b a same)))

@@ -4,10 +4,12 @@ use Rattle.std.specs.Ordering.{int_eq}
 use Rattle.std.proofs.Common.{arith, pos, ℤ, ◌≡◌, ◌-ℤ◌, ap, ◌*ℤ◌, ◌∙◌, neg_ℤ, refl, sym, ◌<ℤ◌}
 use Rattle.std.proofs.lemmas.Int.{ints, by_lt_z}
 use Rattle.int_laws.proofs.Ring.{times_zero, zero_times, minus_times, times_minus, chained, neg_times, times_neg}
+use Rattle.int_laws.proofs.Ring.{product_swapped}
 use Rattle.int_laws.proofs.Tests.{equal_tested}
 use Rattle.int_laws.proofs.Signs.{positive_product, square as square_of, zero_factor}
 use Rattle.plane_spec.specs.declared.Point.{Point}
 use Rattle.plane_spec.specs.Vectors.{cross_of, vector, orient_of, dot_of, same_point}
+use Rattle.plane_laws.proofs.Points.Heights.{along}
 
 -- ---- small identities
 
@@ -96,3 +98,15 @@ some_square u v apart =
         let k : same_point u v ≡ true = rw (i, j) refl in
         let absurdity : true ≡ false = sym k ∙ apart in
         cc
+
+-- directions in line with a third are in line
+pub parallel : (u j v : Point) → pos 0 <ℤ dot_of u u → cross_of u j ≡ pos 0 → cross_of u v ≡ pos 0
+    → cross_of j v ≡ pos 0
+parallel u j v some_u uj uv =
+    let e = along u j v in
+    let s = exchanged u j in
+    let f = ap (λ t. dot_of u v *ℤ t) (let z : cross_of j u ≡ pos 0 = omega (arith, ints, s, uj) in z)
+    ∙ times_zero (dot_of u v) in
+    let g = ap (λ t. t *ℤ dot_of j u) uv ∙ zero_times (dot_of j u) in
+    let t = product_swapped (dot_of u u) (cross_of j v) in
+    zero_factor (cross_of j v) (dot_of u u) (omega (arith, ints, e, f, g, t)) some_u

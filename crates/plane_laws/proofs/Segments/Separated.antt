@@ -11,6 +11,7 @@ use Rattle.std.proofs.Common.{subst, arith}
 use Rattle.std.proofs.lemmas.Int.{ints, by_lt_z}
 use Rattle.std.proofs.lemmas.Bool.{false_from_ne_true, and_parts, or_cases}
 use Rattle.int_laws.proofs.Ring.{times_sum, sum_times, times_minus, minus_times, product_grouped, product_swapped}
+use Rattle.int_laws.proofs.Ring.{product_moved}
 use Rattle.int_laws.proofs.Signs.{not_negative_product, opposite_product, positive_product, negative_product}
 use Rattle.int_laws.proofs.Signs.{negative_factors, negative_product_both}
 use Rattle.plane_spec.specs.declared.Point.{Point}
@@ -25,19 +26,15 @@ use Rattle.int_laws.proofs.Tests.{tested_less}
 use Rattle.plane_laws.proofs.Segments.Touching.{line_x, line_y, changes}
 use Rattle.plane_laws.proofs.Segments.Apart.{all_false, Crossing, rises, falls, crossing}
 
--- ---- two segments that cross, and a line
-
-moved : (u k d : ℤ) → u *ℤ (k *ℤ d) ≡ k *ℤ (u *ℤ d)
-moved u k d = sym (product_grouped u k d) ∙ ap (λ t. t *ℤ d) (product_swapped u k) ∙ product_grouped k u d
-
 -- where (x, y) is made of (b, b') and (q, q'), so are their products with a direction
 combined : (k s a ux uy x y bx by qx qy : ℤ) → k *ℤ x ≡ s *ℤ bx +ℤ a *ℤ qx → k *ℤ y ≡ s *ℤ by +ℤ a *ℤ qy
     → k *ℤ (ux *ℤ y -ℤ uy *ℤ x) ≡ s *ℤ (ux *ℤ by -ℤ uy *ℤ bx) +ℤ a *ℤ (ux *ℤ qy -ℤ uy *ℤ qx)
 combined k s a ux uy x y bx by qx qy e f =
     let first = times_minus k (ux *ℤ y) (uy *ℤ x) in
-    let g = sym (moved ux k y) ∙ ap (λ t. ux *ℤ t) f ∙ times_sum ux (s *ℤ by) (a *ℤ qy) in
-    let h = sym (moved uy k x) ∙ ap (λ t. uy *ℤ t) e ∙ times_sum uy (s *ℤ bx) (a *ℤ qx) in
-    let i = moved ux s by in let j = moved ux a qy in let l = moved uy s bx in let m = moved uy a qx in
+    let g = sym (product_moved ux k y) ∙ ap (λ t. ux *ℤ t) f ∙ times_sum ux (s *ℤ by) (a *ℤ qy) in
+    let h = sym (product_moved uy k x) ∙ ap (λ t. uy *ℤ t) e ∙ times_sum uy (s *ℤ bx) (a *ℤ qx) in
+    let i = product_moved ux s by in let j = product_moved ux a qy in let l = product_moved uy s bx in
+    let m = product_moved uy a qx in
     let second = times_minus s (ux *ℤ by) (uy *ℤ bx) in
     let third = times_minus a (ux *ℤ qy) (uy *ℤ qx) in
     omega (arith, ints, first, g, h, i, j, l, m, second, third)

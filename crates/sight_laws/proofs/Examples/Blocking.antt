@@ -36,6 +36,7 @@ it_passes_through : is_strictly_inside (part_way 5 8 (at 0 0) (at 8 8)) (map (en
 unfolding walls_round is_counterclockwise edges_to
 it_passes_through = refl
 
-a_corner_of_the_box_is_not_inside : is_strictly_inside (part_way 1 2 (at 0 0) (at 8 8)) (map (enlarged 2) (box 4 4 6 6)) ≡ false
+a_corner_of_the_box_is_not_inside :
+    is_strictly_inside (part_way 1 2 (at 0 0) (at 8 8)) (map (enlarged 2) (box 4 4 6 6)) ≡ false
 unfolding walls_round is_counterclockwise edges_to
 a_corner_of_the_box_is_not_inside = refl

@@ -1,11 +1,14 @@
--- Convex obstacles, and what is inside them, on small figures.
+-- Convex polygons on small figures: what is strictly inside, and what is inside; a repeated point is a wall that
+-- nothing is
+-- left of, and a notch shows that the polygon must be convex.
 use Rattle.std.specs.Prelude.{◌≡◌, refl, List, [], ◌∷◌, ℤ, pos, true, false}
 use Rattle.std.proofs.Common.{arith}
 use Rattle.plane_spec.specs.declared.Point.{Point}
 use Rattle.plane_spec.specs.Vectors.{point}
-use Rattle.plane_spec.specs.Polygons.{edges_to, is_counterclockwise}
+use Rattle.plane_spec.specs.Polygons.{edges_to, is_counterclockwise, is_inside, passes_right}
 use Rattle.plan_spec.specs.Scene.{walls_round}
 use Rattle.sight_laws.specs.Convex.{is_convex, is_strictly_inside, PassesThrough}
+use Rattle.plane_spec.specs.Segments.{is_on_segment}
 
 abbrev at : ℤ → ℤ → Point
 at x y = point x y
@@ -65,3 +68,30 @@ a_diagonal_passes_through = (1, 2, omega arith, omega arith, refl)
 past_a_cut_corner_without_a_whole_point_inside : PassesThrough box (at (pos 2) (pos 0)) (at (pos 3) (pos 1))
 unfolding walls_round is_counterclockwise edges_to
 past_a_cut_corner_without_a_whole_point_inside = (1, 2, omega arith, omega arith, refl)
+
+-- the box from (0,0) to (3,3), with its first point twice
+abbrev box_with_a_repeat : List Point
+box_with_a_repeat =
+    at (pos 0) (pos 0) ∷ at (pos 0) (pos 0) ∷ at (pos 3) (pos 0) ∷ at (pos 3) (pos 3) ∷ at (pos 0) (pos 3) ∷ []
+
+-- a repeated point leaves the box convex, and what is inside it isn't left of the wall between the two
+a_repeat_is_convex : is_convex box_with_a_repeat ≡ true
+unfolding walls_round is_counterclockwise edges_to
+a_repeat_is_convex = refl
+
+inside_past_a_repeat : is_inside (at (pos 1) (pos 1)) box_with_a_repeat ≡ true
+unfolding is_inside edges_to is_on_segment passes_right
+inside_past_a_repeat = refl
+
+nothing_is_left_of_a_repeat : is_strictly_inside (at (pos 1) (pos 1)) box_with_a_repeat ≡ false
+unfolding walls_round is_counterclockwise edges_to
+nothing_is_left_of_a_repeat = refl
+
+-- in a notched box a point that is inside can be right of a wall
+inside_a_notched_box : is_inside (at (pos 2) (pos 2)) notched_box ≡ true
+unfolding is_inside edges_to is_on_segment passes_right
+inside_a_notched_box = refl
+
+right_of_the_notch : is_strictly_inside (at (pos 2) (pos 2)) notched_box ≡ false
+unfolding walls_round is_counterclockwise edges_to
+right_of_the_notch = refl
