@@ -13,7 +13,7 @@ use Rattle.std.proofs.Common.{suc, zero, sym, neg_ℤ}
 use Rattle.std.proofs.lemmas.Int.{ints, by_lt_z}
 use borrow.Author.Differences.{down, up}
 use Rattle.int_laws.proofs.Ring.{times_zero, zero_times, one_times, sum_times, times_one, times_sum, diff}
-use Rattle.int_laws.proofs.Ring.{product_diff, same_diff, sum_diff, is_diff, times_minus, neg_times, minus_diff}
+use Rattle.int_laws.proofs.Ring.{product_diff, same_diff, sum_diff, is_diff, neg_times, minus_diff}
 use Rattle.plane_spec.specs.declared.Segment.{Segment}
 use Rattle.plane_spec.specs.declared.Point.{Point}
 use Rattle.plane_spec.specs.Vectors.{cross_of}

@@ -1,6 +1,6 @@
 -- Edges on a grid: each meets the middles of the rows at whole places.
 use Rattle.std.specs.Prelude.{int_lt, if◌then◌else◌, true}
-use Rattle.std.proofs.Common.{pos, ℕ, ℤ, ◌+ℤ◌, ◌≡◌, ◌⊎◌, ◌≤◌, ◌<◌, ◌-ℤ◌, ◌*ℤ◌, ◌<ℤ◌, ap, arith, ◌∙◌, subst, sym, ◌≤ℤ◌}
+use Rattle.std.proofs.Common.{pos, ℕ, ℤ, ◌+ℤ◌, ◌≡◌, ◌⊎◌, ◌≤◌, ◌-ℤ◌, ◌*ℤ◌, ◌<ℤ◌, ap, arith, ◌∙◌, subst, sym, ◌≤ℤ◌}
 use Rattle.std.proofs.lemmas.Int.{ints}
 use Rattle.int_laws.proofs.Ring.{minus_times, product_swapped, product_turned, sum_times, times_minus}
 use Rattle.int_laws.proofs.Tests.{agree, less_tested, tested_less}

@@ -1,6 +1,6 @@
 -- TODO Rows
 use Rattle.std.specs.Prelude.{int_lt, if◌then◌else◌, List, map, [], ◌∷◌, true, false}
-use Rattle.std.proofs.Common.{ℤ, ◌≡◌, ◌<◌, ◌-ℤ◌, ◌*ℤ◌, ◌<ℤ◌, arith, inl, inr, pos, ℕ, ◌+◌, ◌+ℤ◌, ap, neg_ℤ, ◌∙◌, sym}
+use Rattle.std.proofs.Common.{ℤ, ◌≡◌, ◌<◌, ◌-ℤ◌, ◌*ℤ◌, ◌<ℤ◌, arith, inl, inr, pos, ℕ, ◌+ℤ◌, ap, neg_ℤ, ◌∙◌, sym}
 use Rattle.std.proofs.Common.{refl, subst, ◌⊎◌}
 use Rattle.std.proofs.lemmas.Int.{by_lt_z, ints}
 use Rattle.std.proofs.lemmas.Bool.{false_from_ne_true}

@@ -1,6 +1,6 @@
 -- Sums over the first numbers.
 use Rattle.std.specs.Prelude.{int_lt, if◌then◌else◌}
-use Rattle.std.proofs.Common.{pos, suc, zero, ℕ, ℤ, ◌+ℤ◌, arith, refl, ◌≡◌, ◌<◌, neg_ℤ, ◌≤◌, ◌≤ℤ◌, subst, ◌<ℤ◌, ap}
+use Rattle.std.proofs.Common.{pos, suc, zero, ℕ, ℤ, ◌+ℤ◌, arith, refl, ◌≡◌, ◌<◌, neg_ℤ, ◌≤ℤ◌, subst, ◌<ℤ◌, ap}
 use Rattle.std.proofs.Common.{◌-ℤ◌}
 use Rattle.std.proofs.lemmas.Int.{ints, by_lt_z}
 use Rattle.int_laws.proofs.Tests.{less_tested, not_less}

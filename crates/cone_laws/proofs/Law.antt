@@ -1,6 +1,6 @@
 -- The law of cones, as the contract states it: of the walls and corners of a simple polygon.
 use Rattle.std.specs.Prelude.{true, false, List, Contains}
-use Rattle.std.proofs.Common.{◌≡◌, ℤ, pos, ◌-ℤ◌, sym, ap, subst}
+use Rattle.std.proofs.Common.{◌≡◌, ℤ, pos, ◌-ℤ◌, sym, subst}
 use Rattle.plane_spec.specs.declared.Point.{Point}
 use Rattle.plane_spec.specs.declared.Segment.{Segment}
 use Rattle.plane_spec.specs.declared.Corner.{Corner}
@@ -9,7 +9,7 @@ use Rattle.plane_spec.specs.Vectors.{vector}
 use Rattle.plane_spec.specs.Polygons.{is_simple}
 use Rattle.plane_spec.specs.Cones.{corner, is_in_cone}
 use Rattle.plan_spec.specs.Scene.{walls_round, corners_round}
-use Rattle.plane_laws.proofs.Lists.Members.{IsIn, from_contains}
+use Rattle.plane_laws.proofs.Lists.Members.{from_contains}
 use Rattle.winding_laws.specs.Windings.{GoesRoundNear}
 use Rattle.winding_laws.proofs.Strips.{HasWinding}
 use Rattle.side_laws.proofs.Sound.{SidesOf}

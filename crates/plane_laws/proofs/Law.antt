@@ -7,7 +7,7 @@ use Rattle.std.specs.Prelude.{Bool, true, false, ◌||◌}
 use Rattle.std.proofs.Common.{◌≡◌, ℕ, ◌<◌, ℤ, pos, ◌<ℤ◌, ◌∙◌, sym, subst, refl, arith}
 use Rattle.std.proofs.lemmas.Int.{ints}
 use Rattle.plane_spec.specs.declared.Point.{Point}
-use Rattle.plane_spec.specs.Vectors.{point, same_point}
+use Rattle.plane_spec.specs.Vectors.{same_point}
 use Rattle.plane_spec.specs.Segments.{is_between, is_on_segment, cross_properly, do_touch}
 use Rattle.plane_spec.proofs.Laws.{touching_is_symmetric}
 use Rattle.plane_laws.proofs.Points.Between.{between, same_from_test, same_coordinates}

@@ -1,8 +1,8 @@
 -- TODO Corners
 use Rattle.std.specs.Prelude.{false}
-use Rattle.std.proofs.Common.{arith, pos, ℤ, ◌<ℤ◌, ◌≤ℤ◌, ap, ◌≡◌, ◌*ℤ◌, ◌∙◌, neg_ℤ}
+use Rattle.std.proofs.Common.{arith, pos, ◌<ℤ◌, ◌≤ℤ◌, ap, ◌≡◌, ◌*ℤ◌, ◌∙◌, neg_ℤ}
 use Rattle.std.proofs.lemmas.Int.{ints, by_lt_z}
-use Rattle.int_laws.proofs.Signs.{not_negative_product, positive_factor, positive_product, zero_factor}
+use Rattle.int_laws.proofs.Signs.{not_negative_product, positive_factor, positive_product}
 use Rattle.int_laws.proofs.Signs.{opposite_product}
 use Rattle.int_laws.proofs.Ring.{product_swapped, times_zero, times_neg, zero_times, neg_times}
 use Rattle.plane_spec.specs.declared.Point.{Point}
@@ -10,7 +10,7 @@ use Rattle.plane_spec.specs.declared.Segment.{Segment}
 use Rattle.plane_spec.specs.Vectors.{dot_of, vector, cross_of, orient_of, same_point}
 use Rattle.plane_spec.specs.Segments.{do_touch}
 use Rattle.exact_geom.proofs.Orientation.{orient_of_first_exchanged, orient_of_cycled}
-use Rattle.plane_laws.proofs.Points.Between.{IsAlong, high, long, low_apart, mixed, high_apart, low, height_positive}
+use Rattle.plane_laws.proofs.Points.Between.{IsAlong, long, low_apart, mixed, high_apart, low, height_positive}
 use Rattle.plane_laws.proofs.Points.Between.{height_none}
 use Rattle.plane_laws.proofs.Points.Heights.{height, along, same_way, height_from, four}
 use Rattle.plane_laws.proofs.Points.Directions.{exchanged, at_start, at_end, back_cross, cross_back, minus_cross}

@@ -1,6 +1,6 @@
 -- The law of sides, as the contract states it.
-use Rattle.std.specs.Prelude.{List, [], ◌∷◌, map, Bool, false, length, nat_le, not, true, ◌&&◌}
-use Rattle.std.proofs.Common.{inl, inr, ap, arith, pos, ℤ, ◌≡◌, ◌+ℤ◌, ◌-ℤ◌, ◌*ℤ◌, ◌<ℤ◌, ◌∙◌, refl, sym, ℕ, ◌≤◌}
+use Rattle.std.specs.Prelude.{List, [], ◌∷◌, map, length, nat_le, not, true, ◌&&◌}
+use Rattle.std.proofs.Common.{ap, arith, pos, ℤ, ◌≡◌, ◌+ℤ◌, ◌-ℤ◌, ◌*ℤ◌, ◌<ℤ◌, ◌∙◌, ℕ, ◌≤◌}
 use Rattle.std.proofs.lemmas.Int.{ints}
 use Rattle.std.proofs.lemmas.Bool.{and_parts, not-true}
 use Rattle.int_laws.proofs.Ring.{sum_times}
@@ -8,7 +8,7 @@ use Rattle.plane_spec.specs.declared.Segment.{Segment}
 use Rattle.plane_spec.specs.declared.Point.{Point}
 use Rattle.plane_spec.specs.Vectors.{cross_of, vector}
 use Rattle.plane_spec.specs.Polygons.{edges_of, crosses_nowhere, has_repeat, is_simple}
-use Rattle.plane_laws.proofs.Lists.Members.{IsIn, mapped, from_contains}
+use Rattle.plane_laws.proofs.Lists.Members.{mapped, from_contains}
 use Rattle.plane_laws.proofs.Points.Scaled.{scaled, scaled_wall}
 use Rattle.side_laws.specs.Sides.{GoesRoundOnLeft, middle_of}
 use Rattle.side_laws.proofs.Sound.{IsSound}

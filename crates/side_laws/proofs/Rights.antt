@@ -16,7 +16,7 @@ use Rattle.int_laws.proofs.Signs.{positive_product}
 use Rattle.plane_spec.specs.declared.Point.{Point}
 use Rattle.plane_spec.specs.declared.Segment.{Segment}
 use Rattle.plane_spec.specs.Segments.{do_touch, is_on_segment, is_between}
-use Rattle.plane_spec.specs.Vectors.{cross_of, same_point, vector, orient_of, point}
+use Rattle.plane_spec.specs.Vectors.{cross_of, same_point, vector, orient_of}
 use Rattle.exact_geom.proofs.Orientation.{orient_of_first_exchanged}
 use Rattle.plane_laws.specs.Enlarged.{enlarged, enlarged_wall}
 use Rattle.plane_laws.proofs.Segments.Touching.{touch_swapped}

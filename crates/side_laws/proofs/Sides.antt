@@ -10,7 +10,6 @@
 -- since
 -- those are at a distance (`Corners`, `Strips`). What a strip clears doesn't change the winding.
 use Rattle.std.specs.Prelude.{false, List, true, Bool, ◌&&◌, ◌||◌, if◌then◌else◌}
-use Rattle.std.specs.Ordering.{int_eq}
 use Rattle.std.proofs.Common.{pos, ℤ, ◌<ℤ◌, ap, arith, neg_ℤ, ◌≡◌, ◌+ℤ◌, ◌-ℤ◌, ◌*ℤ◌, ◌∙◌, ◌⊎◌, subst, sym, inl, inr}
 use Rattle.std.proofs.Common.{refl, ◌≤ℤ◌}
 use Rattle.std.proofs.lemmas.Int.{by_lt_z, ints}
@@ -21,11 +20,11 @@ use Rattle.int_laws.proofs.Signs.{zero_factor, tested_not_positive, tested_posit
 use Rattle.plane_spec.specs.declared.Point.{Point}
 use Rattle.plane_spec.specs.declared.Segment.{Segment}
 use Rattle.plane_spec.specs.Vectors.{cross_of, dot_of, orient_of, same_point, vector, point, is_left, lies_left}
-use Rattle.plane_spec.specs.Segments.{is_on_segment, do_touch, is_between}
+use Rattle.plane_spec.specs.Segments.{is_on_segment, do_touch}
 use Rattle.plane_spec.specs.Cones.{corner, is_in_cone}
 use Rattle.exact_geom.proofs.Orientation.{orient_of_cycled}
 use Rattle.plane_laws.proofs.Tests.{clash}
-use Rattle.plane_laws.proofs.Points.Directions.{exchanged, some_square, turn_is, cross_itself, minus_right, at_end}
+use Rattle.plane_laws.proofs.Points.Directions.{exchanged, some_square, turn_is, cross_itself, minus_right}
 use Rattle.plane_laws.proofs.Segments.Touching.{on_by}
 use Rattle.plane_laws.proofs.Lists.Members.{IsIn}
 use Rattle.plane_laws.proofs.Points.Between.{IsAlong, apart_back, between, on_end}

@@ -5,7 +5,6 @@ use Rattle.std.proofs.lemmas.Bool.{or_parts, not-true}
 use Rattle.std.proofs.Common.{◌≡◌, ap, arith, inl, inr, ℕ, ◌+◌, ◌≤◌, ◌<◌, ◌⊎◌, pos, subst, sym, ◌∙◌, refl, ◌==◌, suc}
 use Rattle.std.proofs.Common.{zero, ℤ}
 use Rattle.std.proofs.lemmas.Int.{by_lt_z, ints}
-use Rattle.int_laws.proofs.Tests.{not_less}
 use Rattle.plane_spec.specs.declared.Segment.{Segment}
 use Rattle.plane_spec.specs.declared.Point.{Point}
 use Rattle.plane_spec.specs.Segments.{cross_properly, do_touch, is_on_segment}

@@ -1,11 +1,11 @@
 -- What is known of sound edges: each between its neighbours, with one winding on the left of all of them; a point of
 -- an edge's middle is on no other edge.
 use Rattle.std.specs.Prelude.{List, [], ◌∷◌, false, true}
-use Rattle.std.proofs.Common.{ℤ, ◌≡◌, arith, pos, ◌≤ℤ◌, ◌+◌, ◌+ℤ◌, refl, ◌-ℤ◌, ◌*ℤ◌, sym, ◌∙◌, ap, neg_ℤ, ◌<◌, ◌<ℤ◌}
+use Rattle.std.proofs.Common.{ℤ, ◌≡◌, arith, pos, ◌≤ℤ◌, ◌+ℤ◌, refl, ◌-ℤ◌, ◌*ℤ◌, sym, ◌∙◌, ap, neg_ℤ, ◌<ℤ◌}
 use Rattle.std.proofs.Common.{inl, inr, subst, ◌⊎◌}
 use Rattle.std.proofs.lemmas.Int.{ints}
 use Rattle.std.proofs.lemmas.Bool.{false_from_ne_true}
-use Rattle.int_laws.proofs.Signs.{not_negative_factor, not_negative_product, positive_factor, positive_product}
+use Rattle.int_laws.proofs.Signs.{positive_factor, positive_product}
 use Rattle.int_laws.proofs.Ring.{product_swapped, times_zero}
 use Rattle.plane_spec.specs.declared.Segment.{Segment}
 use Rattle.plane_spec.specs.declared.Point.{Point}
@@ -13,11 +13,11 @@ use Rattle.plane_spec.specs.Vectors.{same_point, dot_of, vector, point, cross_of
 use Rattle.plane_spec.specs.Segments.{is_on_segment}
 use Rattle.exact_geom.proofs.Orientation.{orient_of_first_exchanged}
 use Rattle.plane_laws.proofs.Lists.Members.{IsIn}
-use Rattle.plane_laws.proofs.Points.Between.{IsBetween, high, low, mixed, IsAlong, between, high_apart, long}
+use Rattle.plane_laws.proofs.Points.Between.{mixed, IsAlong, between, high_apart, long}
 use Rattle.plane_laws.proofs.Points.Between.{on_again}
 use Rattle.plane_laws.proofs.Points.Between.{weak_mean}
 use Rattle.plane_laws.proofs.Points.Heights.{height}
-use Rattle.plane_laws.proofs.Points.Directions.{some_square, back_cross, cross_none, exchanged}
+use Rattle.plane_laws.proofs.Points.Directions.{back_cross, cross_none, exchanged}
 use Rattle.plane_laws.proofs.Segments.Shared.{none_shared}
 use Rattle.winding_laws.proofs.Closed.{AreClosed}
 use Rattle.side_laws.proofs.Sides.{IsCornerOf, KeepsApart, SideAt, wall, Inward}

@@ -2,7 +2,7 @@
 use Rattle.std.specs.Prelude.{List, length, ◌∷◌, [], Bool, not, false, true}
 use Rattle.std.specs.Ordering.{int_eq}
 use Rattle.std.specs.List.{list_any}
-use Rattle.std.proofs.Common.{pos, ℤ, ◌<◌, ◌-ℤ◌, ◌*ℤ◌, ◌<ℤ◌, ap, arith, ◌≡◌, ◌∙◌, inl, inr, subst, suc, zero, ℕ, ◌⊎◌}
+use Rattle.std.proofs.Common.{pos, ℤ, ◌-ℤ◌, ◌*ℤ◌, ◌<ℤ◌, ap, arith, ◌≡◌, ◌∙◌, inl, inr, subst, suc, zero, ℕ, ◌⊎◌}
 use Rattle.std.proofs.Common.{◌+◌, refl}
 use Rattle.std.proofs.lemmas.Int.{ints}
 use Rattle.int_laws.proofs.Ring.{zero_times, crossed, minus_times}

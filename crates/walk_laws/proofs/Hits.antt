@@ -4,22 +4,20 @@ use Rattle.std.specs.Prelude.{List, false, true, Bool}
 use Rattle.std.specs.Ordering.{int_eq}
 use Rattle.std.proofs.Common.{pos, ℤ, ◌≡◌, ◌<ℤ◌, ◌⊎◌, refl, sym, arith, neg_ℤ, inl, inr, subst, ◌-ℤ◌, ◌≤ℤ◌, ◌∙◌, ap}
 use Rattle.std.proofs.Common.{◌*ℤ◌}
-use Rattle.std.proofs.lemmas.Bool.{and_parts}
 use Rattle.std.proofs.lemmas.Int.{ints, by_lt_z}
-use Rattle.int_laws.proofs.Tests.{tested_equal}
-use Rattle.int_laws.proofs.Ring.{minus_times, product_swapped, times_zero, zero_times}
-use Rattle.int_laws.proofs.Signs.{not_negative_factor, not_negative_product, zero_factor}
+use Rattle.int_laws.proofs.Ring.{minus_times, product_swapped, zero_times}
+use Rattle.int_laws.proofs.Signs.{not_negative_factor, not_negative_product}
 use Rattle.plane_spec.specs.declared.Point.{Point}
 use Rattle.plane_spec.specs.declared.Segment.{Segment}
 use Rattle.plane_spec.specs.Cones.{corner, is_in_cone}
-use Rattle.plane_spec.specs.Vectors.{cross_of, same_point, vector, point, dot_of}
+use Rattle.plane_spec.specs.Vectors.{cross_of, same_point, vector, dot_of}
 use Rattle.plane_spec.specs.Segments.{is_on_segment}
 use Rattle.plane_laws.proofs.Points.Between.{IsAlong, IsBetween, between, high, on_again, same_from_test}
 use Rattle.plane_laws.proofs.Lists.Members.{IsIn}
 use Rattle.plane_laws.proofs.Tests.{clash}
-use Rattle.plane_laws.proofs.Points.Directions.{cross_back, at_end, back_cross, exchanged, some_square, parallel}
+use Rattle.plane_laws.proofs.Points.Directions.{cross_back, at_end, back_cross, some_square, parallel}
 use Rattle.plane_laws.proofs.Segments.Touching.{on_turned}
-use Rattle.plane_laws.proofs.Points.Heights.{along, height_from}
+use Rattle.plane_laws.proofs.Points.Heights.{height_from}
 use Rattle.winding_laws.proofs.Strips.{HasWinding, same_value}
 use Rattle.side_laws.proofs.Sound.{IsSound, SidesOf}
 use Rattle.side_laws.proofs.Sides.{wall}

@@ -1,14 +1,10 @@
 -- The law of fine steps, as the contract states it.
-use Rattle.std.specs.Prelude.{true, false, List, Contains}
-use Rattle.std.proofs.Common.{◌≡◌, ◌⊎◌, ℕ, ◌+◌, ◌<◌, ℤ, pos, ◌-ℤ◌, arith}
+use Rattle.std.specs.Prelude.{false, List, Contains}
+use Rattle.std.proofs.Common.{◌≡◌, ℕ, ◌<◌, arith}
 use Rattle.std.proofs.lemmas.Int.{ints}
-use Rattle.std.proofs.lemmas.Bool.{and_from}
-use Rattle.int_laws.proofs.Tests.{equal_tested}
 use Rattle.plane_spec.specs.declared.Point.{Point}
 use Rattle.plane_spec.specs.declared.Segment.{Segment}
 use Rattle.plane_spec.specs.Vectors.{same_point}
-use Rattle.plane_laws.specs.Enlarged.{part_way}
-use Rattle.plane_laws.proofs.Tests.{clash}
 use Rattle.plane_laws.proofs.Lists.Members.{from_contains}
 use Rattle.walk_laws.specs.Steps.{MeetsAtEnds}
 use Rattle.walk_laws.proofs.Walk.{met_at_ends}

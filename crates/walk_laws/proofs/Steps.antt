@@ -6,18 +6,18 @@ use Rattle.std.proofs.Common.{pos, ℕ, ℤ, ◌+ℤ◌, ◌*ℤ◌, arith, ◌�
 use Rattle.std.proofs.Common.{sym}
 use Rattle.std.proofs.lemmas.Int.{ints, by_lt_z}
 use Rattle.std.proofs.lemmas.Bool.{false_from_ne_true}
-use Rattle.int_laws.proofs.Signs.{not_negative_product, positive_product, zero_factor}
+use Rattle.int_laws.proofs.Signs.{not_negative_product, positive_product}
 use Rattle.int_laws.proofs.Ring.{times_minus, minus_times, one_times, times_sum, times_neg, product_swapped}
-use Rattle.int_laws.proofs.Ring.{times_zero, zero_times}
+use Rattle.int_laws.proofs.Ring.{zero_times}
 use Rattle.plane_spec.specs.declared.Point.{Point}
 use Rattle.plane_spec.specs.Segments.{is_between, do_touch, is_on_segment}
-use Rattle.plane_spec.specs.Vectors.{same_point, cross_of, dot_of, orient_of, point, vector}
+use Rattle.plane_spec.specs.Vectors.{same_point, cross_of, orient_of, point, vector}
 use Rattle.exact_geom.proofs.Orientation.{orient_of_first_exchanged}
 use Rattle.plane_laws.specs.Enlarged.{enlarged}
 use Rattle.plane_laws.proofs.Segments.Apart.{AreBefore, free_east, free_north, free_south, free_west}
 use Rattle.plane_laws.proofs.Tests.{clash}
-use Rattle.plane_laws.proofs.Points.Heights.{along, height_from}
-use Rattle.plane_laws.proofs.Points.Directions.{at_end, back_cross, cross_back, exchanged, some_square, parallel}
+use Rattle.plane_laws.proofs.Points.Heights.{height_from}
+use Rattle.plane_laws.proofs.Points.Directions.{at_end, back_cross, cross_back, some_square, parallel}
 use Rattle.plane_laws.proofs.Points.Between.{between}
 use Rattle.plane_laws.proofs.Segments.Touching.{changes, never_down, never_up}
 use Rattle.plane_laws.proofs.Segments.Shared.{on_line_x, on_line_y}

@@ -6,7 +6,7 @@
 -- along edges that close, since each corner ends as many as it begins.
 use Rattle.std.specs.Prelude.{List, [], ◌∷◌, false}
 use Rattle.std.specs.List.{list_any}
-use Rattle.std.proofs.Common.{pos, ℤ, ◌+◌, ◌+ℤ◌, ◌-ℤ◌, ◌≡◌, arith, refl, inl, inr}
+use Rattle.std.proofs.Common.{pos, ℤ, ◌+ℤ◌, ◌-ℤ◌, ◌≡◌, arith, refl, inl, inr}
 use Rattle.std.proofs.lemmas.Int.{ints}
 use Rattle.plane_spec.specs.declared.Point.{Point}
 use Rattle.plane_spec.specs.declared.Segment.{Segment}
@@ -15,7 +15,6 @@ use Rattle.plane_spec.specs.Segments.{do_touch}
 use Rattle.plane_laws.proofs.Lists.Members.{IsIn, each_fails}
 use Rattle.winding_laws.specs.Windings.{winding}
 use Rattle.winding_laws.proofs.OneEdge.{one_edge, strip}
-use Rattle.winding_laws.proofs.Parity.{none}
 
 -- ---- round the polygon
 

@@ -6,7 +6,7 @@ use borrow.Author.Differences.{down, up}
 use Rattle.int_laws.proofs.Signs.{at_least_times, below_size}
 use Rattle.int_laws.proofs.Ring.{times_zero, diff, product_diff, same_diff, sum_diff, is_diff, times_minus}
 use Rattle.plane_spec.specs.declared.Point.{Point}
-use Rattle.plane_spec.specs.Vectors.{point, cross_of, orient_of, vector}
+use Rattle.plane_spec.specs.Vectors.{cross_of, orient_of, vector}
 use Rattle.plane_laws.proofs.Lists.Members.{IsIn}
 use Rattle.winding_laws.specs.Windings.{near}
 

@@ -3,7 +3,7 @@ use Rattle.std.specs.Prelude.{All, Contains, List, ◌∷◌, Bool, true, ◌||�
 use Rattle.std.proofs.lemmas.List.Elements.{All-cons, All-head, All-tail, All-nil, All-contains_itself}
 use Rattle.std.specs.List.{list_all, list_any, flat_map}
 use Rattle.std.specs.Prelude.{◌++◌}
-use Rattle.std.proofs.Common.{List, ◌≡◌, ◌⊎◌, [], ◌∷◌, Bool, true, inl, inr, subst, refl, ap, map, false, ◌||◌, ◌+◌}
+use Rattle.std.proofs.Common.{List, ◌≡◌, ◌⊎◌, [], ◌∷◌, Bool, true, inl, inr, subst, refl, ap, map, false, ◌||◌}
 use Rattle.std.proofs.Common.{sym, ◌∙◌}
 use Rattle.std.proofs.lemmas.Bool.{and_parts, and_from, or_cases}
 use Rattle.plane_spec.specs.Lists.{pairs, with_each}

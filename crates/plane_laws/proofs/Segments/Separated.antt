@@ -5,14 +5,14 @@
 -- end of
 -- the first on the second one that is strictly on the right, unless it is p. Where both cross properly, the heights of
 -- their common point, as a mean of the ends of either, would have different signs (`crossing_height`).
-use Rattle.std.specs.Prelude.{Bool, true, false, ◌&&◌, ◌||◌, int_lt}
-use Rattle.std.proofs.Common.{◌≡◌, ◌⊎◌, inl, inr, ℤ, pos, neg_ℤ, ◌+ℤ◌, ◌-ℤ◌, ◌*ℤ◌, ◌<ℤ◌, ◌≤ℤ◌, refl, sym, ap, ◌∙◌}
+use Rattle.std.specs.Prelude.{Bool, true, false}
+use Rattle.std.proofs.Common.{◌≡◌, ℤ, pos, ◌+ℤ◌, ◌-ℤ◌, ◌*ℤ◌, ◌<ℤ◌, ◌≤ℤ◌, refl, sym, ap, ◌∙◌}
 use Rattle.std.proofs.Common.{subst, arith}
-use Rattle.std.proofs.lemmas.Int.{ints, by_lt_z}
-use Rattle.std.proofs.lemmas.Bool.{false_from_ne_true, and_parts, or_cases}
-use Rattle.int_laws.proofs.Ring.{times_sum, sum_times, times_minus, minus_times, product_grouped, product_swapped}
+use Rattle.std.proofs.lemmas.Int.{ints}
+use Rattle.std.proofs.lemmas.Bool.{false_from_ne_true, and_parts}
+use Rattle.int_laws.proofs.Ring.{times_sum, sum_times, times_minus, minus_times, product_swapped}
 use Rattle.int_laws.proofs.Ring.{product_moved}
-use Rattle.int_laws.proofs.Signs.{not_negative_product, opposite_product, positive_product, negative_product}
+use Rattle.int_laws.proofs.Signs.{not_negative_product, opposite_product, negative_product}
 use Rattle.int_laws.proofs.Signs.{negative_factors, negative_product_both}
 use Rattle.plane_spec.specs.declared.Point.{Point}
 use Rattle.plane_spec.specs.declared.Segment.{Segment}
@@ -22,7 +22,6 @@ use Rattle.exact_geom.proofs.Orientation.{orient_of_first_exchanged}
 use Rattle.plane_laws.proofs.Tests.{clash}
 use Rattle.plane_laws.proofs.Points.Heights.{height, height_from}
 use Rattle.plane_laws.proofs.Points.Between.{between, height_positive, weak_mean, on_start, on_end, same_from_test}
-use Rattle.int_laws.proofs.Tests.{tested_less}
 use Rattle.plane_laws.proofs.Segments.Touching.{line_x, line_y, changes}
 use Rattle.plane_laws.proofs.Segments.Apart.{all_false, Crossing, rises, falls, crossing}
 
