@@ -1,12 +1,9 @@
 -- The doubled area is four times the sum of the windings of all cells of a grid.
 --
 -- The plane is made so wide and tall that each edge begins and ends on the grid's lines and meets the middle of each
--- row at
--- a whole place. In a row that an edge crosses it passes right of the cells to its left: there are as many as it is
--- far from
--- the left side. Over the rows these numbers are an arithmetic sum, which is half the edge's part of the area and
--- something
--- that depends on its ends alone; along edges that close the latter cancel out.
+-- row at a whole place. In a row that an edge crosses it passes right of the cells to its left: there are as many as
+-- it is far from the left side. Over the rows these numbers are an arithmetic sum, which is half the edge's part of
+-- the area and something that depends on its ends alone; along edges that close the latter cancel out.
 use Rattle.std.specs.Prelude.{List, [], ◌∷◌}
 use Rattle.std.proofs.Common.{ℕ, ℤ, ap, arith, inl, inr, pos, ◌≡◌, ◌≤◌, ◌<◌, ◌+ℤ◌, ◌-ℤ◌, ◌*ℤ◌, ◌<ℤ◌, ◌≤ℤ◌, ◌∙◌, refl}
 use Rattle.std.proofs.Common.{suc, zero, sym, neg_ℤ}
@@ -206,7 +203,8 @@ turned_on_grid left base m n e g =
       b_high = g.a_high;
     }
 
-rows_turned : (left base : ℤ) (m n : ℕ) (e : Segment) → rows left base m n (turned_edge e) ≡ neg_ℤ (rows left base m n e)
+rows_turned : (left base : ℤ) (m n : ℕ) (e : Segment) → rows left base m n (turned_edge e)
+    ≡ neg_ℤ (rows left base m n e)
 rows_turned left base m n e =
     sum_to-same n (row left base m (turned_edge e)) (λ i. neg_ℤ (row left base m e i))
     (λ i k. sum_to-same m (λ j. wind (cell left base i j) (turned_edge e)) (λ j. neg_ℤ (wind (cell left base i j) e))
@@ -341,6 +339,7 @@ falls_on left base m n f g h = h
 
 pub slope_of : (left base : ℤ) (m n : ℕ) (f : Segment) (g : IsOnGrid left base m n f)
     → f.b.x -ℤ f.a.x ≡ g.slope *ℤ (f.b.y -ℤ f.a.y)
-    → (turned_edge f).b.x -ℤ (turned_edge f).a.x ≡ (turned_on_grid left base m n f g).slope *ℤ ((turned_edge f).b.y -ℤ (turned_edge f).a.y)
+    → (turned_edge f).b.x -ℤ (turned_edge f).a.x ≡ (turned_on_grid left base m n f g).slope *ℤ ((turned_edge f).b.y
+    -ℤ (turned_edge f).a.y)
 unfolding turned_on_grid
 slope_of left base m n f g s = back_slope f.a.x f.b.x f.a.y f.b.y g.slope s

@@ -1,4 +1,4 @@
--- TODO Laws
+-- The sides of a simple polygon by its area, as the contract states them.
 use Rattle.std.specs.Prelude.{List, true, [], ◌∷◌, int_lt, false, map}
 use Rattle.std.proofs.Common.{ℤ, ◌≡◌, arith, inl, inr, pos, subst, ◌<ℤ◌}
 use Rattle.std.proofs.lemmas.Int.{ints}

@@ -1,12 +1,9 @@
 -- The area tells how often a simple polygon's edges go round what is left of them: once or not at all.
 --
 -- Along a row that an edge crosses, from the right to the left, the winding is 0 at first. Between cells it changes
--- where an
--- edge lies, which is one edge alone, between the number k of its left and k - 1 of its right. So all windings on the
--- way
--- are 0, k or k - 1; where the first edge is met 0 is k or k - 1, so k is 0 or 1. So all cells have windings 0 and 1,
--- or 0
--- and -1, and not all are 0; and the area is their sum.
+-- where an edge lies, which is one edge alone, between the number k of its left and k - 1 of its right. So all
+-- windings on the way are 0, k or k - 1; where the first edge is met 0 is k or k - 1, so k is 0 or 1. So all cells
+-- have windings 0 and 1, or 0 and -1, and not all are 0; and the area is their sum.
 use Rattle.std.specs.Prelude.{Bool, false, true, ◌&&◌, List, if◌then◌else◌, [], ◌∷◌, unsigned_abs}
 use Rattle.std.specs.Ordering.{int_eq}
 use Rattle.std.specs.List.{list_any}

@@ -1,4 +1,5 @@
--- TODO Rows
+-- Along a row of the grid, from the right to the left: the winding starts at 0 and changes at each wall between the
+-- values of its sides.
 use Rattle.std.specs.Prelude.{int_lt, if◌then◌else◌, List, map, [], ◌∷◌, true, false}
 use Rattle.std.proofs.Common.{ℤ, ◌≡◌, ◌<◌, ◌-ℤ◌, ◌*ℤ◌, ◌<ℤ◌, arith, inl, inr, pos, ℕ, ◌+ℤ◌, ap, neg_ℤ, ◌∙◌, sym}
 use Rattle.std.proofs.Common.{refl, subst, ◌⊎◌}
@@ -271,7 +272,8 @@ off_step f x y (over h k) off = wind_below (point (x -ℤ pos 1) y) f h k ∙ sy
 off_step f x y (rises slope h k s) off = rising_step f slope x y h k s off
 off_step f x y (falls slope h k s) off =
     negated _ _ _ _ (wind_turned (point (x -ℤ pos 1) y) f) (wind_turned (point x y) f)
-    (rising_step (turned_edge f) slope x y h k s (false_from_ne_true _ (λ on. clash off (on_turned (point x y) f.a f.b on))))
+    (rising_step (turned_edge f) slope x y h k s (false_from_ne_true _
+    (λ on. clash off (on_turned (point x y) f.a f.b on))))
 
 -- where no edge has the point on it, the winding stays
 pub free_step : (edges : List Segment) (x y : ℤ) → ((f : Segment) → IsIn edges f → AtRow f y)

@@ -1,9 +1,8 @@
 -- The cone of a corner, and that of the corner turned round: a direction along neither wall is in one of the two.
 --
 -- Left of both walls, left of one, or of none: a direction that isn't in the cone is right of a wall, or in line with
--- one.
--- By the identity of four directions it is then left of both turned walls where these turn left, and else of one of
--- them.
+-- one. By the identity of four directions it is then left of both turned walls where these turn left, and else of one
+-- of them.
 use Rattle.std.specs.Prelude.{false, int_lt, ◌&&◌, ◌||◌, if◌then◌else◌, Bool, true}
 use Rattle.std.proofs.Common.{arith, ℕ, ◌≡◌, ◌+ℤ◌, ◌-ℤ◌, ◌*ℤ◌, pos, ◌<ℤ◌, ap, neg_ℤ, ◌∙◌, inl, inr, sym, ◌⊎◌, ◌≤ℤ◌}
 use Rattle.std.proofs.Common.{refl}

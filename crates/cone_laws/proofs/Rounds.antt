@@ -1,4 +1,4 @@
--- TODO Rounds
+-- The walls and corners of a simple polygon: sound edges, and each corner lies between an edge and the next.
 use Rattle.std.specs.Prelude.{List, false, true, [], ◌∷◌, map, Bool, if◌then◌else◌, not}
 use Rattle.std.proofs.Common.{ap, inl, inr, subst, sym, ℤ, ◌≡◌, ◌⊎◌, ◌∙◌, refl, pos}
 use Rattle.plane_spec.specs.declared.Segment.{Segment}

@@ -1,8 +1,7 @@
 -- Segments with a common point touch: they cross properly, or an end of one lies on the other.
 --
 -- Where no end of the second lies on the first, and the segments don't touch, the common point is on neither side of
--- the
--- first's line that the ends allow: `Shared` goes through the signs.
+-- the first's line that the ends allow: `Shared` goes through the signs.
 use Rattle.std.specs.Prelude.{Bool, true, false, ◌||◌}
 use Rattle.std.proofs.Common.{◌≡◌, ℕ, ◌<◌, ℤ, pos, ◌<ℤ◌, ◌∙◌, sym, subst, refl, arith}
 use Rattle.std.proofs.lemmas.Int.{ints}

@@ -1,4 +1,4 @@
--- TODO Corners
+-- Strips along a wall: which walls at its corners, and which others, they clear.
 use Rattle.std.specs.Prelude.{false}
 use Rattle.std.proofs.Common.{arith, pos, ◌<ℤ◌, ◌≤ℤ◌, ap, ◌≡◌, ◌*ℤ◌, ◌∙◌, neg_ℤ}
 use Rattle.std.proofs.lemmas.Int.{ints, by_lt_z}

@@ -2,10 +2,8 @@
 -- on the left.
 --
 -- Through the middle of an edge, which is on no other edge, a short segment crosses that edge properly and touches no
--- other;
--- so on its right the winding is k - 1. Turned round, edges count the other way, so it is 1 - k there; and from the
--- middle
--- it is carried back to the corner, as on the left.
+-- other; so on its right the winding is k - 1. Turned round, edges count the other way, so it is 1 - k there; and
+-- from the middle it is carried back to the corner, as on the left.
 use Rattle.std.specs.Prelude.{false, List, map, [], ◌∷◌, true, ◌&&◌}
 use Rattle.std.specs.Ordering.{int_eq}
 use Rattle.std.proofs.Common.{◌≡◌, ◌∙◌, inl, inr, pos, ℤ, ◌<ℤ◌, arith, refl, subst, sym, ◌⊎◌, ◌+ℤ◌, ◌-ℤ◌, neg_ℤ, ℕ}
@@ -266,7 +264,8 @@ in_the_middle f apart = (
         omega (arith, ints, first, second, a, b, c)
 
 turned_scaled : (edges : List Segment)
-    → map turned_edge (map (scaled_wall (pos 2) (pos 2)) edges) ≡ map (scaled_wall (pos 2) (pos 2)) (map turned_edge edges)
+    → map turned_edge (map (scaled_wall (pos 2) (pos 2)) edges)
+    ≡ map (scaled_wall (pos 2) (pos 2)) (map turned_edge edges)
 turned_scaled [] = refl
 turned_scaled (f ∷ edges) = ap (λ t. turned_edge (scaled_wall (pos 2) (pos 2) f) ∷ t) (turned_scaled edges)
 

@@ -1,14 +1,11 @@
 -- The left of a polygon's edges: the winding at a corner is that along the edge after it, at the next corner, and
--- into the
--- corner's cone.
+-- into the corner's cone.
 --
 -- At each corner there is a direction left of both walls, whichever way it turns (`inward`). From a point near the
--- corner in
--- it, strips lead to near points in all directions left of both, to near points on the left of the wall after it, and
--- to
--- near points at the next corner. They clear the walls of the two corners since they are left of them, and all others
--- since
--- those are at a distance (`Corners`, `Strips`). What a strip clears doesn't change the winding.
+-- corner in it, strips lead to near points in all directions left of both, to near points on the left of the wall
+-- after it, and to near points at the next corner. They clear the walls of the two corners since they are left of
+-- them, and all others since those are at a distance (`Corners`, `Strips`). What a strip clears doesn't change the
+-- winding.
 use Rattle.std.specs.Prelude.{false, List, true, Bool, ◌&&◌, ◌||◌, if◌then◌else◌}
 use Rattle.std.proofs.Common.{pos, ℤ, ◌<ℤ◌, ap, arith, neg_ℤ, ◌≡◌, ◌+ℤ◌, ◌-ℤ◌, ◌*ℤ◌, ◌∙◌, ◌⊎◌, subst, sym, inl, inr}
 use Rattle.std.proofs.Common.{refl, ◌≤ℤ◌}

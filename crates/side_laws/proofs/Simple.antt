@@ -1,4 +1,5 @@
--- A simple polygon's edges are sound: each has its neighbours, they keep apart, and all have one winding on their left.
+-- A simple polygon's edges are sound: each has its neighbours, they keep apart, and all have one winding on their
+-- left.
 use Rattle.std.specs.Prelude.{false, ◌||◌, List, length, [], ◌∷◌, true, map, Bool, not, ◌&&◌, if◌then◌else◌}
 use Rattle.std.specs.List.{enumerate_from}
 use Rattle.std.proofs.lemmas.Bool.{or_parts, not-true}

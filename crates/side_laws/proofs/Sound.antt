@@ -97,7 +97,8 @@ off_after v z w x inner apart apart_too here short on =
     let turn = product_swapped (dot_of (vector v z) (vector v z)) (height (ray z d) x) in
     let up = positive_factor (height (ray z d) x) (dot_of (vector v z) (vector v z))
     (omega (arith, ints, m, first, second, turn)) k in
-    let back = weak_mean z w x (turned_edge (ray z d)) apart_too (between x z w on) (flipped z) (flipped_w at_w s after) in
+    let back = weak_mean z w x (turned_edge (ray z d)) apart_too (between x z w on) (flipped z)
+    (flipped_w at_w s after) in
     let o = orient_of_first_exchanged z (ray z d).b x in
     absurd (omega (arith, ints, up, back, o))
   where

@@ -42,14 +42,16 @@ corner_turned edges u v z c =
       others = λ g there. let o = source turned_edge edges g there in by_case g o.it o.is (c.others o.it o.is_in);
     }
   where
-    by_case : (g f : Segment) → turned_edge f ≡ g → (f ≡ wall u v) ⊎ ((f ≡ wall v z) ⊎ (is_on_segment v f.a f.b ≡ false))
+    by_case : (g f : Segment) → turned_edge f ≡ g → (f ≡ wall u v)
+        ⊎ ((f ≡ wall v z) ⊎ (is_on_segment v f.a f.b ≡ false))
         → (g ≡ wall z v) ⊎ ((g ≡ wall v u) ⊎ (is_on_segment v g.a g.b ≡ false))
     by_case g f e (inl i) = inr (inl (sym e ∙ ap turned_edge i))
     by_case g f e (inr (inl i)) = inl (sym e ∙ ap turned_edge i)
     by_case g f e (inr (inr off)) =
         inr (inr (subst (λ t. is_on_segment v t.a t.b ≡ false) e (on_either v f.a f.b ∙ off)))
 
-pub alone_turned : (edges : List Segment) (e : Segment) → KeepsApart edges e → KeepsApart (map turned_edge edges) (turned_edge e)
+pub alone_turned : (edges : List Segment) (e : Segment) → KeepsApart edges e
+    → KeepsApart (map turned_edge edges) (turned_edge e)
 alone_turned edges e apart g there a_off b_off =
     let o = source turned_edge edges g there in
     let f = o.it in
@@ -62,7 +64,8 @@ alone_turned edges e apart g there a_off b_off =
 pub distinct_turned : (edges : List Segment) → Distinct edges → Distinct (map turned_edge edges)
 distinct_turned [] d = tt
 distinct_turned (e ∷ edges) d = (
-  λ there. let o = source turned_edge edges (turned_edge e) there in d.0 (subst (λ t. IsIn edges t) (ap turned_edge o.is) o.is_in),
+  λ there. let o = source turned_edge edges (turned_edge e) there in
+      d.0 (subst (λ t. IsIn edges t) (ap turned_edge o.is) o.is_in),
   distinct_turned edges d.1,
 )
 

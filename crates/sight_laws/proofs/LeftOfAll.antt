@@ -1,8 +1,9 @@
 -- What is strictly left of all walls is gone round as often as what lies near a wall on its left.
 --
--- Let x be strictly left of all walls, and v the start of one. All walls have v on them or on their left, so the points
--- of the segment from v to x, but v, are strictly left of all walls too. One of them is as near to v as is wanted, and
--- there the winding is k, the number on the left of the walls. From there to x no wall is touched, so it is k at x.
+-- Let x be strictly left of all walls, and v the start of one. All walls have v on them or on their left, so the
+-- points of the segment from v to x, but v, are strictly left of all walls too. One of them is as near to v as is
+-- wanted, and there the winding is k, the number on the left of the walls. From there to x no wall is touched, so it
+-- is k at x.
 use Rattle.std.specs.Prelude.{false, List, map}
 use Rattle.std.proofs.Common.{◌≡◌, ℕ, ◌+◌, ◌<◌, ℤ, pos, ◌+ℤ◌, ◌-ℤ◌, ◌*ℤ◌, ◌<ℤ◌, ◌≤ℤ◌, sym, ◌∙◌, subst, arith}
 use Rattle.std.proofs.lemmas.Int.{ints}

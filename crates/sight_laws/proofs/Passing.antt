@@ -1,8 +1,7 @@
 -- A simple convex obstacle by itself blocks exactly what passes through it, unless both ends are strictly inside.
 --
 -- What passes through it passes through its inside, and back, since to be inside is to be strictly left of all walls.
--- So
--- this is the law of simple polygons, from whichever end isn't inside.
+-- So this is the law of simple polygons, from whichever end isn't inside.
 use Rattle.std.specs.Prelude.{Bool, true, false, not, ◌&&◌, List, map}
 use Rattle.std.specs.Ordering.{int_eq}
 use Rattle.std.proofs.Common.{◌≡◌, ◌⊎◌, inl, inr, ℕ, ◌-◌, ◌<◌, ℤ, pos, ◌+ℤ◌, ◌*ℤ◌, ◌<ℤ◌, refl, sym, ap, ◌∙◌, subst}

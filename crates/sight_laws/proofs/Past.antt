@@ -1,8 +1,8 @@
 -- Plans of convex polygons: what is seen, by what a segment passes through.
 --
 -- The outer polygon is in nobody's way, and each obstacle is in the way exactly of what passes through it. So in a
--- sound
--- plan a segment passes through no obstacle exactly where all its points are open, which is what sight means there.
+-- sound plan a segment passes through no obstacle exactly where all its points are open, which is what sight means
+-- there.
 use Rattle.std.specs.Prelude.{true, false, not, ◌&&◌, ◌||◌, List, Contains}
 use Rattle.std.specs.List.{list_any, list_all}
 use Rattle.std.proofs.Common.{◌≡◌, ◌⊎◌, inl, inr, ◌↔◌, sym, ap, ◌∙◌, subst}

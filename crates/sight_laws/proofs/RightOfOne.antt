@@ -1,8 +1,8 @@
 -- What is on or right of the line of a wall, and on no wall, isn't gone round at all.
 --
--- From such a point x a ray leads away from the walls, all of which are on or left of the wall's line. It touches none
--- of them: at x there is none, and further on it is strictly right of that line. Far enough along it a point is higher
--- than all walls, or lower, and there the winding is 0. So it is 0 at x. Simplicity isn't needed.
+-- From such a point x a ray leads away from the walls, all of which are on or left of the wall's line. It touches
+-- none of them: at x there is none, and further on it is strictly right of that line. Far enough along it a point is
+-- higher than all walls, or lower, and there the winding is 0. So it is 0 at x. Simplicity isn't needed.
 use Rattle.std.specs.Prelude.{false, List, [], ◌∷◌}
 use Rattle.std.proofs.Common.{◌≡◌, ◌⊎◌, inl, inr, ℕ, ◌+◌, ℤ, pos, neg_ℤ, ◌+ℤ◌, ◌-ℤ◌, ◌*ℤ◌, ◌<ℤ◌, ◌≤ℤ◌, refl, ap}
 use Rattle.std.proofs.Common.{◌∙◌, arith}

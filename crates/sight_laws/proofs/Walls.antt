@@ -1,4 +1,5 @@
--- The walls of a convex polygon: both ends of each wall are on or left of each wall, in a plane as large as is wanted.
+-- The walls of a convex polygon: both ends of each wall are on or left of each wall, in a plane as large as is
+-- wanted.
 use Rattle.std.specs.Prelude.{Bool, true, false, int_lt, List, map, if◌then◌else◌, int_le}
 use Rattle.std.proofs.Common.{◌≡◌, ℕ, ◌<◌, pos, ◌*ℤ◌, ◌≤ℤ◌, ◌<ℤ◌, refl, sym, ap, ◌∙◌, subst, arith}
 use Rattle.std.proofs.lemmas.Int.{ints}

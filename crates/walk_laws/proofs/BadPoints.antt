@@ -1,4 +1,5 @@
--- TODO BadPoints
+-- Where a point of the segment hasn't the winding of the walls' right side, nor that of the segment's start, a wall
+-- or a corner is hit on the way back.
 use Rattle.std.specs.Prelude.{List, Bool, false, true}
 use Rattle.std.specs.List.{list_any}
 use Rattle.std.proofs.Common.{ℕ, ℤ, ◌+◌, ◌<◌, ap, arith, pos, ◌≡◌, ◌+ℤ◌, ◌-ℤ◌, ◌*ℤ◌, ◌∙◌, refl, sym, subst, ◌⊎◌}

@@ -1,11 +1,9 @@
 -- Steps so fine that an edge that touches one has an end of the step on it, and the walk back along them.
 --
 -- The height of the step's point of number i over an edge's line is n (n h + i r), where r is the edge's rise. If r
--- divides
--- n, this is n r (m h' + i) for a whole number, so between two neighbouring steps the sign doesn't change from
--- positive to
--- negative: no step is crossed properly between its ends. If r is 0, the segment is parallel to the edge. And if n is a
--- multiple of the segment's own width or height, a corner on the segment is a step.
+-- divides n, this is n r (m h' + i) for a whole number, so between two neighbouring steps the sign doesn't change
+-- from positive to negative: no step is crossed properly between its ends. If r is 0, the segment is parallel to the
+-- edge. And if n is a multiple of the segment's own width or height, a corner on the segment is a step.
 use Rattle.std.specs.Prelude.{Bool, false, true, ◌&&◌, ◌||◌}
 use Rattle.std.proofs.Common.{ℕ, ℤ, ◌≡◌, ◌+◌, ◌<◌, ap, arith, refl, subst, suc, sym, zero, ◌∙◌, pos, ◌⊎◌, ◌*ℤ◌, inl}
 use Rattle.std.proofs.Common.{inr, neg_ℤ, ◌+ℤ◌, ◌≤ℤ◌, ◌-ℤ◌, ◌<ℤ◌}

@@ -1,9 +1,8 @@
 -- Edges that close go round both ends of a segment equally often, where it touches none of them.
 --
 -- What an edge counts at p, less what it counts at q, is the strip's value at its end, less that at its start
--- (`OneEdge`).
--- Summed over all edges this is how much the strip's value rises along them; and any value of corners rises by nothing
--- along edges that close, since each corner ends as many as it begins.
+-- (`OneEdge`). Summed over all edges this is how much the strip's value rises along them; and any value of corners
+-- rises by nothing along edges that close, since each corner ends as many as it begins.
 use Rattle.std.specs.Prelude.{List, [], ◌∷◌, false}
 use Rattle.std.specs.List.{list_any}
 use Rattle.std.proofs.Common.{pos, ℤ, ◌+ℤ◌, ◌-ℤ◌, ◌≡◌, arith, refl, inl, inr}

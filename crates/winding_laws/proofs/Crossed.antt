@@ -11,7 +11,8 @@ use Rattle.plane_spec.specs.declared.Segment.{Segment}
 use Rattle.plane_spec.specs.Vectors.{orient_of}
 use Rattle.exact_geom.proofs.Orientation.{orient_of_first_exchanged}
 use Rattle.winding_laws.specs.Windings.{wind}
-use Rattle.winding_laws.proofs.OneEdge.{start_identity, end_identity, strip_above, strip_below, strip_mid, wind_above, strip}
+use Rattle.winding_laws.proofs.OneEdge.{start_identity, end_identity, strip_above, strip_below, strip_mid, wind_above}
+use Rattle.winding_laws.proofs.OneEdge.{strip}
 use Rattle.winding_laws.proofs.OneEdge.{wind_across, wind_below, wind_turned, strip_turned}
 use Rattle.plan_spec.specs.Scene.{turned_edge}
 

@@ -1,4 +1,5 @@
--- TODO OneEdge
+-- An edge that doesn't touch the segment from p to q: what it adds to the windings round p and q differs as its ends
+-- do in the strip.
 use Rattle.std.specs.Prelude.{false, Bool, if◌then◌else◌, int_lt, int_le, not, ◌&&◌, true}
 use Rattle.std.proofs.Common.{ap, arith, pos, ℤ, ◌≡◌, ◌+ℤ◌, ◌-ℤ◌, ◌*ℤ◌, ◌∙◌, neg_ℤ, ◌<ℤ◌, ◌≤ℤ◌, refl, sym}
 use Rattle.std.proofs.lemmas.Int.{ints, by_lt_z}

@@ -1,8 +1,7 @@
 -- The parity of the winding is what inside is counted by.
 --
 -- An edge that passes to the right counts 1 upwards and -1 downwards, so the sum and the count differ by twice the
--- number
--- of those that pass downwards. So a winding of 0 is an even count, and one of 1 or -1 an odd one.
+-- number of those that pass downwards. So a winding of 0 is an even count, and one of 1 or -1 an odd one.
 use Rattle.std.specs.Prelude.{Bool, false, true, int_le, int_lt, ◌&&◌, if◌then◌else◌, List, count_by, [], ◌∷◌, not}
 use Rattle.std.proofs.Common.{pos, ℕ, ℤ, ◌≡◌, ◌+◌, ◌+ℤ◌, neg_ℤ, refl, arith, ◌%◌, ◌==◌, inl, inr, ◌⊎◌, ◌-ℤ◌}
 use Rattle.std.proofs.lemmas.Grind.{common_steps}

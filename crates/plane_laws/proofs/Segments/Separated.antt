@@ -2,9 +2,8 @@
 -- alone.
 --
 -- An end of the second segment on the first would have a height that is a mean of two that aren't negative, and an
--- end of
--- the first on the second one that is strictly on the right, unless it is p. Where both cross properly, the heights of
--- their common point, as a mean of the ends of either, would have different signs (`crossing_height`).
+-- end of the first on the second one that is strictly on the right, unless it is p. Where both cross properly, the
+-- heights of their common point, as a mean of the ends of either, would have different signs (`crossing_height`).
 use Rattle.std.specs.Prelude.{Bool, true, false}
 use Rattle.std.proofs.Common.{◌≡◌, ℤ, pos, ◌+ℤ◌, ◌-ℤ◌, ◌*ℤ◌, ◌<ℤ◌, ◌≤ℤ◌, refl, sym, ap, ◌∙◌}
 use Rattle.std.proofs.Common.{subst, arith}

@@ -1,4 +1,5 @@
--- TODO Touching
+-- Two segments whose ends don't lie strictly on one side of the other share a point; whichever way round each of them
+-- is named.
 use Rattle.std.specs.Prelude.{true, ◌&&◌, Bool, false, ◌||◌}
 use Rattle.std.specs.Ordering.{int_eq}
 use Rattle.std.proofs.Common.{arith, pos, ℤ, ◌≡◌, ◌-ℤ◌, ◌*ℤ◌, ◌<ℤ◌, ◌≤ℤ◌, ap, neg_ℤ, sym, ◌+ℤ◌, ◌∙◌, inl, inr, refl}

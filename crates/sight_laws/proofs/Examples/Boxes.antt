@@ -1,6 +1,5 @@
 -- Convex polygons on small figures: what is strictly inside, and what is inside; a repeated point is a wall that
--- nothing is
--- left of, and a notch shows that the polygon must be convex.
+-- nothing is left of, and a notch shows that the polygon must be convex.
 use Rattle.std.specs.Prelude.{◌≡◌, refl, List, [], ◌∷◌, ℤ, pos, true, false}
 use Rattle.std.proofs.Common.{arith}
 use Rattle.plane_spec.specs.declared.Point.{Point}
