@@ -23,7 +23,7 @@ use Rattle.winding_laws.proofs.Closed.{rises_along, AreClosed}
 use Rattle.area_laws.proofs.Cells.{cell, IsOnGrid, place_at, place_between, wind_at, back_slope}
 use Rattle.area_laws.proofs.Sums.{sum_to, count_before, is_before_place, sum_to-same, sum_to-none, sum_to-neg}
 use Rattle.area_laws.proofs.Sums.{sum_to-plus, sum_to-not_negative, sum_to-positive}
-use Rattle.plan_spec.specs.Scene.{turned_edge}
+use Rattle.sight_spec.specs.Scene.{turned_edge}
 
 abbrev pub row : ℤ → ℤ → ℕ → Segment → ℕ → ℤ
 row left base m e i = sum_to m (λ j. wind (cell left base i j) e)

@@ -6,13 +6,13 @@ use Rattle.plane_spec.specs.declared.Point.{Point}
 use Rattle.plane_spec.specs.Polygons.{doubled_area, edges_of, is_simple, is_counterclockwise}
 use Rattle.side_laws.specs.Sides.{GoesRoundOnLeft}
 use Rattle.side_laws.proofs.Sound.{IsSound}
-use Rattle.side_laws.proofs.Law.{simple_from, goes_round}
+use Rattle.side_laws.proofs.Law.{simple_from, has_orientation}
 use Rattle.side_laws.proofs.Tall.{some_tall}
 use Rattle.side_laws.proofs.Simple.{sound}
 use Rattle.side_laws.proofs.Rights.{turned_sound}
 use Rattle.area_laws.proofs.Orientation.{IsTurnedRound}
 use Rattle.area_laws.proofs.Grid.{turned_round}
-use Rattle.plan_spec.specs.Scene.{turned_edge}
+use Rattle.sight_spec.specs.Scene.{turned_edge}
 
 -- what a simple polygon has on the left of its edges
 sides : (points : List Point) → is_simple points ≡ true
@@ -52,20 +52,20 @@ left_of_clockwise points h round = let s = sides points h in by_round s.0 s.1 s.
 
 pub counterclockwise_left : (points : List Point) → is_simple points ≡ true → is_counterclockwise points ≡ true
     → GoesRoundOnLeft (edges_of points) (pos 1)
-counterclockwise_left points h round = goes_round (edges_of points) (pos 1) (left_of_counterclockwise points h round)
+counterclockwise_left points h round = has_orientation (edges_of points) (pos 1) (left_of_counterclockwise points h round)
 
 pub counterclockwise_right : (points : List Point) → is_simple points ≡ true → is_counterclockwise points ≡ true
     → GoesRoundOnLeft (map turned_edge (edges_of points)) (pos 0)
 counterclockwise_right points h round =
-    goes_round (map turned_edge (edges_of points)) (pos 0) (turned_sound (edges_of points) (pos 1)
+    has_orientation (map turned_edge (edges_of points)) (pos 0) (turned_sound (edges_of points) (pos 1)
     (left_of_counterclockwise points h round))
 
 pub clockwise_left : (points : List Point) → is_simple points ≡ true → is_counterclockwise points ≡ false
     → GoesRoundOnLeft (edges_of points) (pos 0)
-clockwise_left points h round = goes_round (edges_of points) (pos 0) (left_of_clockwise points h round)
+clockwise_left points h round = has_orientation (edges_of points) (pos 0) (left_of_clockwise points h round)
 
 pub clockwise_right : (points : List Point) → is_simple points ≡ true → is_counterclockwise points ≡ false
     → GoesRoundOnLeft (map turned_edge (edges_of points)) (pos 1)
 clockwise_right points h round =
-    goes_round (map turned_edge (edges_of points)) (pos 1) (turned_sound (edges_of points) (pos 0)
+    has_orientation (map turned_edge (edges_of points)) (pos 1) (turned_sound (edges_of points) (pos 0)
     (left_of_clockwise points h round))

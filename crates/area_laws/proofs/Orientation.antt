@@ -30,7 +30,7 @@ use Rattle.area_laws.proofs.Rows.{AtRow, falls, over, rises, under, east, one_st
 use Rattle.area_laws.proofs.Rows.{windings_right, free_step, at_row, rising_off}
 use Rattle.area_laws.proofs.Cells.{place_at, place_between, wind_at, IsOnGrid, cell}
 use Rattle.area_laws.proofs.Area.{area_negative, area_positive, falls_on, slope_of, turned_on_grid}
-use Rattle.plan_spec.specs.Scene.{turned_edge}
+use Rattle.sight_spec.specs.Scene.{turned_edge}
 
 -- ---- at an edge
 

@@ -22,7 +22,7 @@ use Rattle.winding_laws.proofs.OneEdge.{wind_above, wind_below, wind_turned}
 use Rattle.winding_laws.proofs.Strips.{HasWinding}
 use Rattle.side_laws.proofs.Sound.{Distinct}
 use Rattle.area_laws.proofs.Cells.{IsOnGrid, place_at, wind_at, orient_sloped, back_slope}
-use Rattle.plan_spec.specs.Scene.{turned_edge}
+use Rattle.sight_spec.specs.Scene.{turned_edge}
 
 -- ---- an edge at a row
 

@@ -23,7 +23,7 @@
 ghost use Rattle.std.specs.Prelude.{List, false, map, pos, true, ◌≡◌};
 ghost use Rattle.plane_spec.specs.declared.Point.{Point};
 ghost use Rattle.plane_spec.specs.Polygons.{edges_of, is_counterclockwise, is_simple};
-ghost use Rattle.plan_spec.specs.Scene.{turned_edge};
+ghost use Rattle.sight_spec.specs.Scene.{turned_edge};
 ghost use Rattle.side_laws.specs.Sides.{GoesRoundOnLeft};
 
 /// Of a simple polygon whose doubled area is positive, the edges go round once on the left of each edge and not at

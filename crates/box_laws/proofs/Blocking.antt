@@ -9,13 +9,13 @@ use Rattle.plane_spec.specs.declared.Point.{Point}
 use Rattle.plane_spec.specs.declared.PlanBox.{PlanBox}
 use Rattle.plane_spec.specs.declared.Segment.{Segment}
 use Rattle.plane_spec.specs.declared.Corner.{Corner}
-use Rattle.plane_spec.specs.Vectors.{vector, same_point, lies_left}
+use Rattle.plane_spec.specs.Vectors.{vector, same_point, is_left_of_line}
 use Rattle.plane_spec.specs.Segments.{is_between, is_on_segment}
 use Rattle.plane_spec.specs.Polygons.{is_on_edge}
 use Rattle.plane_spec.specs.Cones.{is_in_cone}
 use Rattle.plane_spec.specs.Boxes.{does_meet_box}
-use Rattle.plan_spec.specs.Dirty.{meets_if_there}
-use Rattle.plan_spec.specs.Sight.{crosses, is_on_middle, leaves_wall, enters_wall, corner_stops, corner_blocks}
+use Rattle.sight_spec.specs.Dirty.{meets_if_there}
+use Rattle.sight_spec.specs.Sight.{crosses, is_in_interior, starts_into_wall, starts_or_ends_in_wall, corner_stops, corner_blocks}
 use Rattle.box_laws.specs.Boxes.{IsIn, IsHeld, OfEnds}
 use Rattle.box_laws.proofs.Held.{meeting_turned}
 use Rattle.box_laws.proofs.Touching.{on_parts, touching_meets}
@@ -76,11 +76,11 @@ or_cases true b h f g = f refl
 or_cases false b h f g = g h
 
 -- a segment that leads into a wall from its middle begins on it
-leaves_from_it : (p q : Point) (w : Segment) → leaves_wall p q w ≡ true → is_on_edge p w ≡ true
-unfolding leaves_wall
+leaves_from_it : (p q : Point) (w : Segment) → starts_into_wall p q w ≡ true → is_on_edge p w ≡ true
+unfolding starts_into_wall
 leaves_from_it p q w h =
     (and_parts (is_on_edge p w) (not (same_point p w.a) && not (same_point p w.b))
-    (and_parts (is_on_middle p w) (lies_left w.a w.b q) h).0).0
+    (and_parts (is_in_interior p w) (is_left_of_line w.a w.b q) h).0).0
 
 -- a corner that stops a segment lies on it
 stops_on_it : (p q : Point) (c : Corner) → corner_stops p q c ≡ true → is_on_segment c.here p q ≡ true
@@ -97,10 +97,10 @@ crossed_meets p q w (Some area) i h = crossing_meets p q w.a w.b area i.a i.b h
 
 -- a wall that is entered from its middle
 pub entered_meets : (p q : Point) (w : Segment) (area : Option PlanBox) → OfEnds (IsHeld area) w
-    → enters_wall p q w ≡ true → meets_if_there p q area ≡ true
+    → starts_or_ends_in_wall p q w ≡ true → meets_if_there p q area ≡ true
 entered_meets p q w None i h = absurd i.a
 entered_meets p q w (Some area) i h =
-    or_cases (leaves_wall p q w) (leaves_wall q p w) h
+    or_cases (starts_into_wall p q w) (starts_into_wall q p w) h
     (λ m. first_meets p q area (on_edge_in p w area i.a i.b (leaves_from_it p q w m)))
     (λ m. second_meets p q area (on_edge_in q w area i.a i.b (leaves_from_it q p w m)))
 

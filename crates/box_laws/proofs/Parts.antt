@@ -9,8 +9,8 @@ use Rattle.plane_spec.specs.declared.Corner.{Corner}
 use Rattle.plane_spec.specs.declared.Orientation.TheVariants.{Counterclockwise, Clockwise}
 use Rattle.plane_spec.specs.Polygons.{edges_to, edges_of}
 use Rattle.plane_spec.specs.Cones.{corner}
-use Rattle.plan_spec.specs.Scene.{turned_edge, goes_round, walls_round, corners_after, last_edge, corners_along}
-use Rattle.plan_spec.specs.Scene.{turned_corner, corners_round, walls_of_obstacle, corners_of_obstacle}
+use Rattle.sight_spec.specs.Scene.{turned_edge, has_orientation, oriented_walls, corners_after, last_edge, corners_along}
+use Rattle.sight_spec.specs.Scene.{turned_corner, oriented_corners, walls_of_obstacle, corners_of_obstacle}
 use Rattle.plan_spec.specs.Plan.{Obstacle}
 use Rattle.box_laws.specs.Boxes.{OfEnds, OfCorner}
 
@@ -44,9 +44,9 @@ turned_held P edges all =
 
 -- what holds of all points holds of the ends of all walls round them
 pub walls_held : (P : Point → Type 0) (way : Orientation) (points : List Point) → All P points
-    → All (OfEnds P) (walls_round way points)
-unfolding walls_round
-walls_held P way points all = by_way (goes_round way points)
+    → All (OfEnds P) (oriented_walls way points)
+unfolding oriented_walls
+walls_held P way points all = by_way (has_orientation way points)
   where
     by_way : (t : Bool) → All (OfEnds P) (cond t (edges_of points) (map turned_edge (edges_of points)))
     by_way true = edges_held P points all
@@ -74,9 +74,9 @@ corners_along_held P (e ∷ edges) all = corners_after_held P (last_edge e edges
 
 -- what holds of all points holds of all corners at them
 pub corners_held : (P : Point → Type 0) (way : Orientation) (points : List Point) → All P points
-    → All (OfCorner P) (corners_round way points)
-unfolding corners_round
-corners_held P way points all = by_way (goes_round way points)
+    → All (OfCorner P) (oriented_corners way points)
+unfolding oriented_corners
+corners_held P way points all = by_way (has_orientation way points)
   where
     held : All (OfCorner P) (corners_along (edges_of points))
     held = corners_along_held P (edges_of points) (edges_held P points all)
@@ -95,8 +95,8 @@ obstacle_corners_held P o all = corners_held P Counterclockwise o.points all
 
 -- its walls
 abbrev pub outer_walls : List Point → List Segment
-outer_walls points = walls_round Clockwise points
+outer_walls points = oriented_walls Clockwise points
 
 -- and its corners
 abbrev pub outer_corners : List Point → List Corner
-outer_corners points = corners_round Clockwise points
+outer_corners points = oriented_corners Clockwise points

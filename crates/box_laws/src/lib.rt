@@ -26,7 +26,7 @@ ghost use Rattle.plane_spec.specs.declared.Point.{Point};
 ghost use Rattle.plane_spec.specs.declared.Segment.{Segment};
 ghost use Rattle.plane_spec.specs.Boxes.{box_of_points, does_meet_box};
 ghost use Rattle.plane_spec.specs.Polygons.{is_inside};
-ghost use Rattle.plan_spec.specs.Sight.{corner_blocks, crosses, enters_wall};
+ghost use Rattle.sight_spec.specs.Sight.{corner_blocks, crosses, starts_or_ends_in_wall};
 ghost use Rattle.box_laws.specs.Boxes.{IsIn, OfCorner, OfEnds};
 
 /// The least box of a list of points holds each of them.
@@ -51,7 +51,7 @@ pub fn a_segment_that_ends_in_a_box_meets_it()
 pub fn what_blocks_a_segment_in_a_box_makes_it_meet_the_box()
     ensures crossed { (p q : Point) (w : Segment) (area : PlanBox) → OfEnds (IsIn area) w → crosses p q w ≡ true
         → does_meet_box p q area ≡ true }
-    ensures entered { (p q : Point) (w : Segment) (area : PlanBox) → OfEnds (IsIn area) w → enters_wall p q w ≡ true
+    ensures entered { (p q : Point) (w : Segment) (area : PlanBox) → OfEnds (IsIn area) w → starts_or_ends_in_wall p q w ≡ true
         → does_meet_box p q area ≡ true }
     ensures corner { (p q : Point) (c : Corner) (area : PlanBox) → OfCorner (IsIn area) c → corner_blocks p q c ≡ true
         → does_meet_box p q area ≡ true }

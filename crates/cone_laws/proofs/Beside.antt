@@ -18,7 +18,7 @@ use Rattle.side_laws.proofs.Turned.{turned_along, corner_turned}
 use Rattle.side_laws.proofs.Rights.{turned_sound}
 use Rattle.cone_laws.proofs.Cones.{in_turned_cone}
 use Rattle.cone_laws.specs.Off.{LeadsOff}
-use Rattle.plan_spec.specs.Scene.{turned_edge}
+use Rattle.sight_spec.specs.Scene.{turned_edge}
 
 turned_twice : (edges : List Segment) → map turned_edge (map turned_edge edges) ≡ edges
 turned_twice [] = refl

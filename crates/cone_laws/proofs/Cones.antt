@@ -15,7 +15,7 @@ use Rattle.int_laws.proofs.Signs.{positive_product, square, negative_product, ne
 use Rattle.int_laws.proofs.Signs.{not_negative_product, not_positive_tested, opposite_product, positive_factor}
 use Rattle.int_laws.proofs.Signs.{positive_tested, tested_not_positive}
 use Rattle.plane_spec.specs.declared.Point.{Point}
-use Rattle.plane_spec.specs.Vectors.{cross_of, dot_of, is_left, lies_left, orient_of, vector}
+use Rattle.plane_spec.specs.Vectors.{cross_of, dot_of, turns_left, is_left_of_line, orient_of, vector}
 use Rattle.plane_spec.specs.Cones.{corner, is_in_cone}
 use Rattle.exact_geom.proofs.Orientation.{orient_of_ends_exchanged}
 use Rattle.plane_laws.proofs.Points.Heights.{along}
@@ -171,30 +171,30 @@ in_turned_cone u v z d w uw zw off h =
     (cross_of (vector v z) d)) else (int_lt (pos 0) (cross_of (vector u v) d) || int_lt (pos 0)
     (cross_of (vector v z) d))) (turn_is u v z) ∙ h))
   where
-    back_z : cross_of (vector v z) d <ℤ pos 0 → is_left (vector z v) d ≡ true
+    back_z : cross_of (vector v z) d <ℤ pos 0 → turns_left (vector z v) d ≡ true
     back_z k = let e = cross_back d v z in positive_tested (cross_of (vector z v) d) (omega (arith, ints, e, k))
 
-    back_u : cross_of (vector u v) d <ℤ pos 0 → is_left (vector v u) d ≡ true
+    back_u : cross_of (vector u v) d <ℤ pos 0 → turns_left (vector v u) d ≡ true
     back_u k = let e = cross_back d u v in positive_tested (cross_of (vector v u) d) (omega (arith, ints, e, k))
 
     by_sides : ((cross_of (vector u v) (vector v z) <ℤ pos 0)
         × ((cross_of (vector u v) d <ℤ pos 0) × (cross_of (vector v z) d <ℤ pos 0)))
         ⊎ ((pos 0 ≤ℤ cross_of (vector u v) (vector v z))
         × ((cross_of (vector u v) d <ℤ pos 0) ⊎ (cross_of (vector v z) d <ℤ pos 0)))
-        → (if lies_left z v u then (is_left (vector z v) d && is_left (vector v u) d)
-        else (is_left (vector z v) d || is_left (vector v u) d)) ≡ true
+        → (if is_left_of_line z v u then (turns_left (vector z v) d && turns_left (vector v u) d)
+        else (turns_left (vector z v) d || turns_left (vector v u) d)) ≡ true
     by_sides (inl k) =
         let t = turn_is u v z in let o = orient_of_ends_exchanged u v z in let s = k.0 in
-        ap (λ t. if t then (is_left (vector z v) d && is_left (vector v u) d) else
-        (is_left (vector z v) d || is_left (vector v u) d))
+        ap (λ t. if t then (turns_left (vector z v) d && turns_left (vector v u) d) else
+        (turns_left (vector z v) d || turns_left (vector v u) d))
         (positive_tested (orient_of z v u) (omega (arith, ints, t, o, s)))
         ∙ and_from _ _ (back_z k.1.1) (back_u k.1.0)
     by_sides (inr k) =
         let t = turn_is u v z in let o = orient_of_ends_exchanged u v z in let s = k.0 in
-        ap (λ t. if t then (is_left (vector z v) d && is_left (vector v u) d) else
-        (is_left (vector z v) d || is_left (vector v u) d))
+        ap (λ t. if t then (turns_left (vector z v) d && turns_left (vector v u) d) else
+        (turns_left (vector z v) d || turns_left (vector v u) d))
         (not_positive_tested (orient_of z v u) (omega (arith, ints, t, o, s)))
-        ∙ or_either (is_left (vector z v) d) (is_left (vector v u) d)
+        ∙ or_either (turns_left (vector z v) d) (turns_left (vector v u) d)
         (elim k.1 [ inl b ↦ inr (back_u b) | inr a ↦ inl (back_z a) ])
       where
         or_either : (s t : Bool) → (s ≡ true) ⊎ (t ≡ true) → (s || t) ≡ true

@@ -8,7 +8,7 @@ use Rattle.plane_spec.specs.declared.Orientation.TheVariants.{Counterclockwise, 
 use Rattle.plane_spec.specs.Vectors.{vector}
 use Rattle.plane_spec.specs.Polygons.{is_simple}
 use Rattle.plane_spec.specs.Cones.{corner, is_in_cone}
-use Rattle.plan_spec.specs.Scene.{walls_round, corners_round}
+use Rattle.sight_spec.specs.Scene.{oriented_walls, oriented_corners}
 use Rattle.plane_laws.proofs.Lists.Members.{from_contains}
 use Rattle.winding_laws.specs.Windings.{GoesRoundNear}
 use Rattle.winding_laws.proofs.Strips.{HasWinding}
@@ -64,23 +64,23 @@ out_of points walls corners k round c d there off h =
         (subst (λ t. is_in_cone t d ≡ false) (sym o.is) h)
 
 pub obstacle_into : (points : List Point) (c : Corner) (d : Point) → is_simple points ≡ true
-    → Contains (corners_round Counterclockwise points) c
-    → is_in_cone c d ≡ true → GoesRoundNear (walls_round Counterclockwise points) c.here d (pos 1)
+    → Contains (oriented_corners Counterclockwise points) c
+    → is_in_cone c d ≡ true → GoesRoundNear (oriented_walls Counterclockwise points) c.here d (pos 1)
 obstacle_into points c d simple there h =
-    into points (walls_round Counterclockwise points) (corners_round Counterclockwise points) (pos 1)
+    into points (oriented_walls Counterclockwise points) (oriented_corners Counterclockwise points) (pos 1)
     (obstacle_round points simple) c d there h
 
 pub obstacle_out : (points : List Point) (c : Corner) (d : Point) → is_simple points ≡ true
-    → Contains (corners_round Counterclockwise points) c
+    → Contains (oriented_corners Counterclockwise points) c
     → LeadsOff (vector c.prev c.here) (vector c.here c.next) d → is_in_cone c d ≡ false
-    → GoesRoundNear (walls_round Counterclockwise points) c.here d (pos 0)
+    → GoesRoundNear (oriented_walls Counterclockwise points) c.here d (pos 0)
 obstacle_out points c d simple there off h =
-    out_of points (walls_round Counterclockwise points) (corners_round Counterclockwise points) (pos 1)
+    out_of points (oriented_walls Counterclockwise points) (oriented_corners Counterclockwise points) (pos 1)
     (obstacle_round points simple) c d there off h
 
 pub outer_into : (points : List Point) (c : Corner) (d : Point) → is_simple points ≡ true
-    → Contains (corners_round Clockwise points) c
-    → is_in_cone c d ≡ true → GoesRoundNear (walls_round Clockwise points) c.here d (pos 0)
+    → Contains (oriented_corners Clockwise points) c
+    → is_in_cone c d ≡ true → GoesRoundNear (oriented_walls Clockwise points) c.here d (pos 0)
 outer_into points c d simple there h =
-    into points (walls_round Clockwise points) (corners_round Clockwise points) (pos 0)
+    into points (oriented_walls Clockwise points) (oriented_corners Clockwise points) (pos 0)
     (outer_round points simple) c d there h

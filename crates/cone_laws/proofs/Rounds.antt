@@ -8,8 +8,8 @@ use Rattle.plane_spec.specs.declared.Orientation.TheVariants.{Counterclockwise, 
 use Rattle.plane_spec.specs.Segments.{is_on_segment}
 use Rattle.plane_spec.specs.Cones.{corner}
 use Rattle.plane_spec.specs.Polygons.{edges_to, edges_of, is_counterclockwise, is_simple}
-use Rattle.plan_spec.specs.Scene.{corners_after, last_edge, corners_along, turned_corner, turned_edge, corners_round}
-use Rattle.plan_spec.specs.Scene.{walls_round}
+use Rattle.sight_spec.specs.Scene.{corners_after, last_edge, corners_along, turned_corner, turned_edge, oriented_corners}
+use Rattle.sight_spec.specs.Scene.{oriented_walls}
 use Rattle.plane_laws.proofs.Lists.Members.{IsIn, mapped, source}
 use Rattle.plane_laws.proofs.Tests.{clash}
 use Rattle.plane_laws.proofs.Points.Between.{on_end, same_ends, on_start}
@@ -218,8 +218,8 @@ turned_about points k s =
 
 -- of an obstacle
 pub obstacle_round : (points : List Point) → is_simple points ≡ true
-    → IsRound points (walls_round Counterclockwise points) (corners_round Counterclockwise points) (pos 1)
-unfolding walls_round corners_round
+    → IsRound points (oriented_walls Counterclockwise points) (oriented_corners Counterclockwise points) (pos 1)
+unfolding oriented_walls oriented_corners
 obstacle_round points h =
     by_turn (is_counterclockwise points) (left_of_counterclockwise points h)
     (λ e. turned_sound (edges_of points) (pos 0) (left_of_clockwise points h e)) refl
@@ -234,8 +234,8 @@ obstacle_round points h =
 
 -- of the outer polygon
 pub outer_round : (points : List Point) → is_simple points ≡ true
-    → IsRound points (walls_round Clockwise points) (corners_round Clockwise points) (pos 0)
-unfolding walls_round corners_round
+    → IsRound points (oriented_walls Clockwise points) (oriented_corners Clockwise points) (pos 0)
+unfolding oriented_walls oriented_corners
 outer_round points h =
     by_turn (is_counterclockwise points) (λ e. turned_sound (edges_of points) (pos 1)
     (left_of_counterclockwise points h e)) (left_of_clockwise points h) refl

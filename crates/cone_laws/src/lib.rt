@@ -17,7 +17,7 @@
 //!
 //! | law | what it says | breaks if .. changes |
 //! |---|---|---|
-//! | [`the_cone_of_a_corner_leads_to_the_left`] | into the cone of an obstacle's corner the walls go round once, out of it not at all; of the outer polygon's, not at all | `is_in_cone`, `corners_round`, `walls_round`, `is_simple` |
+//! | [`the_cone_of_a_corner_leads_to_the_left`] | into the cone of an obstacle's corner the walls go round once, out of it not at all; of the outer polygon's, not at all | `is_in_cone`, `oriented_corners`, `oriented_walls`, `is_simple` |
 //!
 //! Proofs cite `proofs/Rounds`, a simple polygon's walls and corners, and `proofs/Beside`, both sides of a wall and a
 //! cone.
@@ -30,7 +30,7 @@ ghost use Rattle.plane_spec.specs.declared.Orientation.TheVariants.{Counterclock
 ghost use Rattle.plane_spec.specs.Cones.{is_in_cone};
 ghost use Rattle.plane_spec.specs.Polygons.{is_simple};
 ghost use Rattle.plane_spec.specs.Vectors.{vector};
-ghost use Rattle.plan_spec.specs.Scene.{corners_round, walls_round};
+ghost use Rattle.sight_spec.specs.Scene.{oriented_corners, oriented_walls};
 ghost use Rattle.winding_laws.specs.Windings.{GoesRoundNear};
 ghost use Rattle.cone_laws.specs.Off.{LeadsOff};
 
@@ -39,12 +39,12 @@ ghost use Rattle.cone_laws.specs.Off.{LeadsOff};
 /// polygon, in a direction of its cone, the outer polygon's walls don't go round: there is what is outside.
 pub fn the_cone_of_a_corner_leads_to_the_left()
     ensures into { (points : List Point) (c : Corner) (d : Point) → is_simple points ≡ true
-        → Contains (corners_round Counterclockwise points) c → is_in_cone c d ≡ true
-        → GoesRoundNear (walls_round Counterclockwise points) c.here d (pos 1) }
+        → Contains (oriented_corners Counterclockwise points) c → is_in_cone c d ≡ true
+        → GoesRoundNear (oriented_walls Counterclockwise points) c.here d (pos 1) }
     ensures out_of { (points : List Point) (c : Corner) (d : Point) → is_simple points ≡ true
-        → Contains (corners_round Counterclockwise points) c → LeadsOff (vector c.prev c.here) (vector c.here c.next) d
-        → is_in_cone c d ≡ false → GoesRoundNear (walls_round Counterclockwise points) c.here d (pos 0) }
+        → Contains (oriented_corners Counterclockwise points) c → LeadsOff (vector c.prev c.here) (vector c.here c.next) d
+        → is_in_cone c d ≡ false → GoesRoundNear (oriented_walls Counterclockwise points) c.here d (pos 0) }
     ensures into_outer { (points : List Point) (c : Corner) (d : Point) → is_simple points ≡ true
-        → Contains (corners_round Clockwise points) c → is_in_cone c d ≡ true
-        → GoesRoundNear (walls_round Clockwise points) c.here d (pos 0) }
+        → Contains (oriented_corners Clockwise points) c → is_in_cone c d ≡ true
+        → GoesRoundNear (oriented_walls Clockwise points) c.here d (pos 0) }
 {}

@@ -1,55 +1,55 @@
 -- What holds when a run ends, by the bytes that were read of the plan's file.
 use Rattle.std.proofs.Common.{◌≡◌, ◌⊎◌, ◌<◌, ◌≤◌, ◌+◌, ◌++◌, ℕ, List, [], length, length-append, Option, Some, None, Ok, Err, IfSome, option_and_then, inl, inr, refl, ap, sym, subst, ◌∙◌, arith}
-use Rattle.dm_io.specs.Streams.{IsFront, PutsFront, with_end}
+use Rattle.dm_io.specs.Streams.{IsPrefix, WritesPrefix, appended_to}
 use Rattle.plan_spec.specs.Plan.{Plan}
-use Rattle.report_spec.specs.declared.replies.Reason.{Reason}
+use Rattle.report_spec.specs.declared.reason.Reason.{Reason}
 use Rattle.report_spec.specs.PlanFile.{PlanFound, plan_in_file}
 use Rattle.depthmap_app.specs.Outputs.{HoldsPlan, IsAnswered, IsAnsweredInPart, IsRefused, WritesAtMost, output_of}
 use Rattle.depthmap_app.specs.Statuses.{Counts, Faults, IsComplete, SaysWhy, TakesPlan, TakesTooMany, Writes}
-use Rattle.depthmap_app.specs.declared.plan_file.TheConstants.{MOST_PLAN_BYTES}
+use Rattle.depthmap_app.specs.declared.plan_file.TheConstants.{MAX_PLAN_BYTES}
 use Rattle.depthmap_app.specs.declared.status.Status.{Status}
 use Rattle.depthmap_app.specs.declared.status.Status.TheVariants.{Done, DoneWithRefusals, BadWords, BadPlan, ReadFault, WriteFault, NoMemory, TooLong}
 
 -- ---- the bytes of the file were read whole, and `bytes` are the same
 
 pub record IsRead (known : Option (List ℕ)) (bytes : List ℕ) : Type 0 where
-  pub all : IfSome known (λ told. bytes ≡ told)
-  pub short : length bytes ≤ MOST_PLAN_BYTES
+  pub all : IfSome known (λ known. bytes ≡ known)
+  pub short : length bytes ≤ MAX_PLAN_BYTES
 
-pub read-same : (known : Option (List ℕ)) (items bytes : List ℕ) → bytes ≡ items → IfSome known (λ told. items ≡ told)
-    → length items ≤ MOST_PLAN_BYTES → IsRead known bytes
+pub read-same : (known : Option (List ℕ)) (items bytes : List ℕ) → bytes ≡ items → IfSome known (λ known. items ≡ known)
+    → length items ≤ MAX_PLAN_BYTES → IsRead known bytes
 read-same known items bytes same all short = subst (IsRead known) (sym same) (record { all = all; short = short })
 
 -- what holds of the bytes that were read holds of those that are known
 of-known : (known : Option (List ℕ)) (bytes : List ℕ) (P : List ℕ → Type 0) → IsRead known bytes → P bytes
     → IfSome known P
 of-known None bytes P read p = tt
-of-known (Some told) bytes P read p = subst P (read.all) p
+of-known (Some known) bytes P read p = subst P (read.all) p
 
 pub refused-known : (known : Option (List ℕ)) (bytes : List ℕ) (line : ℕ) (reason : Reason) → IsRead known bytes
-    → plan_in_file bytes ≡ Err (line, reason) → IfSome known (λ told. IsRefused told line reason)
+    → plan_in_file bytes ≡ Err (line, reason) → IfSome known (λ known. IsRefused known line reason)
 refused-known known bytes line reason read refused =
-    of-known known bytes (λ told. IsRefused told line reason) read (record { short = read.short; refused = refused })
+    of-known known bytes (λ known. IsRefused known line reason) read (record { short = read.short; refused = refused })
 
 pub answered-known : (known before after : Option (List ℕ)) (bytes : List ℕ) (plan : Plan) → IsRead known bytes
-    → plan_in_file bytes ≡ Ok plan → after ≡ with_end before (output_of plan)
-    → IfSome known (λ told. IsAnswered told before after)
+    → plan_in_file bytes ≡ Ok plan → after ≡ appended_to before (output_of plan)
+    → IfSome known (λ known. IsAnswered known before after)
 answered-known known before after bytes plan read held written =
-    of-known known bytes (λ told. IsAnswered told before after) read
+    of-known known bytes (λ known. IsAnswered known before after) read
     (plan, record { short = read.short; held = held }, written)
 
 pub part-known : (known before after : Option (List ℕ)) (bytes : List ℕ) (plan : Plan) → IsRead known bytes
-    → plan_in_file bytes ≡ Ok plan → PutsFront before after (output_of plan)
-    → IfSome known (λ told. IsAnsweredInPart told before after)
+    → plan_in_file bytes ≡ Ok plan → WritesPrefix before after (output_of plan)
+    → IfSome known (λ known. IsAnsweredInPart known before after)
 part-known known before after bytes plan read held written =
-    of-known known bytes (λ told. IsAnsweredInPart told before after) read
+    of-known known bytes (λ known. IsAnsweredInPart known before after) read
     (plan, record { short = read.short; held = held }, written)
 
 pub at_most-known : (known before after : Option (List ℕ)) (bytes : List ℕ) (plan : Plan) → IsRead known bytes
-    → plan_in_file bytes ≡ Ok plan → PutsFront before after (output_of plan)
-    → IfSome known (λ told. WritesAtMost (plan_in_file told) before after)
+    → plan_in_file bytes ≡ Ok plan → WritesPrefix before after (output_of plan)
+    → IfSome known (λ known. WritesAtMost (plan_in_file known) before after)
 at_most-known known before after bytes plan read held written =
-    of-known known bytes (λ told. WritesAtMost (plan_in_file told) before after) read
+    of-known known bytes (λ known. WritesAtMost (plan_in_file known) before after) read
     (subst (λ found. WritesAtMost found before after) (sym held) written)
 
 -- ---- where the bytes hold a plan and nothing failed
@@ -61,15 +61,15 @@ no_plan plan line reason found e f = none (sym e ∙ f)
     none : ◌≡◌ {A = PlanFound} (Ok plan) (Err (line, reason)) → ⊥
     none e = cc
 
-same_bytes : (told bytes : List ℕ) → Some told ≡ Some bytes → told ≡ bytes
-same_bytes told bytes e = cc
+same_bytes : (known bytes : List ℕ) → Some known ≡ Some bytes → known ≡ bytes
+same_bytes known bytes e = cc
 
-some_bytes : (told : List ℕ) → Some told ≡ None → ⊥
-some_bytes told e = cc
+some_bytes : (known : List ℕ) → Some known ≡ None → ⊥
+some_bytes known e = cc
 
 -- a file of which one byte too many was taken is too long
 too_long : (bytes : List ℕ) (left : Option (List ℕ)) → TakesTooMany (Some bytes) left
-    → length bytes ≤ MOST_PLAN_BYTES → ⊥
+    → length bytes ≤ MAX_PLAN_BYTES → ⊥
 too_long bytes None takes short = some_bytes bytes takes.2
 too_long bytes (Some rest) takes short =
     omega (arith, short, takes.1, ap length (same_bytes bytes (takes.0 ++ rest) takes.2), length-append takes.0 rest)

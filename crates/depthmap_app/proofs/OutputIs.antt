@@ -2,8 +2,8 @@
 use Rattle.std.proofs.Common.{◌≡◌, ℕ, List, ap, ◌∙◌}
 use Rattle.plane_spec.specs.declared.Point.{Point}
 use Rattle.plan_spec.specs.Plan.{Plan}
-use Rattle.plan_spec.specs.Scene.{Scene, scene_of}
-use Rattle.plan_spec.specs.Grid.{open_points}
+use Rattle.sight_spec.specs.Scene.{Scene, scene_of}
+use Rattle.sight_spec.specs.Visibility.{open_points}
 use Rattle.depthmap_app.specs.Edges.{edges_among, edges_bytes}
 use Rattle.depthmap_app.specs.Outputs.{output_of}
 use Rattle.depthmap_app.proofs.OpenPairs.{edges_of_open_points}

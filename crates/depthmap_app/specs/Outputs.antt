@@ -1,24 +1,24 @@
 -- What the bytes of a plan file hold, and what is written for it.
 use Rattle.std.specs.Prelude.{◌≡◌, ◌≤◌, ℕ, List, length, Option, Result, Ok, Err}
-use Rattle.dm_io.specs.Streams.{PutsFront, with_end}
+use Rattle.dm_io.specs.Streams.{WritesPrefix, appended_to}
 use Rattle.plan_spec.specs.Plan.{Plan}
-use Rattle.report_spec.specs.declared.replies.Form.TheVariants.{Text}
-use Rattle.report_spec.specs.declared.replies.Reason.{Reason}
+use Rattle.options_spec.specs.declared.options.Form.TheVariants.{Text}
+use Rattle.report_spec.specs.declared.reason.Reason.{Reason}
 use Rattle.report_spec.specs.PlanFile.{PlanFound, plan_in_file}
 use Rattle.report_spec.specs.Records.{records_bytes}
 use Rattle.report_spec.specs.Tables.{edges_table_of}
-use Rattle.depthmap_app.specs.declared.plan_file.TheConstants.{MOST_PLAN_BYTES}
+use Rattle.depthmap_app.specs.declared.plan_file.TheConstants.{MAX_PLAN_BYTES}
 
 -- ---- the bytes of a plan file
 
 -- they keep the limit of a plan file and hold an accepted plan
 pub record HoldsPlan (bytes : List ℕ) (plan : Plan) : Type 0 where
-  pub short : length bytes ≤ MOST_PLAN_BYTES
+  pub short : length bytes ≤ MAX_PLAN_BYTES
   pub held : plan_in_file bytes ≡ Ok plan
 
 -- they keep the limit and hold no accepted plan: this line is at fault, for this reason
 pub record IsRefused (bytes : List ℕ) (line : ℕ) (reason : Reason) : Type 0 where
-  pub short : length bytes ≤ MOST_PLAN_BYTES
+  pub short : length bytes ≤ MAX_PLAN_BYTES
   pub refused : plan_in_file bytes ≡ Err (line, reason)
 
 -- ---- what was written
@@ -29,13 +29,13 @@ output_of plan = records_bytes Text (edges_table_of plan)
 
 -- the bytes hold a plan, and its whole output was written
 abbrev pub IsAnswered : List ℕ → Option (List ℕ) → Option (List ℕ) → Type 0
-IsAnswered bytes before after = (plan : Plan) × HoldsPlan bytes plan × (after ≡ with_end before (output_of plan))
+IsAnswered bytes before after = (plan : Plan) × HoldsPlan bytes plan × (after ≡ appended_to before (output_of plan))
 
 -- the bytes hold a plan, and a front of its output was written
 abbrev pub IsAnsweredInPart : List ℕ → Option (List ℕ) → Option (List ℕ) → Type 0
-IsAnsweredInPart bytes before after = (plan : Plan) × HoldsPlan bytes plan × PutsFront before after (output_of plan)
+IsAnsweredInPart bytes before after = (plan : Plan) × HoldsPlan bytes plan × WritesPrefix before after (output_of plan)
 
 -- a front of the output was written where there is a plan, and nothing where there is none
 abbrev pub WritesAtMost : PlanFound → Option (List ℕ) → Option (List ℕ) → Type 0
-WritesAtMost (Ok plan) before after = PutsFront before after (output_of plan)
+WritesAtMost (Ok plan) before after = WritesPrefix before after (output_of plan)
 WritesAtMost (Err fault) before after = after ≡ before

@@ -1,12 +1,12 @@
 -- What each status says: of the output, of the plan's file, of standard error, and of the faults.
 use Rattle.std.specs.Prelude.{◌≡◌, ◌⊎◌, ◌<◌, ◌+◌, ℕ, List, [], length, Option, Some, None, IfSome}
-use Rattle.report_spec.specs.declared.replies.Reason.{Reason}
+use Rattle.report_spec.specs.declared.reason.Reason.{Reason}
 use Rattle.report_spec.specs.Messages.{usage_message, plan_message, read_message, write_message, memory_message, length_message}
 use Rattle.report_spec.specs.PlanFile.{plan_in_file}
-use Rattle.dm_io.specs.Streams.{IsFront, IsIfTold, PutsFront, TakesAtMost, with_end}
+use Rattle.dm_io.specs.Streams.{IsPrefix, IsIfKnown, WritesPrefix, TakesAtMost, appended_to}
 use Rattle.plan_spec.specs.Plan.{Plan}
 use Rattle.depthmap_app.specs.Outputs.{HoldsPlan, IsAnswered, IsAnsweredInPart, IsRefused, WritesAtMost}
-use Rattle.depthmap_app.specs.declared.plan_file.TheConstants.{MOST_PLAN_BYTES}
+use Rattle.depthmap_app.specs.declared.plan_file.TheConstants.{MAX_PLAN_BYTES}
 use Rattle.depthmap_app.specs.declared.status.Status.{Status}
 use Rattle.depthmap_app.specs.declared.status.Status.TheVariants.{Done, DoneWithRefusals, BadWords, BadPlan, ReadFault, WriteFault, NoMemory, TooLong}
 
@@ -38,17 +38,17 @@ Writes known before after TooLong = after ≡ before
 
 -- exactly one byte more than the limit was taken of what is known, and this is left
 abbrev pub TakesTooMany : Option (List ℕ) → Option (List ℕ) → Type 0
-TakesTooMany known left = (front : List ℕ) × (length front ≡ MOST_PLAN_BYTES + 1) × IsFront known front left
+TakesTooMany known left = (prefix : List ℕ) × (length prefix ≡ MAX_PLAN_BYTES + 1) × IsPrefix known prefix left
 
 -- how much was taken, by what is known of the file's bytes and by what was left before and is left after
 abbrev pub TakesPlan : Option (List ℕ) → Option (List ℕ) → Option (List ℕ) → Status → Type 0
-TakesPlan known before left Done = IsIfTold [] left
-TakesPlan known before left DoneWithRefusals = IsIfTold [] left
+TakesPlan known before left Done = IsIfKnown [] left
+TakesPlan known before left DoneWithRefusals = IsIfKnown [] left
 TakesPlan known before left BadWords = left ≡ before
-TakesPlan known before left BadPlan = IsIfTold [] left
-TakesPlan known before left ReadFault = (left ≡ before) ⊎ TakesAtMost MOST_PLAN_BYTES known left
-TakesPlan known before left WriteFault = IsIfTold [] left
-TakesPlan known before left NoMemory = (left ≡ before) ⊎ TakesAtMost (MOST_PLAN_BYTES + 1) known left
+TakesPlan known before left BadPlan = IsIfKnown [] left
+TakesPlan known before left ReadFault = (left ≡ before) ⊎ TakesAtMost MAX_PLAN_BYTES known left
+TakesPlan known before left WriteFault = IsIfKnown [] left
+TakesPlan known before left NoMemory = (left ≡ before) ⊎ TakesAtMost (MAX_PLAN_BYTES + 1) known left
 TakesPlan known before left TooLong = TakesTooMany known left
 
 -- ---- standard error, by what was written there and how often it had failed, each before and after
@@ -60,8 +60,8 @@ IsSilent before after faults faults_after = (after ≡ before) × (faults_after 
 -- the message was written; or a front of it, and then the count of faults rose
 abbrev pub IsSaid : Option (List ℕ) → Option (List ℕ) → ℕ → ℕ → List ℕ → Type 0
 IsSaid before after faults faults_after message =
-    ((after ≡ with_end before message) × (faults_after ≡ faults))
-    ⊎ (PutsFront before after message × (faults < faults_after))
+    ((after ≡ appended_to before message) × (faults_after ≡ faults))
+    ⊎ (WritesPrefix before after message × (faults < faults_after))
 
 -- the bytes that are known hold no plan, and the line at fault was said with its reason
 abbrev pub SaysWhy : Option (List ℕ) → Option (List ℕ) → Option (List ℕ) → ℕ → ℕ → Type 0

@@ -14,5 +14,5 @@ abbrev pub file_in : List (String Global) → Option (List ℕ)
 file_in words = name_in (map string_bytes words)
 
 -- the bytes of the file that the words name, where they are told
-abbrev pub told_file : List (String Global) → (List ℕ → Option (List ℕ)) → Option (List ℕ)
-told_file words holds = option_and_then holds (file_in words)
+abbrev pub known_file : List (String Global) → (List ℕ → Option (List ℕ)) → Option (List ℕ)
+known_file words holds = option_and_then holds (file_in words)

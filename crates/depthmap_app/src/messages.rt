@@ -4,14 +4,15 @@ ghost use Rattle.std.specs.Prelude.{◌≡◌, ◌⊎◌, ◌<◌, ◌-◌, ◌^
 ghost use Rattle.std.specs.List.{flat_map, join_with_byte};
 ghost use Rattle.report_spec.specs.Messages.{plan_message};
 ghost use Rattle.report_spec.specs.Replies.{reason_words, text_why_word, why_words};
-ghost use Rattle.dm_io.specs.Streams.{PutsFront, Rose, with_end};
+ghost use Rattle.dm_io.specs.Streams.{WritesPrefix, Rose, appended_to};
 ghost use Rattle.depthmap_app.specs.Statuses.{IsSaid, IsSilent, message_of};
 
 use crate::status::Status;
 use dm_io::{PutFailed, Sink, put_all};
 use itoa::Buffer;
 use plan_spec::{Limit, Why};
-use report_spec::{Reason, TextWhy};
+use grammar_spec::TextWhy;
+use report_spec::Reason;
 
 /// How the command is used.
 const USAGE: &[u8] =
@@ -19,10 +20,10 @@ const USAGE: &[u8] =
 
 /// Writes all the pieces, one after the other. After `PutFailed` a front of them was written. Takes no memory.
 fn put_pieces<E: Sink>(err: &mut E, pieces: &[&[u8]]) -> Result<(), PutFailed>
-    ensures all { OnOk result (E.written err.new ≡ with_end (E.written err.old) (flat_map (λ piece. piece.now) pieces.now)) }
-    ensures quiet { OnOk result (E.faults err.new ≡ E.faults err.old) }
-    ensures front { OnErr result (PutsFront (E.written err.old) (E.written err.new) (flat_map (λ piece. piece.now) pieces.now)) }
-    ensures cause { OnErr result (Rose (E.faults err.old) (E.faults err.new)) }
+    ensures all { OnOk result (E.written err.new ≡ appended_to (E.written err.old) (flat_map (λ piece. piece.now) pieces.now)) }
+    ensures faults_stay { OnOk result (E.faults err.new ≡ E.faults err.old) }
+    ensures prefix { OnErr result (WritesPrefix (E.written err.old) (E.written err.new) (flat_map (λ piece. piece.now) pieces.now)) }
+    ensures only_on_fault { OnErr result (Rose (E.faults err.old) (E.faults err.new)) }
 {
     for piece in pieces {
         put_all(err, piece)?;
@@ -90,10 +91,10 @@ fn reason_text(reason: &Reason) -> (&str, &[u8])
 
 /// Writes the line of a refused plan.
 fn put_plan_message<E: Sink>(err: &mut E, line: u32, reason: &Reason) -> Result<(), PutFailed>
-    ensures all { OnOk result (E.written err.new ≡ with_end (E.written err.old) (plan_message line reason.now)) }
-    ensures quiet { OnOk result (E.faults err.new ≡ E.faults err.old) }
-    ensures front { OnErr result (PutsFront (E.written err.old) (E.written err.new) (plan_message line reason.now)) }
-    ensures cause { OnErr result (Rose (E.faults err.old) (E.faults err.new)) }
+    ensures all { OnOk result (E.written err.new ≡ appended_to (E.written err.old) (plan_message line reason.now)) }
+    ensures faults_stay { OnOk result (E.faults err.new ≡ E.faults err.old) }
+    ensures prefix { OnErr result (WritesPrefix (E.written err.old) (E.written err.new) (plan_message line reason.now)) }
+    ensures only_on_fault { OnErr result (Rose (E.faults err.old) (E.faults err.new)) }
 {
     let mut digits = Buffer::new();
     let (words, name) = reason_text(reason);

@@ -1,7 +1,7 @@
 //! The output for a plan.
 
 ghost use Rattle.std.specs.Prelude.{◌≡◌, ◌⊎◌, IsErrOf, OnErr, OnOk};
-ghost use Rattle.dm_io.specs.Streams.{PutsFront, Rose, with_end};
+ghost use Rattle.dm_io.specs.Streams.{WritesPrefix, Rose, appended_to};
 ghost use Rattle.depthmap_app.specs.Outputs.{output_of};
 
 use crate::edges::put_edges;
@@ -22,10 +22,10 @@ pub enum PrintFault {
 
 /// Prints the output for a plan: the table of its edges.
 pub fn put_output<O: Sink>(alloc: Global, out: &mut O, plan: &Plan) -> Result<(), PrintFault>
-    ensures all { OnOk result (O.written out.new ≡ with_end (O.written out.old) (output_of plan.now)) }
-    ensures front { OnErr result (PutsFront (O.written out.old) (O.written out.new) (output_of plan.now)) }
-    ensures cause { IsErrOf result PrintFault.Write → Rose (O.faults out.old) (O.faults out.new) }
-    ensures quiet { IsErrOf result PrintFault.Write ⊎ (O.faults out.new ≡ O.faults out.old) }
+    ensures all { OnOk result (O.written out.new ≡ appended_to (O.written out.old) (output_of plan.now)) }
+    ensures prefix { OnErr result (WritesPrefix (O.written out.old) (O.written out.new) (output_of plan.now)) }
+    ensures only_on_fault { IsErrOf result PrintFault.Write → Rose (O.faults out.old) (O.faults out.new) }
+    ensures faults_stay { IsErrOf result PrintFault.Write ⊎ (O.faults out.new ≡ O.faults out.old) }
 {
     let Ok(scene) = scene_of(alloc, plan) else {
         return Err(PrintFault::NoMemory);

@@ -2,7 +2,7 @@
 
 ghost use Rattle.std.specs.Prelude.{◌≡◌, ◌⊎◌, ◌↔◌, ◌<◌, ◌-◌, ◌^◌, ℕ, IfSome, IsTrue};
 ghost use Rattle.depthmap_app.specs.Statuses.{Counts, IsComplete, IsSilent, Says, SaysWhy, TakesPlan, Writes, faults};
-ghost use Rattle.depthmap_app.specs.Words.{file_in, told_file};
+ghost use Rattle.depthmap_app.specs.Words.{file_in, known_file};
 
 use crate::messages::{say, say_why};
 use crate::output::{PrintFault, put_output};
@@ -80,9 +80,9 @@ fn answer<F: Files, O: Sink, E: Sink>(
     requires out_below { O.faults out.old < 2 ^ 64 - 1 }
     requires err_below { E.faults err.old < 2 ^ 64 - 1 }
     requires allowed { IfSome (file_in words.now) (λ name. IsTrue (F.allows files.old name)) }
-    ensures writes { Writes (told_file words.now (F.holds files.old)) (O.written out.old) (O.written out.new) result }
-    ensures takes { TakesPlan (told_file words.now (F.holds files.old)) (F.left files.old) (F.left files.new) result }
-    ensures why { result ≡ Status.BadPlan → SaysWhy (told_file words.now (F.holds files.old)) (E.written err.old) (E.written err.new) (E.faults err.old) (E.faults err.new) }
+    ensures writes { Writes (known_file words.now (F.holds files.old)) (O.written out.old) (O.written out.new) result }
+    ensures takes { TakesPlan (known_file words.now (F.holds files.old)) (F.left files.old) (F.left files.new) result }
+    ensures why { result ≡ Status.BadPlan → SaysWhy (known_file words.now (F.holds files.old)) (E.written err.old) (E.written err.new) (E.faults err.old) (E.faults err.new) }
     ensures silent { (result ≡ Status.BadPlan) ⊎ IsSilent (E.written err.old) (E.written err.new) (E.faults err.old) (E.faults err.new) }
     ensures counts { (script : ℕ) → Counts (faults (F.faults files.old) script (O.faults out.old)) (faults (F.faults files.new) script (O.faults out.new)) result }
     ensures bad_words { (result ≡ Status.BadWords) ↔ (file_in words.now ≡ None) }
@@ -117,14 +117,14 @@ pub fn run<F: Files, S: Source, O: Sink, E: Sink, G: Gate>(
     requires allowed { IfSome (file_in words.now) (λ name. IsTrue (F.allows files.old name)) }
 
     // What each status says of the output, of the plan's file, of standard error, and of the faults.
-    ensures writes { Writes (told_file words.now (F.holds files.old)) (O.written out.old) (O.written out.new) result }
-    ensures takes { TakesPlan (told_file words.now (F.holds files.old)) (F.left files.old) (F.left files.new) result }
-    ensures says { Says (told_file words.now (F.holds files.old)) (E.written err.old) (E.written err.new) (E.faults err.old) (E.faults err.new) result }
+    ensures writes { Writes (known_file words.now (F.holds files.old)) (O.written out.old) (O.written out.new) result }
+    ensures takes { TakesPlan (known_file words.now (F.holds files.old)) (F.left files.old) (F.left files.new) result }
+    ensures says { Says (known_file words.now (F.holds files.old)) (E.written err.old) (E.written err.new) (E.faults err.old) (E.faults err.new) result }
     ensures counts { Counts (faults (F.faults files.old) (S.faults script.old) (O.faults out.old)) (faults (F.faults files.new) (S.faults script.new) (O.faults out.new)) result }
 
     // When the words are at fault, and when all is done.
     ensures bad_words { (result ≡ Status.BadWords) ↔ (file_in words.now ≡ None) }
-    ensures complete { IfSome (told_file words.now (F.holds files.old)) (λ bytes. IsComplete bytes (faults (F.faults files.old) (S.faults script.old) (O.faults out.old)) (faults (F.faults files.new) (S.faults script.new) (O.faults out.new)) result) }
+    ensures complete { IfSome (known_file words.now (F.holds files.old)) (λ bytes. IsComplete bytes (faults (F.faults files.old) (S.faults script.old) (O.faults out.old)) (faults (F.faults files.new) (S.faults script.new) (O.faults out.new)) result) }
 
     // The script stays as it is.
     ensures script { S.left script.new ≡ S.left script.old }

@@ -22,18 +22,18 @@ use Rattle.plane_spec.specs.declared.Orientation.TheVariants.{Counterclockwise}
 use Rattle.plane_spec.specs.Vectors.{same_point}
 use Rattle.plane_spec.specs.Boxes.{box_of_points}
 use Rattle.plane_spec.specs.Polygons.{edges_to, edges_of, has_repeat, is_nothing}
-use Rattle.plan_spec.specs.declared.kinds.Screen.{Screen}
-use Rattle.plan_spec.specs.declared.changes.Changed.{Changed}
-use Rattle.plan_spec.specs.declared.changes.Edit.{Edit}
-use Rattle.plan_spec.specs.declared.changes.Edit.TheVariants.{Add, Remove, Move, AddScreen, RemoveScreen, AddRoute}
-use Rattle.plan_spec.specs.declared.changes.Edit.TheVariants.{RemoveRoute}
+use Rattle.plan_spec.specs.declared.item.Screen.{Screen}
+use Rattle.plan_spec.specs.declared.edit.Changed.{Changed}
+use Rattle.plan_spec.specs.declared.edit.Edit.{Edit}
+use Rattle.plan_spec.specs.declared.edit.Edit.TheVariants.{Add, Remove, Move, AddScreen, RemoveScreen, AddRoute}
+use Rattle.plan_spec.specs.declared.edit.Edit.TheVariants.{RemoveRoute}
 use Rattle.plan_spec.specs.Plan.{Obstacle, Plan, obstacle, screen, with_item, is_obstacle_named}
-use Rattle.plan_spec.specs.Accepted.{is_polygon, is_line, lies_within, line_lies_within, is_sound}
-use Rattle.plan_spec.specs.Scene.{Scene, scene_of, goes_round, turned_corner, corners_after, last_edge, corners_along}
-use Rattle.plan_spec.specs.Scene.{corners_round, corners_of_obstacle, ends_of_screen}
-use Rattle.plan_spec.specs.Edits.{changed_boxes, edited, points_named, shifted_point, shifted_obstacle, why_not_edit}
-use Rattle.plan_spec.specs.Axial.{AxialLine, here_of}
-use Rattle.plan_spec.specs.Dirty.{meets_if_there, is_dirty_pair, stood, is_dirty_to_another, is_dirty_corner}
+use Rattle.plan_spec.specs.Accepted.{is_polygon, is_proper_segment, lies_within, segment_lies_within, is_sound}
+use Rattle.sight_spec.specs.Scene.{Scene, scene_of, has_orientation, turned_corner, corners_after, last_edge, corners_along}
+use Rattle.sight_spec.specs.Scene.{oriented_corners, corners_of_obstacle, ends_of_screen}
+use Rattle.plan_spec.specs.Edits.{changed_boxes, plan_after_edit, points_named, shifted_point, shifted_obstacle, why_not_edit}
+use Rattle.sight_spec.specs.Axial.{AxialLine, here_of}
+use Rattle.sight_spec.specs.Dirty.{meets_if_there, is_dirty_pair, was_corner, is_dirty_to_another, is_dirty_corner}
 use Rattle.plan_laws.proofs.Parts.{parts_of_sound, parts_of_obstacles, parts_of_screens}
 use Rattle.plan_laws.proofs.Edits.Refused.{edited_is_sound}
 use Rattle.list_laws.proofs.Tests.{list_any_map, list_all_middle, filter_none}
@@ -87,8 +87,8 @@ each_is_dirty boxes box b old new lines c d ac ad differ ic id p = by (same_poin
         through ax ay bx by px py f g = grind (arith, ints)
 
     by : (s t : Bool) → same_point c p ≡ s → same_point d p ≡ t → is_dirty_corner boxes old lines new p ≡ true
-    by false t f g = second (not (stood old p)) (is_dirty_to_another boxes new p) _ (other c ac ic f)
-    by true false f g = second (not (stood old p)) (is_dirty_to_another boxes new p) _ (other d ad id g)
+    by false t f g = second (not (was_corner old p)) (is_dirty_to_another boxes new p) _ (other c ac ic f)
+    by true false f g = second (not (was_corner old p)) (is_dirty_to_another boxes new p) _ (other d ad id g)
     by true true f g = absurd (clash f g)
 
 -- the first two points differ
@@ -161,8 +161,8 @@ places_along (p ∷ q ∷ points) =
 
 -- the corners of an obstacle stand at its points, whichever way round these go
 places_of_obstacle : (o : Obstacle) → places (corners_of_obstacle o) ≡ o.points
-unfolding corners_round
-places_of_obstacle o = by (goes_round Counterclockwise o.points)
+unfolding oriented_corners
+places_of_obstacle o = by (has_orientation Counterclockwise o.points)
   where
     by : (t : Bool)
         → places (cond t (corners_along (edges_of o.points)) (map turned_corner (corners_along (edges_of o.points))))
@@ -211,7 +211,7 @@ two_of_polygon (p ∷ q ∷ points) h = record {
     first_fails false b h = refl
 
 -- the ends of a screen of a sound plan differ
-two_of_line : (from to : Point) → is_line from to ≡ true → HasTwo (from ∷ to ∷ [])
+two_of_line : (from to : Point) → is_proper_segment from to ≡ true → HasTwo (from ∷ to ∷ [])
 two_of_line from to h = record { one = from; other = to; rest = []; is = refl; differ = by (same_point from to) refl }
   where
     by : (t : Bool) → same_point from to ≡ t → t ≡ false
@@ -264,11 +264,11 @@ screen_is_dirty boxes box b old lines new sound before s e all =
     (two_of_line s.from s.to line) all
   where
     sound_by_itself : Screen → Bool
-    sound_by_itself x = is_line x.from x.to && line_lies_within new.outer x.from x.to
+    sound_by_itself x = is_proper_segment x.from x.to && segment_lies_within new.outer x.from x.to
 
-    line : is_line s.from s.to ≡ true
+    line : is_proper_segment s.from s.to ≡ true
     line =
-        (and_parts (is_line s.from s.to) (line_lies_within new.outer s.from s.to)
+        (and_parts (is_proper_segment s.from s.to) (segment_lies_within new.outer s.from s.to)
         (and_parts (sound_by_itself s) (list_all sound_by_itself (before ++ []))
         (sym (list_all_middle sound_by_itself before s [])
         ∙ ap (list_all sound_by_itself) (sym e)
@@ -276,16 +276,16 @@ screen_is_dirty boxes box b old lines new sound before s e all =
 
 -- what is moved has its points moved, where it is the only one of its name
 moved_is_dirty : (plan : Plan) (name : List ℕ) (dx dy : ℤ) (box : PlanBox) → is_sound plan ≡ true
-    → is_sound (edited plan (Move name dx dy)) ≡ true → (boxes : Changed) → boxes.second ≡ Some box
+    → is_sound (plan_after_edit plan (Move name dx dy)) ≡ true → (boxes : Changed) → boxes.second ≡ Some box
     → box_of_points (map (shifted_point dx dy) (points_named name plan.obstacles)) ≡ Some box
     → (old : Scene) (lines : List AxialLine) (p : Point)
-    → is_dirty_corner boxes old lines (scene_of (edited plan (Move name dx dy))) p ≡ true
-unfolding edited
+    → is_dirty_corner boxes old lines (scene_of (plan_after_edit plan (Move name dx dy))) p ≡ true
+unfolding plan_after_edit
 moved_is_dirty plan name dx dy box sound sound_after boxes b e old lines =
     by (list_any (is_obstacle_named name) plan.obstacles) refl
   where
     after : Plan
-    after = edited plan (Move name dx dy)
+    after = plan_after_edit plan (Move name dx dy)
 
     nothing : {P : Type 0} → None ≡ Some box → P
     nothing e = cc
@@ -310,10 +310,10 @@ moved_is_dirty plan name dx dy box sound sound_after boxes b e old lines =
 pub dirty_after_addition : (plan : Plan) (edit : Edit) (box : PlanBox) → is_sound plan ≡ true
     → why_not_edit plan edit ≡ None → (boxes : Changed) → boxes.second ≡ Some box
     → (changed_boxes plan edit).second ≡ Some box → (old : Scene) (lines : List AxialLine) (p : Point)
-    → is_dirty_corner boxes old lines (scene_of (edited plan edit)) p ≡ true
-unfolding changed_boxes edited with_item
+    → is_dirty_corner boxes old lines (scene_of (plan_after_edit plan edit)) p ≡ true
+unfolding changed_boxes plan_after_edit with_item
 dirty_after_addition plan (Add name points) box sound accepted boxes b e old lines =
-    obstacle_is_dirty boxes box b old lines (edited plan (Add name points))
+    obstacle_is_dirty boxes box b old lines (plan_after_edit plan (Add name points))
     (edited_is_sound plan (Add name points) sound accepted) plan.obstacles (obstacle name points) [] refl
     (held_in points box e)
 dirty_after_addition plan (Remove name) box sound accepted boxes b e old lines = λ p. cc
@@ -321,7 +321,7 @@ dirty_after_addition plan (Move name dx dy) box sound accepted boxes b e old lin
     moved_is_dirty plan name dx dy box sound (edited_is_sound plan (Move name dx dy) sound accepted) boxes b e old
     lines
 dirty_after_addition plan (AddScreen name from to) box sound accepted boxes b e old lines =
-    screen_is_dirty boxes box b old lines (edited plan (AddScreen name from to))
+    screen_is_dirty boxes box b old lines (plan_after_edit plan (AddScreen name from to))
     (edited_is_sound plan (AddScreen name from to) sound accepted) plan.screens (screen name from to) refl
     (held_in (from ∷ to ∷ []) box e)
 dirty_after_addition plan (RemoveScreen name) box sound accepted boxes b e old lines = λ p. cc

@@ -17,16 +17,16 @@ use Rattle.std.proofs.lemmas.List.Elements.{All-nil, All-cons, All-head, All-tai
 use Rattle.plane_spec.specs.declared.Point.{Point}
 use Rattle.plane_spec.specs.declared.PlanBox.{PlanBox}
 use Rattle.plane_spec.specs.declared.Corner.{Corner}
-use Rattle.plane_spec.specs.Boxes.{box_of_points, does_meet_box, do_overlap, reaches_line}
-use Rattle.plan_spec.specs.declared.kinds.Screen.{Screen}
-use Rattle.plan_spec.specs.declared.changes.Edit.{Edit}
-use Rattle.plan_spec.specs.declared.changes.Edit.TheVariants.{Add, Remove, Move, AddScreen, RemoveScreen, AddRoute}
-use Rattle.plan_spec.specs.declared.changes.Edit.TheVariants.{RemoveRoute}
+use Rattle.plane_spec.specs.Boxes.{box_of_points, does_meet_box, do_intervals_overlap, reaches_line}
+use Rattle.plan_spec.specs.declared.item.Screen.{Screen}
+use Rattle.plan_spec.specs.declared.edit.Edit.{Edit}
+use Rattle.plan_spec.specs.declared.edit.Edit.TheVariants.{Add, Remove, Move, AddScreen, RemoveScreen, AddRoute}
+use Rattle.plan_spec.specs.declared.edit.Edit.TheVariants.{RemoveRoute}
 use Rattle.plan_spec.specs.Plan.{Obstacle, Plan, with_obstacles, with_screens, is_obstacle_named, is_screen_named}
 use Rattle.plan_spec.specs.Accepted.{is_sound}
-use Rattle.plan_spec.specs.Scene.{scene_of, corners_of_obstacle, ends_of_screen}
-use Rattle.plan_spec.specs.Edits.{changed, changed_boxes, edited, points_named, ends_named, without_obstacle}
-use Rattle.plan_spec.specs.Axial.{here_of}
+use Rattle.sight_spec.specs.Scene.{scene_of, corners_of_obstacle, ends_of_screen}
+use Rattle.plan_spec.specs.Edits.{changed, changed_boxes, plan_after_edit, points_named, ends_named, without_obstacle}
+use Rattle.sight_spec.specs.Axial.{here_of}
 use Rattle.plan_laws.proofs.Names.{obstacle_alone, screen_alone}
 use Rattle.list_laws.proofs.Tests.{filter_none}
 use Rattle.list_laws.proofs.Elements.{each_part, second_part, where_passed}
@@ -53,14 +53,14 @@ all_meet box (p ∷ points) all =
 in_where_met : (box : PlanBox) (p : Point) → does_meet_box p p box ≡ true → IsIn box p
 unfolding does_meet_box
 in_where_met box p h =
-    let across = do_overlap p.x p.x box.low.x box.high.x in
-    let up = do_overlap p.y p.y box.low.y box.high.y in
+    let across = do_intervals_overlap p.x p.x box.low.x box.high.x in
+    let up = do_intervals_overlap p.y p.y box.low.y box.high.y in
     let both = and_parts across up (and_parts (across && up) (reaches_line p p box) h).0 in
     let x = between p.x box.low.x box.high.x both.0 in
     let y = between p.y box.low.y box.high.y both.1 in
     record { left = x.0; right = x.1; below = y.0; above = y.1 }
   where
-    between : (z low high : ℤ) → do_overlap z z low high ≡ true → (low ≤ℤ z) × (z ≤ℤ high)
+    between : (z low high : ℤ) → do_intervals_overlap z z low high ≡ true → (low ≤ℤ z) × (z ≤ℤ high)
     between z low high h = (grind (arith, ints), grind (arith, ints))
 
 -- points that meet a box are in it
@@ -166,8 +166,8 @@ closes_screen box plan name held s =
 
 -- the corners that a removal takes out of a sound plan stand together, kind by kind of edit
 pub removal_closes_up : (plan : Plan) (edit : Edit) (box : PlanBox) → is_sound plan ≡ true
-    → changed_boxes plan edit ≡ removal_of box → ClosesUp box (scene_of plan) (scene_of (edited plan edit))
-unfolding edited changed_boxes
+    → changed_boxes plan edit ≡ removal_of box → ClosesUp box (scene_of plan) (scene_of (plan_after_edit plan edit))
+unfolding plan_after_edit changed_boxes
 removal_closes_up plan (Add name points) box sound h = no_box box _ refl h
 removal_closes_up plan (Remove name) box sound h = by (list_any (is_obstacle_named name) plan.obstacles) refl
   where

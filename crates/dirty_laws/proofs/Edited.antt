@@ -2,10 +2,10 @@
 use Rattle.std.proofs.Common.{◌≡◌, ◌∙◌, true, List, Some, sym, ap}
 use Rattle.plane_spec.specs.declared.Point.{Point}
 use Rattle.plane_spec.specs.declared.PlanBox.{PlanBox}
-use Rattle.plan_spec.specs.declared.changes.Changed.{Changed}
-use Rattle.plan_spec.specs.Scene.{Scene}
-use Rattle.plan_spec.specs.Axial.{AxialLine}
-use Rattle.plan_spec.specs.Dirty.{is_dirty_corner}
+use Rattle.plan_spec.specs.declared.edit.Changed.{Changed}
+use Rattle.sight_spec.specs.Scene.{Scene}
+use Rattle.sight_spec.specs.Axial.{AxialLine}
+use Rattle.sight_spec.specs.Dirty.{is_dirty_corner}
 use Rattle.dirty_laws.specs.Scenes.{removal_of, IsEdited, IsRemoved, IsWithout, ClosesUp}
 use Rattle.dirty_laws.proofs.Removal.{removal_is_without}
 use Rattle.dirty_laws.proofs.ClosingUp.{removal_closes_up}

@@ -14,15 +14,15 @@ use Rattle.std.proofs.lemmas.List.Elements.{All-nil, All-cons, All-head, All-tai
 use Rattle.plane_spec.specs.declared.Point.{Point}
 use Rattle.plane_spec.specs.declared.PlanBox.{PlanBox}
 use Rattle.plane_spec.specs.Boxes.{box_of_points}
-use Rattle.plan_spec.specs.declared.kinds.Screen.{Screen}
-use Rattle.plan_spec.specs.declared.changes.Edit.{Edit}
-use Rattle.plan_spec.specs.declared.changes.Edit.TheVariants.{Add, Remove, Move, AddScreen, RemoveScreen, AddRoute}
-use Rattle.plan_spec.specs.declared.changes.Edit.TheVariants.{RemoveRoute}
-use Rattle.plan_spec.specs.declared.changes.Changed.{Changed}
+use Rattle.plan_spec.specs.declared.item.Screen.{Screen}
+use Rattle.plan_spec.specs.declared.edit.Edit.{Edit}
+use Rattle.plan_spec.specs.declared.edit.Edit.TheVariants.{Add, Remove, Move, AddScreen, RemoveScreen, AddRoute}
+use Rattle.plan_spec.specs.declared.edit.Edit.TheVariants.{RemoveRoute}
+use Rattle.plan_spec.specs.declared.edit.Changed.{Changed}
 use Rattle.plan_spec.specs.Plan.{Obstacle, Plan, with_obstacles, with_screens, is_obstacle_named, is_screen_named}
-use Rattle.plan_spec.specs.Scene.{scene_of, walls_of_obstacle, corners_of_obstacle}
-use Rattle.plan_spec.specs.Scene.{segment_of_screen, lone_end, ends_of_screen}
-use Rattle.plan_spec.specs.Edits.{changed_boxes, edited, points_named, ends_named, without_obstacle}
+use Rattle.sight_spec.specs.Scene.{scene_of, walls_of_obstacle, corners_of_obstacle}
+use Rattle.sight_spec.specs.Scene.{segment_of_screen, screen_corner, ends_of_screen}
+use Rattle.plan_spec.specs.Edits.{changed_boxes, plan_after_edit, points_named, ends_named, without_obstacle}
 use Rattle.plan_spec.specs.Edits.{shifted_point}
 use Rattle.box_laws.specs.Boxes.{IsIn, OfEnds, OfCorner}
 use Rattle.box_laws.proofs.Held.{held_in}
@@ -80,8 +80,8 @@ ends_held box s h = record {
 pub end_corners_held : (box : PlanBox) (s : Screen) → EndsIn box s → All (OfCorner (IsIn box)) (ends_of_screen s)
 end_corners_held box s h =
     let both = ends_held box s h in
-    All-cons (OfCorner (IsIn box)) (lone_end s.from) (lone_end s.to ∷ []) both.a
-    (All-cons (OfCorner (IsIn box)) (lone_end s.to) [] both.b (All-nil (OfCorner (IsIn box))))
+    All-cons (OfCorner (IsIn box)) (screen_corner s.from) (screen_corner s.to ∷ []) both.a
+    (All-cons (OfCorner (IsIn box)) (screen_corner s.to) [] both.b (All-nil (OfCorner (IsIn box))))
 
 -- the scene without some screens in the box
 without_screens : (box : PlanBox) (plan : Plan) (screens : List Screen) → Dropped (EndsIn box) plan.screens screens
@@ -121,8 +121,8 @@ moved_box box dx dy (p ∷ points) h k = cc
 
 -- what a removal takes out lies in its box, kind by kind of edit
 pub removal_is_without : (plan : Plan) (edit : Edit) (box : PlanBox) → changed_boxes plan edit ≡ removal_of box
-    → IsWithout box (scene_of plan) (scene_of (edited plan edit))
-unfolding edited changed_boxes
+    → IsWithout box (scene_of plan) (scene_of (plan_after_edit plan edit))
+unfolding plan_after_edit changed_boxes
 removal_is_without plan (Add name points) box h = no_box box _ refl h
 removal_is_without plan (Remove name) box h =
     without_obstacles box plan (without_obstacle name plan.obstacles)

@@ -17,15 +17,16 @@ use Rattle.std.proofs.lemmas.Bool.{or_parts}
 use Rattle.std.proofs.lemmas.List.Elements.{All-nil, All-cons, All-head, All-tail, All-append, All-weaker}
 use Rattle.plane_spec.specs.declared.Point.{Point}
 use Rattle.plane_spec.specs.Lists.{pairs, with_each, numbered_pairs}
-use Rattle.plan_spec.specs.declared.changes.Changed.{Changed}
-use Rattle.plan_spec.specs.declared.changes.Edit.{Edit}
-use Rattle.plan_spec.specs.declared.changes.Edit.TheVariants.{Add, Remove, Move, AddScreen, RemoveScreen, AddRoute}
-use Rattle.plan_spec.specs.declared.changes.Edit.TheVariants.{RemoveRoute}
+use Rattle.plan_spec.specs.declared.edit.Changed.{Changed}
+use Rattle.plan_spec.specs.declared.edit.Edit.{Edit}
+use Rattle.plan_spec.specs.declared.edit.Edit.TheVariants.{Add, Remove, Move, AddScreen, RemoveScreen, AddRoute}
+use Rattle.plan_spec.specs.declared.edit.Edit.TheVariants.{RemoveRoute}
 use Rattle.plan_spec.specs.Plan.{Plan, with_item}
-use Rattle.plan_spec.specs.Edits.{changed_boxes, edited}
-use Rattle.plan_spec.specs.Dirty.{is_dirty_pair, is_dirty_with, is_dirty_row}
-use Rattle.plan_spec.specs.Scene.{scene_of}
-use Rattle.plan_spec.specs.Grid.{grid_points, is_visible_pair, numbers_of_pair, visibility_edges}
+use Rattle.plan_spec.specs.Edits.{changed_boxes, plan_after_edit}
+use Rattle.sight_spec.specs.Dirty.{is_dirty_pair, is_dirty_with, is_dirty_row}
+use Rattle.sight_spec.specs.Scene.{scene_of}
+use Rattle.plan_spec.specs.Grid.{grid_points}
+use Rattle.sight_spec.specs.Visibility.{is_visible_pair, numbers_of_pair, visibility_edges}
 use Rattle.dirty_laws.specs.Rows.{begins_at, is_edge}
 use Rattle.dirty_laws.proofs.Sight.{sight_kept}
 use Rattle.dirty_laws.proofs.Openness.{first_openness_kept, second_openness_kept}
@@ -151,8 +152,8 @@ row_agrees i new old (e ∷ es) all =
     by false false u f g h k ih = rw (f, g) ih
 
 -- an edit leaves the grid as it is
-pub grid_kept : (plan : Plan) (edit : Edit) → (edited plan edit).grid ≡ plan.grid
-unfolding edited with_item
+pub grid_kept : (plan : Plan) (edit : Edit) → (plan_after_edit plan edit).grid ≡ plan.grid
+unfolding plan_after_edit with_item
 grid_kept plan (Add name points) = refl
 grid_kept plan (Remove name) = refl
 grid_kept plan (Move name dx dy) = refl
@@ -163,7 +164,7 @@ grid_kept plan (RemoveRoute name) = refl
 
 -- a pair that isn't dirty is visible after the edit exactly where it was before
 visible_kept : (plan : Plan) (edit : Edit) (e : Pair) → is_dirty_pair (changed_boxes plan edit) e.0.1 e.1.1 ≡ false
-    → is_visible_pair (edited plan edit) (scene_of (edited plan edit)) e ≡ is_visible_pair plan (scene_of plan) e
+    → is_visible_pair (plan_after_edit plan edit) (scene_of (plan_after_edit plan edit)) e ≡ is_visible_pair plan (scene_of plan) e
 visible_kept plan edit e h =
     rw (
       first_openness_kept plan edit e.0.1 e.1.1 h,
@@ -174,24 +175,24 @@ visible_kept plan edit e h =
 -- the edges that begin at a row's number are one list before and after
 pub row_kept : (plan : Plan) (edit : Edit) (i : ℕ)
     → is_dirty_row (changed_boxes plan edit) (grid_points plan.grid) i ≡ false
-    → filter (begins_at i) (visibility_edges (edited plan edit)) ≡ filter (begins_at i) (visibility_edges plan)
+    → filter (begins_at i) (visibility_edges (plan_after_edit plan edit)) ≡ filter (begins_at i) (visibility_edges plan)
 unfolding visibility_edges
 row_kept plan edit i h =
     ap (λ grid. filter (begins_at i)
-    (map numbers_of_pair (filter (is_visible_pair (edited plan edit) (scene_of (edited plan edit)))
+    (map numbers_of_pair (filter (is_visible_pair (plan_after_edit plan edit) (scene_of (plan_after_edit plan edit)))
     (numbered_pairs (grid_points grid))))) (grid_kept plan edit)
-    ∙ row_agrees i (is_visible_pair (edited plan edit) (scene_of (edited plan edit)))
+    ∙ row_agrees i (is_visible_pair (plan_after_edit plan edit) (scene_of (plan_after_edit plan edit)))
     (is_visible_pair plan (scene_of plan)) (numbered_pairs (grid_points plan.grid))
     (row_holds_from_first (changed_boxes plan edit)
-    (λ e. is_visible_pair (edited plan edit) (scene_of (edited plan edit)) e ≡ is_visible_pair plan
+    (λ e. is_visible_pair (plan_after_edit plan edit) (scene_of (plan_after_edit plan edit)) e ≡ is_visible_pair plan
     (scene_of plan) e) (visible_kept plan edit) i (grid_points plan.grid) h)
 
 -- one pair of the row: it is an edge after the edit exactly where it was before
 pub edge_kept : (plan : Plan) (edit : Edit) (i j : ℕ)
     → is_dirty_row (changed_boxes plan edit) (grid_points plan.grid) i ≡ false
-    → is_edge (visibility_edges (edited plan edit)) i j ≡ is_edge (visibility_edges plan) i j
+    → is_edge (visibility_edges (plan_after_edit plan edit)) i j ≡ is_edge (visibility_edges plan) i j
 edge_kept plan edit i j h =
-    found (visibility_edges (edited plan edit))
+    found (visibility_edges (plan_after_edit plan edit))
     ∙ ap (list_any (λ e. e.1 == j)) (row_kept plan edit i h)
     ∙ sym (found (visibility_edges plan))
   where

@@ -13,16 +13,16 @@ use Rattle.plane_spec.specs.declared.PlanBox.{PlanBox}
 use Rattle.plane_spec.specs.declared.Orientation.TheVariants.{Counterclockwise}
 use Rattle.plane_spec.specs.Boxes.{box_of_points}
 use Rattle.plane_spec.specs.Polygons.{edges_of}
-use Rattle.plan_spec.specs.declared.kinds.Screen.{Screen}
-use Rattle.plan_spec.specs.declared.changes.Edit.{Edit}
-use Rattle.plan_spec.specs.declared.changes.Edit.TheVariants.{Add, Remove, Move, AddScreen, RemoveScreen, AddRoute}
-use Rattle.plan_spec.specs.declared.changes.Edit.TheVariants.{RemoveRoute}
-use Rattle.plan_spec.specs.declared.changes.Changed.{Changed}
+use Rattle.plan_spec.specs.declared.item.Screen.{Screen}
+use Rattle.plan_spec.specs.declared.edit.Edit.{Edit}
+use Rattle.plan_spec.specs.declared.edit.Edit.TheVariants.{Add, Remove, Move, AddScreen, RemoveScreen, AddRoute}
+use Rattle.plan_spec.specs.declared.edit.Edit.TheVariants.{RemoveRoute}
+use Rattle.plan_spec.specs.declared.edit.Changed.{Changed}
 use Rattle.plan_spec.specs.Plan.{Obstacle, Plan, obstacle, with_item, with_obstacles, with_screens, is_obstacle_named}
 use Rattle.plan_spec.specs.Plan.{is_screen_named}
-use Rattle.plan_spec.specs.Scene.{scene_of, goes_round, turned_edge, turned_corner, corners_along, walls_round}
-use Rattle.plan_spec.specs.Scene.{walls_of_obstacle, corners_round, corners_of_obstacle}
-use Rattle.plan_spec.specs.Edits.{changed, changed_boxes, edited, points_named, ends_named, without_obstacle}
+use Rattle.sight_spec.specs.Scene.{scene_of, has_orientation, turned_edge, turned_corner, corners_along, oriented_walls}
+use Rattle.sight_spec.specs.Scene.{walls_of_obstacle, oriented_corners, corners_of_obstacle}
+use Rattle.plan_spec.specs.Edits.{changed, changed_boxes, plan_after_edit, points_named, ends_named, without_obstacle}
 use Rattle.plan_spec.specs.Edits.{shifted_point, shifted_obstacle}
 
 -- the box before an edit
@@ -40,8 +40,8 @@ no_points (p ∷ points) h = cc
 
 -- obstacles without points have no walls
 no_walls : (o : Obstacle) → o.points ≡ [] → walls_of_obstacle o ≡ []
-unfolding walls_round
-no_walls o e = ap (λ ps. walls_round Counterclockwise ps) e ∙ by (goes_round Counterclockwise [])
+unfolding oriented_walls
+no_walls o e = ap (λ ps. oriented_walls Counterclockwise ps) e ∙ by (has_orientation Counterclockwise [])
   where
     by : (t : Bool) → cond t (edges_of []) (map turned_edge (edges_of [])) ≡ []
     by true = refl
@@ -49,8 +49,8 @@ no_walls o e = ap (λ ps. walls_round Counterclockwise ps) e ∙ by (goes_round 
 
 -- nor corners
 no_corners : (o : Obstacle) → o.points ≡ [] → corners_of_obstacle o ≡ []
-unfolding corners_round
-no_corners o e = ap (λ ps. corners_round Counterclockwise ps) e ∙ by (goes_round Counterclockwise [])
+unfolding oriented_corners
+no_corners o e = ap (λ ps. oriented_corners Counterclockwise ps) e ∙ by (has_orientation Counterclockwise [])
   where
     by : (t : Bool) → cond t (corners_along (edges_of [])) (map turned_corner (corners_along (edges_of []))) ≡ []
     by true = refl
@@ -117,8 +117,8 @@ same_obstacles plan obstacles w c = rw (w, c) refl
 
 -- the scene stays, kind by kind of edit
 pub scene_kept : (plan : Plan) (edit : Edit) → changed_boxes plan edit ≡ changed None None
-    → scene_of (edited plan edit) ≡ scene_of plan
-unfolding edited with_item changed_boxes
+    → scene_of (plan_after_edit plan edit) ≡ scene_of plan
+unfolding plan_after_edit with_item changed_boxes
 scene_kept plan (Add name points) h =
     let none = no_points points (ap second_of h) in
     same_obstacles plan (plan.obstacles ++ obstacle name points ∷ [])

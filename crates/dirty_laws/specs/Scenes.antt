@@ -4,13 +4,13 @@ use Rattle.std.specs.List.{list_all}
 use Rattle.plane_spec.specs.declared.Point.{Point}
 use Rattle.plane_spec.specs.declared.PlanBox.{PlanBox}
 use Rattle.plane_spec.specs.Boxes.{does_meet_box}
-use Rattle.plan_spec.specs.declared.changes.Changed.{Changed}
-use Rattle.plan_spec.specs.declared.changes.Edit.{Edit}
+use Rattle.plan_spec.specs.declared.edit.Changed.{Changed}
+use Rattle.plan_spec.specs.declared.edit.Edit.{Edit}
 use Rattle.plan_spec.specs.Plan.{Plan}
 use Rattle.plan_spec.specs.Accepted.{is_sound}
-use Rattle.plan_spec.specs.Edits.{changed, changed_boxes, edited, why_not_edit}
-use Rattle.plan_spec.specs.Scene.{Scene, scene_of}
-use Rattle.plan_spec.specs.Axial.{here_of}
+use Rattle.plan_spec.specs.Edits.{changed, changed_boxes, plan_after_edit, why_not_edit}
+use Rattle.sight_spec.specs.Scene.{Scene, scene_of}
+use Rattle.sight_spec.specs.Axial.{here_of}
 use Rattle.list_laws.specs.Dropped.{Dropped}
 use Rattle.box_laws.specs.Boxes.{IsIn, OfEnds, OfCorner}
 
@@ -27,7 +27,7 @@ pub record IsEdited (before after : Scene) (boxes : Changed) : Type 0 where
   pub sound : is_sound plan ≡ true
   pub accepted : why_not_edit plan edit ≡ None
   pub before_is : before ≡ scene_of plan
-  pub after_is : after ≡ scene_of (edited plan edit)
+  pub after_is : after ≡ scene_of (plan_after_edit plan edit)
   pub boxes_are : boxes ≡ changed_boxes plan edit
 
 -- the scenes are those of any plan and of the plan after any edit that has this box before it and none after it
@@ -35,7 +35,7 @@ pub record IsRemoved (box : PlanBox) (before after : Scene) : Type 0 where
   pub plan : Plan
   pub edit : Edit
   pub before_is : before ≡ scene_of plan
-  pub after_is : after ≡ scene_of (edited plan edit)
+  pub after_is : after ≡ scene_of (plan_after_edit plan edit)
   pub boxes_are : changed_boxes plan edit ≡ removal_of box
 
 -- ---- what a removal takes away

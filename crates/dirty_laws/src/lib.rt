@@ -29,15 +29,16 @@
 ghost use Rattle.std.specs.Prelude.{◌≡◌, List, None, Some, ℕ, false, filter, true};
 ghost use Rattle.plane_spec.specs.declared.Point.{Point};
 ghost use Rattle.plane_spec.specs.declared.PlanBox.{PlanBox};
-ghost use Rattle.plan_spec.specs.declared.changes.Changed.{Changed};
-ghost use Rattle.plan_spec.specs.declared.changes.Edit.{Edit};
-ghost use Rattle.plan_spec.specs.Axial.{AxialLine};
-ghost use Rattle.plan_spec.specs.Dirty.{is_dirty_corner, is_dirty_pair, is_dirty_row};
-ghost use Rattle.plan_spec.specs.Edits.{changed, changed_boxes, edited};
-ghost use Rattle.plan_spec.specs.Grid.{grid_points, visibility_edges};
+ghost use Rattle.plan_spec.specs.declared.edit.Changed.{Changed};
+ghost use Rattle.plan_spec.specs.declared.edit.Edit.{Edit};
+ghost use Rattle.sight_spec.specs.Axial.{AxialLine};
+ghost use Rattle.sight_spec.specs.Dirty.{is_dirty_corner, is_dirty_pair, is_dirty_row};
+ghost use Rattle.plan_spec.specs.Edits.{changed, changed_boxes, plan_after_edit};
+ghost use Rattle.plan_spec.specs.Grid.{grid_points};
+ghost use Rattle.sight_spec.specs.Visibility.{visibility_edges};
 ghost use Rattle.plan_spec.specs.Plan.{Plan};
-ghost use Rattle.plan_spec.specs.Scene.{Scene, scene_of};
-ghost use Rattle.plan_spec.specs.Sight.{are_in_sight, is_open};
+ghost use Rattle.sight_spec.specs.Scene.{Scene, scene_of};
+ghost use Rattle.sight_spec.specs.Sight.{are_in_sight, is_open};
 ghost use Rattle.dirty_laws.specs.Rows.{begins_at, is_edge};
 ghost use Rattle.dirty_laws.specs.Scenes.{ClosesUp, IsEdited, IsRemoved, IsWithout, removal_of};
 
@@ -45,16 +46,16 @@ ghost use Rattle.dirty_laws.specs.Scenes.{ClosesUp, IsEdited, IsRemoved, IsWitho
 /// each other after the edit exactly where they did before.
 pub fn a_pair_that_is_not_dirty_keeps_its_sight()
     ensures { (plan : Plan) (edit : Edit) (p q : Point) → is_dirty_pair (changed_boxes plan edit) p q ≡ false
-        → are_in_sight (scene_of (edited plan edit)) p q ≡ are_in_sight (scene_of plan) p q }
+        → are_in_sight (scene_of (plan_after_edit plan edit)) p q ≡ are_in_sight (scene_of plan) p q }
 {}
 
 /// Each of two points whose segment meets neither box is open after an edit exactly where it was before. With one point
 /// taken twice, it says so of each point that is in neither box.
 pub fn a_point_of_a_pair_that_is_not_dirty_keeps_its_openness()
     ensures first { (plan : Plan) (edit : Edit) (p q : Point) → is_dirty_pair (changed_boxes plan edit) p q ≡ false
-        → is_open (edited plan edit) p ≡ is_open plan p }
+        → is_open (plan_after_edit plan edit) p ≡ is_open plan p }
     ensures second { (plan : Plan) (edit : Edit) (p q : Point) → is_dirty_pair (changed_boxes plan edit) p q ≡ false
-        → is_open (edited plan edit) q ≡ is_open plan q }
+        → is_open (plan_after_edit plan edit) q ≡ is_open plan q }
 {}
 
 /// A grid point of which no pair with a later one is dirty has the same edges to later ones after an edit as before: as
@@ -62,16 +63,16 @@ pub fn a_point_of_a_pair_that_is_not_dirty_keeps_its_openness()
 pub fn a_row_that_is_not_dirty_keeps_its_edges()
     ensures row { (plan : Plan) (edit : Edit) (i : ℕ)
         → is_dirty_row (changed_boxes plan edit) (grid_points plan.grid) i ≡ false
-        → filter (begins_at i) (visibility_edges (edited plan edit)) ≡ filter (begins_at i) (visibility_edges plan) }
+        → filter (begins_at i) (visibility_edges (plan_after_edit plan edit)) ≡ filter (begins_at i) (visibility_edges plan) }
     ensures edge { (plan : Plan) (edit : Edit) (i j : ℕ)
         → is_dirty_row (changed_boxes plan edit) (grid_points plan.grid) i ≡ false
-        → is_edge (visibility_edges (edited plan edit)) i j ≡ is_edge (visibility_edges plan) i j }
+        → is_edge (visibility_edges (plan_after_edit plan edit)) i j ≡ is_edge (visibility_edges plan) i j }
 {}
 
 /// An edit that has a box neither before it nor after it leaves the walls, screens and corners as they were.
 pub fn an_edit_without_boxes_keeps_the_scene()
     ensures { (plan : Plan) (edit : Edit) → changed_boxes plan edit ≡ changed None None
-        → scene_of (edited plan edit) ≡ scene_of plan }
+        → scene_of (plan_after_edit plan edit) ≡ scene_of plan }
 {}
 
 /// The scene after an edit that only takes something away is the one before it without some walls, screens and corners,

@@ -6,10 +6,10 @@ use Rattle.text_spec.specs.Lines.{is_newline, lines_of}
 use Rattle.dm_io.specs.Lines.{has_newline}
 use Rattle.dm_io.specs.LinesRead.{AreLines, HasRead, whole_lines_of, without_last}
 use Rattle.dm_io.specs.Reader.{Cut, Last, LineRead, NothingAhead, Stopped, ahead, bytes_read, lines_read, saw_end, waiting}
-use Rattle.dm_io.specs.Streams.{IsFront, IsIfTold, with_front}
+use Rattle.dm_io.specs.Streams.{IsPrefix, IsIfKnown, prepended_to}
 use Rattle.dm_io.specs.declared.line_reader.LineReader.{LineReader}
 use Rattle.dm_io.proofs.LinesOf.{lines_of-cut, lines_of-last, lines_of-nil, split-cut, split-plain, split-some}
-use Rattle.dm_io.proofs.Told.{with_front-more, with_front-nothing}
+use Rattle.dm_io.proofs.Told.{prepended_to-more, prepended_to-nothing}
 
 -- ---- the whole lines of some bytes
 
@@ -76,7 +76,7 @@ part_more bytes lines part are plain =
 pub has_read-start : (reader : LineReader) (source : Option (List ℕ)) → waiting reader ≡ [] → lines_read reader ≡ 0
     → bytes_read reader ≡ 0 → saw_end reader ≡ false → HasRead reader source source [] []
 has_read-start reader source none number count open' = record {
-  taken = with_front-nothing source ∙ ap (λ w. with_front w source) (sym none) ∙ with_front-nothing (ahead reader source);
+  taken = prepended_to-nothing source ∙ ap (λ w. prepended_to w source) (sym none) ∙ prepended_to-nothing (ahead reader source);
   number = number;
   count = count;
   few = omega arith;
@@ -102,7 +102,7 @@ has_read-next old new source middle left bytes lines line r reads counted low = 
     by (inl cut) = (
       bytes ++ (line ++ 10 ∷ []),
       record {
-        taken = r.taken ∙ ap (with_front bytes) cut.bytes ∙ with_front-more bytes (line ++ 10 ∷ []) (ahead new left);
+        taken = r.taken ∙ ap (prepended_to bytes) cut.bytes ∙ prepended_to-more bytes (line ++ 10 ∷ []) (ahead new left);
         number = number_is;
         count = omega (arith, cut.counted, r.count, length-append bytes (line ++ 10 ∷ []), length-append line (10 ∷ []));
         few = omega (arith, r.few, length-append bytes (line ++ 10 ∷ []), length-append line (10 ∷ []), length-append lines (line ∷ []));
@@ -115,8 +115,8 @@ has_read-next old new source middle left bytes lines line r reads counted low = 
       record {
         taken =
             r.taken
-            ∙ ap (with_front bytes) (last.bytes ∙ ap (with_front line) (with_front-nothing left ∙ ap (λ w. with_front w left) (sym last.nothing_waits)))
-            ∙ with_front-more bytes line (ahead new left);
+            ∙ ap (prepended_to bytes) (last.bytes ∙ ap (prepended_to line) (prepended_to-nothing left ∙ ap (λ w. prepended_to w left) (sym last.nothing_waits)))
+            ∙ prepended_to-more bytes line (ahead new left);
         number = number_is;
         count = omega (arith, last.counted, r.count, length-append bytes line);
         few = omega (arith, r.few, last.some, length-append bytes line, length-append lines (line ∷ []));
@@ -128,21 +128,21 @@ has_read-next old new source middle left bytes lines line r reads counted low = 
 -- at the end: all was read, and the lines are those of all bytes
 pub has_read-end : (old new : LineReader) (source middle left : Option (List ℕ)) (bytes : List ℕ) (lines : List (List ℕ))
     → HasRead old source middle bytes lines → NothingAhead old new middle left
-    → IsFront source bytes left × IsIfTold [] middle × (lines_of bytes ≡ lines)
+    → IsPrefix source bytes left × IsIfKnown [] middle × (lines_of bytes ≡ lines)
 has_read-end old new source middle left bytes lines r nothing =
     let taken =
-    r.taken ∙ ap (λ w. with_front bytes (with_front w middle)) nothing.nothing_waited
-    ∙ ap (with_front bytes) (sym (with_front-nothing middle) ∙ sym nothing.nothing_taken) in
+    r.taken ∙ ap (λ w. prepended_to bytes (prepended_to w middle)) nothing.nothing_waited
+    ∙ ap (prepended_to bytes) (sym (prepended_to-nothing middle) ∙ sym nothing.nothing_taken) in
     elim (cases_Bool (saw_end old)) [
       | inl yes' ↦ (taken, (r.ended yes').2, (r.ended yes').0)
-      | inr no' ↦ (taken, subst (λ rest. IsIfTold [] rest) nothing.nothing_taken (nothing.nothing_left no'), nothing_more bytes lines (r.goes_on no'))
+      | inr no' ↦ (taken, subst (λ rest. IsIfKnown [] rest) nothing.nothing_taken (nothing.nothing_left no'), nothing_more bytes lines (r.goes_on no'))
     ]
 
 -- where no whole line came: the lines are the whole ones of what was taken
 pub has_read-part : (old new : LineReader) (source middle left : Option (List ℕ)) (bytes : List ℕ) (lines : List (List ℕ))
     (part : List ℕ) → HasRead old source middle bytes lines → Stopped old new middle left part
-    → IsFront source (bytes ++ part) left × (whole_lines_of (bytes ++ part) ≡ lines)
+    → IsPrefix source (bytes ++ part) left × (whole_lines_of (bytes ++ part) ≡ lines)
 has_read-part old new source middle left bytes lines part r stopped = (
-  r.taken ∙ ap (with_front bytes) stopped.taken ∙ with_front-more bytes part left,
+  r.taken ∙ ap (prepended_to bytes) stopped.taken ∙ prepended_to-more bytes part left,
   part_more bytes lines part (r.goes_on stopped.was_open) stopped.plain,
 )

@@ -7,18 +7,18 @@ use Rattle.std.proofs.lemmas.List.Folds.{list_any-append}
 use Rattle.text_spec.specs.Lines.{is_newline, lines_of, without_return}
 use Rattle.dm_io.specs.Lines.{next_of, next_at_end, has_newline, BeginsLine}
 use Rattle.dm_io.specs.Reader.{ahead, bytes_read, line_in, saw_end, waiting, LineRead, NothingAhead, Reads, Skips, Stopped}
-use Rattle.dm_io.specs.Streams.{IsFront, IsIfTold, with_front}
+use Rattle.dm_io.specs.Streams.{IsPrefix, IsIfKnown, prepended_to}
 use Rattle.dm_io.specs.declared.line_reader.LineReader.{LineReader}
 use Rattle.dm_io.specs.declared.lines.Next.{Next}
 use Rattle.dm_io.specs.declared.lines.Next.TheVariants.{Line, End}
 use Rattle.dm_io.proofs.LinesOf.{lines_of-cut, lines_of-last, lines_of-nil, or-left, or-right}
-use Rattle.dm_io.proofs.Told.{with_front-more, with_front-nothing}
+use Rattle.dm_io.proofs.Told.{prepended_to-more, prepended_to-nothing}
 
 -- so many bytes were taken, the front of a line was dropped where it is too long, and nothing was taken while a whole line waited
 pub record Skipped (old new : LineReader) (before after : Option (List ℕ)) (long : Bool) (gone : List ℕ) : Type 0 where
   pub taken : List ℕ
   pub held : waiting old ++ taken ≡ gone ++ waiting new
-  pub left : IsFront before taken after
+  pub left : IsPrefix before taken after
   pub plain : has_newline gone ≡ false
   pub counted : bytes_read new ≡ bytes_read old + length gone
   pub when_long : long ≡ true → 20000 < length gone
@@ -30,7 +30,7 @@ pub skipped-start : (old : LineReader) (before : Option (List ℕ)) → Skipped 
 skipped-start old before = record {
   taken = [];
   held = append-nil (waiting old);
-  left = with_front-nothing before;
+  left = prepended_to-nothing before;
   plain = refl;
   counted = omega arith;
   when_long = λ e. absurd (true≢false (sym e));
@@ -49,9 +49,9 @@ plain-right xs ys e = or-right (list_any is_newline xs) (list_any is_newline ys)
 
 -- what was ahead, by what was dropped and is ahead now
 pub ahead-skipped : {old new : LineReader} {before after : Option (List ℕ)} {long : Bool} {gone : List ℕ} → Skipped old new before after long gone
-    → ahead old before ≡ with_front (gone ++ waiting new) after
+    → ahead old before ≡ prepended_to (gone ++ waiting new) after
 ahead-skipped {old} {new} {before} {after} {long} {gone} s =
-    ap (λ o. with_front (waiting old) o) s.left ∙ with_front-more (waiting old) s.taken after ∙ ap (λ w. with_front w after) s.held
+    ap (λ o. prepended_to (waiting old) o) s.left ∙ prepended_to-more (waiting old) s.taken after ∙ ap (λ w. prepended_to w after) s.held
 
 when_both : (long full : Bool) (gone more : List ℕ) → (long ≡ true → 20000 < length gone) → (full ≡ true → 20000 < length more) → (long || full) ≡ true → 20000 < length (gone ++ more)
 when_both true full gone more h k e = omega (arith, h refl, length-append gone more)
@@ -86,12 +86,12 @@ skips-plain {cur} {new} {full} {more} k none = plain-right more (waiting new) (a
 
 -- no whole line waited, and a piece came
 pub skipped-came : {old cur new : LineReader} {before middle after : Option (List ℕ)} {long : Bool} {gone : List ℕ} (piece : List ℕ)
-    → Skipped old cur before middle long gone → has_newline (waiting cur) ≡ false → waiting new ≡ waiting cur ++ piece → IsFront middle piece after → bytes_read new ≡ bytes_read cur
+    → Skipped old cur before middle long gone → has_newline (waiting cur) ≡ false → waiting new ≡ waiting cur ++ piece → IsPrefix middle piece after → bytes_read new ≡ bytes_read cur
     → Skipped old new before after long gone
 skipped-came {old} {cur} {new} {before} {middle} {after} {long} {gone} piece s none grown came counted = record {
   taken = s.taken ++ piece;
   held = sym (append_assoc (waiting old) s.taken piece) ∙ ap (λ w. w ++ piece) s.held ∙ append_assoc gone (waiting cur) piece ∙ ap (λ w. gone ++ w) (sym grown);
-  left = s.left ∙ ap (λ o. with_front s.taken o) came ∙ with_front-more s.taken piece after;
+  left = s.left ∙ ap (λ o. prepended_to s.taken o) came ∙ prepended_to-more s.taken piece after;
   plain = s.plain;
   counted = counted ∙ s.counted;
   when_long = s.when_long;
@@ -104,19 +104,19 @@ pub skipped-same : {old cur : LineReader} {before middle after : Option (List �
     → Skipped old cur before middle long gone → has_newline (waiting cur) ≡ false → waiting new ≡ waiting cur → after ≡ middle → bytes_read new ≡ bytes_read cur
     → Skipped old new before after long gone
 skipped-same {old} {cur} {before} {middle} {after} {long} {gone} new s none same left counted =
-    skipped-came [] s none (same ∙ sym (append-nil (waiting cur))) (sym left ∙ with_front-nothing after) counted
+    skipped-came [] s none (same ∙ sym (append-nil (waiting cur))) (sym left ∙ prepended_to-nothing after) counted
 
 -- a line without a newline is the first, where it comes before a newline
-first-cut : (line : List ℕ) (rest : Option (List ℕ)) → has_newline line ≡ false → option_map lines_of (with_front (line ++ 10 ∷ []) rest) ≡ option_map (λ r. line ∷ lines_of r) rest
+first-cut : (line : List ℕ) (rest : Option (List ℕ)) → has_newline line ≡ false → option_map lines_of (prepended_to (line ++ 10 ∷ []) rest) ≡ option_map (λ r. line ∷ lines_of r) rest
 first-cut line None plain = refl
 first-cut line (Some rest) plain = ap (λ ls. Some ls) (ap lines_of (append_assoc line (10 ∷ []) rest) ∙ lines_of-cut line rest plain)
 
 -- the same, where it comes last
-first-last : (line nothing : List ℕ) (after : Option (List ℕ)) → 0 < length line → has_newline line ≡ false → IsIfTold [] after → nothing ≡ []
-    → option_map lines_of (with_front line after) ≡ option_map (λ r. line ∷ lines_of r) (with_front nothing after)
-first-last line nothing None some plain told none = refl
-first-last line nothing (Some rest) some plain told none =
-    rw (told, none) (ap (λ ls. Some ls) (ap lines_of (append-nil line) ∙ lines_of-last line some plain ∙ ap (λ ls. line ∷ ls) (sym lines_of-nil)))
+first-last : (line nothing : List ℕ) (after : Option (List ℕ)) → 0 < length line → has_newline line ≡ false → IsIfKnown [] after → nothing ≡ []
+    → option_map lines_of (prepended_to line after) ≡ option_map (λ r. line ∷ lines_of r) (prepended_to nothing after)
+first-last line nothing None some plain known none = refl
+first-last line nothing (Some rest) some plain known none =
+    rw (known, none) (ap (λ ls. Some ls) (ap lines_of (append-nil line) ∙ lines_of-last line some plain ∙ ap (λ ls. line ∷ ls) (sym lines_of-nil)))
 
 line-split : (bytes : List ℕ) (count : ℕ) → BeginsLine bytes count → bytes ≡ take count bytes ++ 10 ∷ drop (count + 1) bytes
 line-split bytes count b = sym (take-append-drop count bytes) ∙ ap (λ r. take count bytes ++ r) (drop_more bytes count 0 b.within ∙ ap (λ x. x ∷ drop (count + 1) bytes) b.ends)
@@ -142,11 +142,11 @@ reads-line {old} {cur} {before} {after} {long} {gone} new count next s was_open 
     let len : length line ≡ count = length-take-le count (waiting cur) (omega (arith, b.within)) in
     let split : waiting cur ≡ line ++ 10 ∷ waiting new = line-split (waiting cur) count b ∙ ap (λ r. line ++ 10 ∷ r) (sym rest) in
     let plain : has_newline (gone ++ line) ≡ false = plain-both gone line s.plain b.plain in
-    let bytes : ahead old before ≡ with_front ((gone ++ line) ++ 10 ∷ []) (ahead new after) =
+    let bytes : ahead old before ≡ prepended_to ((gone ++ line) ++ 10 ∷ []) (ahead new after) =
     ahead-skipped s
-    ∙ ap (λ w. with_front (gone ++ w) after) split
-    ∙ ap (λ w. with_front w after) (regroup gone line (waiting new))
-    ∙ sym (with_front-more ((gone ++ line) ++ 10 ∷ []) (waiting new) after) in
+    ∙ ap (λ w. prepended_to (gone ++ w) after) split
+    ∙ ap (λ w. prepended_to w after) (regroup gone line (waiting new))
+    ∙ sym (prepended_to-more ((gone ++ line) ++ 10 ∷ []) (waiting new) after) in
     let cut : LineRead old new before after (gone ++ line) = record {
       was_open = was_open;
       first = ap (option_map lines_of) bytes ∙ first-cut (gone ++ line) (ahead new after) plain;
@@ -157,20 +157,20 @@ reads-line {old} {cur} {before} {after} {long} {gone} new count next s was_open 
 
 -- what waits at the end is the last line
 last-line : {old mid : LineReader} {before after : Option (List ℕ)} {long : Bool} {gone : List ℕ} (new : LineReader)
-    → Skipped old mid before after long gone → saw_end old ≡ false → saw_end new ≡ true → has_newline (waiting mid) ≡ false → IsIfTold [] after
+    → Skipped old mid before after long gone → saw_end old ≡ false → saw_end new ≡ true → has_newline (waiting mid) ≡ false → IsIfKnown [] after
     → waiting new ≡ [] → bytes_read new ≡ bytes_read mid + length (waiting mid) → 0 < length (gone ++ waiting mid) → LineRead old new before after (gone ++ waiting mid)
-last-line {old} {mid} {before} {after} {long} {gone} new s was_open ended none told nothing counted some =
+last-line {old} {mid} {before} {after} {long} {gone} new s was_open ended none known nothing counted some =
     let line : List ℕ = gone ++ waiting mid in
     let plain : has_newline line ≡ false = plain-both gone (waiting mid) s.plain none in
     record {
       was_open = was_open;
-      first = ap (option_map lines_of) (ahead-skipped s) ∙ first-last line (waiting new) after some plain told nothing;
+      first = ap (option_map lines_of) (ahead-skipped s) ∙ first-last line (waiting new) after some plain known nothing;
       plain = plain;
       ends = inr (record {
         ended = ended;
         some = some;
         bytes = ahead-skipped s;
-        nothing_left = told;
+        nothing_left = known;
         nothing_waits = nothing;
         counted = omega (arith, s.counted, counted, length-append gone (waiting mid));
       });
@@ -178,8 +178,8 @@ last-line {old} {mid} {before} {after} {long} {gone} new s was_open ended none t
 
 -- nothing waits at the end, and nothing was taken
 nothing-ahead : {old mid : LineReader} {before after : Option (List ℕ)} {gone : List ℕ} (new : LineReader)
-    → Skipped old mid before after false gone → saw_end new ≡ true → IsIfTold [] after → waiting new ≡ [] → length (waiting mid) ≡ 0 → NothingAhead old new before after
-nothing-ahead {old} {mid} {before} {after} {gone} new s ended told nothing none =
+    → Skipped old mid before after false gone → saw_end new ≡ true → IsIfKnown [] after → waiting new ≡ [] → length (waiting mid) ≡ 0 → NothingAhead old new before after
+nothing-ahead {old} {mid} {before} {after} {gone} new s ended known nothing none =
     let no_bytes : length (waiting old) + length s.taken ≡ 0 =
     sym (length-append (waiting old) s.taken) ∙ ap length s.held ∙ length-append gone (waiting mid) ∙ omega (arith, none, ap length (s.when_short refl)) in
     let not_taken : s.taken ≡ [] = nil_from_length s.taken (omega (arith, no_bytes)) in
@@ -187,35 +187,35 @@ nothing-ahead {old} {mid} {before} {after} {gone} new s ended told nothing none 
       nothing_waited = nil_from_length (waiting old) (omega (arith, no_bytes));
       nothing_waits = nothing;
       ended = ended;
-      nothing_taken = with_front-nothing after ∙ ap (λ t. with_front t after) (sym not_taken) ∙ sym s.left;
-      nothing_left = λ e. told;
+      nothing_taken = prepended_to-nothing after ∙ ap (λ t. prepended_to t after) (sym not_taken) ∙ sym s.left;
+      nothing_left = λ e. known;
     }
 
 ends-as : {old mid : LineReader} {before after : Option (List ℕ)} {gone : List ℕ} (new : LineReader) (long : Bool)
-    → Skipped old mid before after long gone → saw_end old ≡ false → saw_end new ≡ true → has_newline (waiting mid) ≡ false → length (waiting mid) ≤ 20000 → IsIfTold [] after
+    → Skipped old mid before after long gone → saw_end old ≡ false → saw_end new ≡ true → has_newline (waiting mid) ≡ false → length (waiting mid) ≤ 20000 → IsIfKnown [] after
     → waiting new ≡ [] → bytes_read new ≡ bytes_read mid + length (waiting mid) → (long ≡ false → (length (waiting mid) == 0) ≡ false → line_in new ≡ without_return (waiting mid))
     → Reads old new before after (next_at_end long (length (waiting mid)))
-ends-as {old} {mid} {before} {after} {gone} new true s was_open ended none short told nothing counted shown =
+ends-as {old} {mid} {before} {after} {gone} new true s was_open ended none short known nothing counted shown =
     let many = s.when_long refl in
     let some : 0 < length (gone ++ waiting mid) = omega (arith, many, length-append gone (waiting mid)) in
-    bytes_read-as true gone (waiting mid) (last-line new s was_open ended none told nothing counted some) s.when_long s.when_short short (λ f. absurd (true≢false f))
-ends-as {old} {mid} {before} {after} {gone} new false s was_open ended none short told nothing counted shown = by (length (waiting mid) == 0) refl
+    bytes_read-as true gone (waiting mid) (last-line new s was_open ended none known nothing counted some) s.when_long s.when_short short (λ f. absurd (true≢false f))
+ends-as {old} {mid} {before} {after} {gone} new false s was_open ended none short known nothing counted shown = by (length (waiting mid) == 0) refl
   where
     by : (t : Bool) → (length (waiting mid) == 0) ≡ t → Reads old new before after (if t then End else Line)
-    by true e = nothing-ahead new s ended told nothing (eqb-true (length (waiting mid)) 0 e)
+    by true e = nothing-ahead new s ended known nothing (eqb-true (length (waiting mid)) 0 e)
     by false e =
         let some : 0 < length (gone ++ waiting mid) = grind (arith, common_steps) in
-        bytes_read-as false gone (waiting mid) (last-line new s was_open ended none told nothing counted some) s.when_long s.when_short short (λ f. shown f e)
+        bytes_read-as false gone (waiting mid) (last-line new s was_open ended none known nothing counted some) s.when_long s.when_short short (λ f. shown f e)
 
 -- what waits is read at the end
 pub reads-end : {old mid : LineReader} {before after : Option (List ℕ)} {long : Bool} {gone : List ℕ} (new : LineReader) (next : Next)
-    → Skipped old mid before after long gone → saw_end old ≡ false → saw_end new ≡ true → has_newline (waiting mid) ≡ false → length (waiting mid) ≤ 20000 → IsIfTold [] after
+    → Skipped old mid before after long gone → saw_end old ≡ false → saw_end new ≡ true → has_newline (waiting mid) ≡ false → length (waiting mid) ≤ 20000 → IsIfKnown [] after
     → waiting new ≡ [] → bytes_read new ≡ bytes_read mid + length (waiting mid) → (next ≡ Line → line_in new ≡ without_return (waiting mid)) → next ≡ next_at_end long (length (waiting mid))
     → Reads old new before after next
-reads-end {old} {mid} {before} {after} {long} {gone} new next s was_open ended none short told nothing counted shown e =
+reads-end {old} {mid} {before} {after} {long} {gone} new next s was_open ended none short known nothing counted shown e =
     let as_line : long ≡ false → (length (waiting mid) == 0) ≡ false → next ≡ Line =
     λ f g. e ∙ ap (λ l. next_at_end l (length (waiting mid))) f ∙ ap (λ t. if t then End else Line) g in
-    rw e (ends-as new long s was_open ended none short told nothing counted (λ f g. shown (as_line f g)))
+    rw e (ends-as new long s was_open ended none short known nothing counted (λ f g. shown (as_line f g)))
 
 none-or-many : (long : Bool) (gone : List ℕ) → (long ≡ true → 20000 < length gone) → (long ≡ false → gone ≡ []) → (gone ≡ []) ⊎ (20000 < length gone)
 none-or-many true gone many none = inr (many refl)

@@ -7,4 +7,4 @@ pub mod Memory
 pub mod Reader
 pub mod Streams
 pub mod System
-pub mod Waiting
+pub mod OutputBuffer

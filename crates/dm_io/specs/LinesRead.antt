@@ -3,7 +3,7 @@ use Rattle.std.specs.Prelude.{◌≡◌, ◌≤◌, ℕ, List, [], ◌∷◌, �
 use Rattle.std.specs.List.{slice_split}
 use Rattle.text_spec.specs.Lines.{is_newline, lines_of}
 use Rattle.dm_io.specs.Reader.{ahead, bytes_read, lines_read, saw_end, waiting}
-use Rattle.dm_io.specs.Streams.{IsFront, IsIfTold}
+use Rattle.dm_io.specs.Streams.{IsPrefix, IsIfKnown}
 use Rattle.dm_io.specs.declared.line_reader.LineReader.{LineReader}
 
 -- the parts but for the last
@@ -24,9 +24,9 @@ pub record AreLines (bytes : List ℕ) (lines : List (List ℕ)) : Type 0 where
 -- the bytes were read as these lines, and what is ahead of the reader follows them in the source; a loop that reads line
 -- after line carries this
 pub record HasRead (reader : LineReader) (source left : Option (List ℕ)) (bytes : List ℕ) (lines : List (List ℕ)) : Type 0 where
-  pub taken : IsFront source bytes (ahead reader left)
+  pub taken : IsPrefix source bytes (ahead reader left)
   pub number : lines_read reader ≡ length lines
   pub count : bytes_read reader ≡ length bytes
   pub few : length lines ≤ length bytes
   pub goes_on : saw_end reader ≡ false → AreLines bytes lines
-  pub ended : saw_end reader ≡ true → (lines_of bytes ≡ lines) × (waiting reader ≡ []) × IsIfTold [] left
+  pub ended : saw_end reader ≡ true → (lines_of bytes ≡ lines) × (waiting reader ≡ []) × IsIfKnown [] left

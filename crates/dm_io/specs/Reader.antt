@@ -2,7 +2,7 @@
 use Rattle.std.specs.Prelude.{◌≡◌, ◌⊎◌, ◌<◌, ◌≤◌, ◌+◌, ℕ, List, [], ◌∷◌, ◌++◌, Bool, true, false, length, take, drop, option_map, Option}
 use Rattle.text_spec.specs.Lines.{is_long, lines_of, without_return}
 use Rattle.dm_io.specs.Lines.{has_newline, IsLine}
-use Rattle.dm_io.specs.Streams.{IsFront, IsIfTold, with_front}
+use Rattle.dm_io.specs.Streams.{IsPrefix, IsIfKnown, prepended_to}
 use Rattle.dm_io.specs.declared.line_reader.LineReader.{LineReader}
 use Rattle.dm_io.specs.declared.line_reader.More.{More}
 use Rattle.dm_io.specs.declared.line_reader.More.TheVariants.{Came, Nothing, Broken, Beyond}
@@ -35,20 +35,20 @@ saw_end r = r.ended
 
 -- what is still to be read: the bytes that wait, and then what the source has left
 abbrev pub ahead : LineReader → Option (List ℕ) → Option (List ℕ)
-ahead r left = with_front (waiting r) left
+ahead r left = prepended_to (waiting r) left
 
 -- a line and its newline were cut from the front of what was ahead
 pub record Cut (old new : LineReader) (before after : Option (List ℕ)) (line : List ℕ) : Type 0 where
   pub goes_on : saw_end new ≡ false
-  pub bytes : IsFront (ahead old before) (line ++ 10 ∷ []) (ahead new after)
+  pub bytes : IsPrefix (ahead old before) (line ++ 10 ∷ []) (ahead new after)
   pub counted : bytes_read new ≡ bytes_read old + length line + 1
 
 -- all that was ahead is one last line without a newline; it isn't empty
 pub record Last (old new : LineReader) (before after : Option (List ℕ)) (line : List ℕ) : Type 0 where
   pub ended : saw_end new ≡ true
   pub some : 0 < length line
-  pub bytes : IsFront (ahead old before) line after
-  pub nothing_left : IsIfTold [] after
+  pub bytes : IsPrefix (ahead old before) line after
+  pub nothing_left : IsIfKnown [] after
   pub nothing_waits : waiting new ≡ []
   pub counted : bytes_read new ≡ bytes_read old + length line
 
@@ -65,14 +65,14 @@ pub record NothingAhead (old new : LineReader) (before after : Option (List ℕ)
   pub nothing_waits : waiting new ≡ []
   pub ended : saw_end new ≡ true
   pub nothing_taken : after ≡ before
-  pub nothing_left : saw_end old ≡ false → IsIfTold [] after
+  pub nothing_left : saw_end old ≡ false → IsIfKnown [] after
 
 -- no whole line came: this part of one waited or was taken, and all of it waits but for the front that was dropped where it is too long
 pub record Stopped (old new : LineReader) (before after : Option (List ℕ)) (part : List ℕ) : Type 0 where
   pub was_open : saw_end old ≡ false
   pub goes_on : saw_end new ≡ false
   pub plain : has_newline part ≡ false
-  pub taken : IsFront (ahead old before) part after
+  pub taken : IsPrefix (ahead old before) part after
   pub gone : List ℕ
   pub waits : part ≡ gone ++ waiting new
   pub counted : bytes_read new ≡ bytes_read old + length gone
@@ -84,7 +84,7 @@ Reads old new before after Line = (line : List ℕ) × LineRead old new before a
 Reads old new before after Long = (line : List ℕ) × LineRead old new before after line × (is_long line ≡ true)
 Reads old new before after End = NothingAhead old new before after
 Reads old new before after Failed = (part : List ℕ) × Stopped old new before after part × (bytes_read old + length part ≤ limit_of old)
-Reads old new before after Over = (part extra : List ℕ) × (rest : Option (List ℕ)) × Stopped old new before rest part × (bytes_read old + length part ≡ limit_of old) × (length extra ≡ 1) × IsFront rest extra after
+Reads old new before after Over = (part extra : List ℕ) × (rest : Option (List ℕ)) × Stopped old new before rest part × (bytes_read old + length part ≡ limit_of old) × (length extra ≡ 1) × IsPrefix rest extra after
 
 -- while a whole line waits, it is read and nothing is taken
 abbrev pub Waits : LineReader → Option (List ℕ) → Option (List ℕ) → Next → Type 0
@@ -100,7 +100,7 @@ pub record Skips (old new : LineReader) (full : Bool) (gone : List ℕ) : Type 0
 
 -- what asking the source for more leaves
 abbrev pub Gets : LineReader → LineReader → Option (List ℕ) → Option (List ℕ) → More → Type 0
-Gets old new before after Came = (piece : List ℕ) × (0 < length piece) × (waiting new ≡ waiting old ++ piece) × IsFront before piece after
-Gets old new before after Nothing = (waiting new ≡ waiting old) × (after ≡ before) × IsIfTold [] after
+Gets old new before after Came = (piece : List ℕ) × (0 < length piece) × (waiting new ≡ waiting old ++ piece) × IsPrefix before piece after
+Gets old new before after Nothing = (waiting new ≡ waiting old) × (after ≡ before) × IsIfKnown [] after
 Gets old new before after Broken = (waiting new ≡ waiting old) × (after ≡ before)
-Gets old new before after Beyond = (waiting new ≡ waiting old) × (extra : List ℕ) × (length extra ≡ 1) × IsFront before extra after × (bytes_read old + length (waiting old) ≡ limit_of old)
+Gets old new before after Beyond = (waiting new ≡ waiting old) × (extra : List ℕ) × (length extra ≡ 1) × IsPrefix before extra after × (bytes_read old + length (waiting old) ≡ limit_of old)

@@ -32,7 +32,7 @@ impl Calls {
     pub fn count(&mut self) -> bool
         ensures fails { result ≡ next_fails self.old }
         ensures next { GoesOn self.old self.new }
-        ensures quiet { fault_count self.new ≡ fault_count self.old }
+        ensures faults_stay { fault_count self.new ≡ fault_count self.old }
     {
         let number = self.number;
         self.number = number.saturating_add(1);

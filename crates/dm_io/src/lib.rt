@@ -8,7 +8,7 @@
 //! | [`Sink`], [`Put`] | where bytes go, some at a time |
 //! | [`read_all`], [`AllFault`] | all that is left of a source, up to a limit |
 //! | [`put_all`], [`PutFailed`] | all bytes of a slice into a sink |
-//! | [`Waiting`] | short pieces gathered for a sink and put in long ones |
+//! | [`OutputBuffer`] | short pieces gathered for a sink and put in long ones |
 //! | [`LineReader`], [`Next`] | the lines of a source as they come |
 //! | [`Gate`], [`NoGate`] | what is told of each row that a worker claims |
 //! | [`MemSource`], [`MemFiles`], [`MemSink`] | the same in memory, where chosen calls fail |
@@ -28,7 +28,7 @@ mod streams;
 mod system;
 #[cfg(test)]
 mod tests;
-mod waiting;
+mod output_buffer;
 
 pub use gate::{Gate, NoGate};
 pub use line_reader::LineReader;
@@ -40,4 +40,4 @@ pub use read_write_all::{AllFault, PutFailed, put_all, read_all};
 pub use streams::{Files, OpenFailed, Put, Sink, Source, Take};
 pub use system::{DirFiles, StdSink, StdSource};
 pub use text_spec::NoMemory;
-pub use waiting::Waiting;
+pub use output_buffer::OutputBuffer;

@@ -109,8 +109,8 @@ impl LineReader {
         ensures number { lines_read self.new ≡ number_after (lines_read self.old) result }
         ensures limit { limit_of self.new ≡ limit_of self.old }
         ensures within { bytes_read self.new + length (waiting self.new) ≤ limit_of self.new }
-        ensures cause { result ≡ Next.Failed → Rose (S.faults source.old) (S.faults source.new) }
-        ensures quiet { (result ≡ Next.Failed) ⊎ (S.faults source.new ≡ S.faults source.old) }
+        ensures only_on_fault { result ≡ Next.Failed → Rose (S.faults source.old) (S.faults source.new) }
+        ensures faults_stay { (result ≡ Next.Failed) ⊎ (S.faults source.new ≡ S.faults source.old) }
     {
         if self.ended {
             return Next::End;
@@ -208,8 +208,8 @@ impl LineReader {
         ensures number { lines_read self.new ≡ lines_read self.old }
         ensures limit { limit_of self.new ≡ limit_of self.old }
         ensures goes_on { saw_end self.new ≡ false }
-        ensures cause { result ≡ More.Broken → Rose (S.faults source.old) (S.faults source.new) }
-        ensures quiet { (result ≡ More.Broken) ⊎ (S.faults source.new ≡ S.faults source.old) }
+        ensures only_on_fault { result ≡ More.Broken → Rose (S.faults source.old) (S.faults source.new) }
+        ensures faults_stay { (result ≡ More.Broken) ⊎ (S.faults source.new ≡ S.faults source.old) }
     {
         self.line_start = 0;
         self.line_length = 0;

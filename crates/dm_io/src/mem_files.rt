@@ -112,9 +112,9 @@ impl Files for MemFiles {
     fn open_file(&mut self, name: &str) -> Result<(), OpenFailed>
         ensures answer { result ≡ open_answer self.old name.now }
         ensures opened { OnOk result (Some (file_bytes_left self.new) ≡ file_held self.old name.now) }
-        ensures quiet { OnOk result (fault_count (files_calls self.new) ≡ fault_count (files_calls self.old)) }
+        ensures faults_stay { OnOk result (fault_count (files_calls self.new) ≡ fault_count (files_calls self.old)) }
         ensures stays { OnErr result (file_bytes_left self.new ≡ file_bytes_left self.old) }
-        ensures cause { OnErr result (Rose (fault_count (files_calls self.old)) (fault_count (files_calls self.new))) }
+        ensures only_on_fault { OnErr result (Rose (fault_count (files_calls self.old)) (fault_count (files_calls self.new))) }
         ensures files { SameFiles self.old self.new }
         ensures calls { GoesOn (files_calls self.old) (files_calls self.new) }
     {

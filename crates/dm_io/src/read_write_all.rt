@@ -1,6 +1,6 @@
 //! Reads and writes of all bytes, over any source and sink.
 ghost use Rattle.std.specs.Prelude.{◌≡◌, ◌⊎◌, [], IsErrOf, ◌<◌, ◌≤◌, ◌+◌, ◌^◌, ℕ, List, length, OnOk, OnErr, IfOk};
-ghost use Rattle.dm_io.specs.Streams.{IsFront, IsIfTold, PutsFront, Rose, TakesAtMost, with_end};
+ghost use Rattle.dm_io.specs.Streams.{IsPrefix, IsIfKnown, WritesPrefix, Rose, TakesAtMost, appended_to};
 
 use crate::streams::{Put, Sink, Source, Take};
 use std::alloc::Global;
@@ -24,10 +24,10 @@ pub struct PutFailed;
 ///
 /// Cost: one pass over the bytes, in as many calls of the sink as it asks for.
 pub fn put_all<O: Sink>(sink: &mut O, bytes: &[u8]) -> Result<(), PutFailed>
-    ensures all { OnOk result (O.written sink.new ≡ with_end (O.written sink.old) bytes.now) }
-    ensures quiet { OnOk result (O.faults sink.new ≡ O.faults sink.old) }
-    ensures front { OnErr result (PutsFront (O.written sink.old) (O.written sink.new) bytes.now) }
-    ensures cause { OnErr result (Rose (O.faults sink.old) (O.faults sink.new)) }
+    ensures all { OnOk result (O.written sink.new ≡ appended_to (O.written sink.old) bytes.now) }
+    ensures faults_stay { OnOk result (O.faults sink.new ≡ O.faults sink.old) }
+    ensures prefix { OnErr result (WritesPrefix (O.written sink.old) (O.written sink.new) bytes.now) }
+    ensures only_on_fault { OnErr result (Rose (O.faults sink.old) (O.faults sink.new)) }
 {
     let mut done = 0;
     while done < bytes.len() {
@@ -45,14 +45,14 @@ pub fn put_all<O: Sink>(sink: &mut O, bytes: &[u8]) -> Result<(), PutFailed>
 /// Cost: one pass over the bytes, taken in pieces of at most 4096.
 pub fn read_all<S: Source>(alloc: Global, source: &mut S, limit: usize) -> Result<Vec<u8>, AllFault>
     requires { limit < 2 ^ 63 }
-    ensures all { IfOk result (λ all. IsFront (S.left source.old) all.items (S.left source.new)) }
-    ensures end { OnOk result (IsIfTold [] (S.left source.new)) }
+    ensures all { IfOk result (λ all. IsPrefix (S.left source.old) all.items (S.left source.new)) }
+    ensures end { OnOk result (IsIfKnown [] (S.left source.new)) }
     ensures within { IfOk result (λ all. length all.items ≤ limit) }
-    ensures over { IsErrOf result AllFault.Over → (front : List ℕ) × (length front ≡ limit + 1) × IsFront (S.left source.old) front (S.left source.new) }
+    ensures over { IsErrOf result AllFault.Over → (prefix : List ℕ) × (length prefix ≡ limit + 1) × IsPrefix (S.left source.old) prefix (S.left source.new) }
     ensures failed { IsErrOf result AllFault.Failed → TakesAtMost limit (S.left source.old) (S.left source.new) }
     ensures no_memory { OnErr result (TakesAtMost (limit + 1) (S.left source.old) (S.left source.new)) }
-    ensures cause { IsErrOf result AllFault.Failed → Rose (S.faults source.old) (S.faults source.new) }
-    ensures quiet { IsErrOf result AllFault.Failed ⊎ (S.faults source.new ≡ S.faults source.old) }
+    ensures only_on_fault { IsErrOf result AllFault.Failed → Rose (S.faults source.old) (S.faults source.new) }
+    ensures faults_stay { IsErrOf result AllFault.Failed ⊎ (S.faults source.new ≡ S.faults source.old) }
 {
     let mut all = Vec::new(alloc);
     let mut chunk = [0; 4096];

@@ -56,9 +56,9 @@ pub trait Files: Source {
     fn open_file(&mut self, name: &str) -> Result<(), OpenFailed>
         requires { IsTrue (allows self.old name.now) }
         ensures opened { OnOk result (Self.left self.new ≡ holds self.old name.now) }
-        ensures quiet { OnOk result (Self.faults self.new ≡ Self.faults self.old) }
+        ensures faults_stay { OnOk result (Self.faults self.new ≡ Self.faults self.old) }
         ensures stays { OnErr result (Self.left self.new ≡ Self.left self.old) }
-        ensures cause { OnErr result (Rose (Self.faults self.old) (Self.faults self.new)) }
+        ensures only_on_fault { OnErr result (Rose (Self.faults self.old) (Self.faults self.new)) }
         ensures same_files { holds self.new ≡ holds self.old }
         ensures same_names { allows self.new ≡ allows self.old };
 }

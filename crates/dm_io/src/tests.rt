@@ -2,10 +2,7 @@
 
 ghost use Rattle.std.specs.Prelude.{ℕ, List, IsTrue};
 
-use crate::{
-    AllFault, DirFiles, Files, LineReader, MemFiles, MemSink, MemSource, Next, Put, PutFailed,
-    Sink, Source, StdSink, StdSource, Take, Waiting, put_all, read_all,
-};
+use crate::{AllFault, DirFiles, Files, LineReader, MemFiles, MemSink, MemSource, Next, Put, PutFailed, Sink, Source, StdSink, StdSource, Take, OutputBuffer, put_all, read_all};
 use std::alloc::{AllocError, Global};
 use std::fs;
 use std::test::Fail;
@@ -259,7 +256,7 @@ const WAITED: [(usize, usize, u64, usize); 9] = [
 ];
 
 fn add_in_pieces(sink: &mut MemSink, bytes: &[u8], length: usize) -> Result<(), PutFailed> {
-    let mut waiting = Waiting::new();
+    let mut waiting = OutputBuffer::new();
     for piece in bytes.chunks(length.max(1)) {
         waiting.add(sink, piece)?;
     }

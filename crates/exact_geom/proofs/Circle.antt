@@ -3,7 +3,7 @@ use Rattle.std.proofs.Common.{◌≡◌, ℤ, pos, neg_ℤ, ◌+ℤ◌, ◌-ℤ�
 use Rattle.std.specs.Prelude.{Bool, true, false, int_lt}
 use Rattle.std.proofs.lemmas.Int.{ints, by_lt_z}
 use Rattle.plane_spec.specs.declared.Point.{Point}
-use Rattle.plane_spec.specs.Vectors.{cross_of, dot_of, is_left, is_upper, turns_by, turns_before, IsDirected}
+use Rattle.plane_spec.specs.Vectors.{cross_of, dot_of, turns_left, is_upper, turns_by, turns_before, IsDirected}
 use Rattle.int_laws.proofs.Ring.{times_zero, neg_times, times_neg, neg_twice, cross_of_three, dot_times}
 use Rattle.int_laws.proofs.Signs.{not_positive_tested, tested_not_positive, positive_product, not_negative_product, opposite_product, square, positive_factor, not_positive_factor, positive_sum, not_positive_sum}
 use Rattle.exact_geom.proofs.Turns.{cross_of_exchanged}
@@ -93,21 +93,21 @@ upper_is d h = by_lt_z (pos 0) d.y (λ p. above p) (λ q. let level : d.y ≡ po
 
 pub lower_is : (d : Point) → IsDirected d → is_upper d ≡ false → IsUpper (neg_ℤ d.x) (neg_ℤ d.y)
 lower_is d directed h =
-    let some = directed.somewhere in
+    let nonzero = directed.somewhere in
     by_lt_z d.y (pos 0) (λ p. above (omega (arith, ints)))
     (λ q. let level : d.y ≡ pos 0 = grind (arith, ints) in along (omega (arith, ints)) (grind (arith, ints)))
 
 -- ---- none before, one after another
 
-none_chain : (a b c : Point) → IsUpper a.x a.y → IsUpper b.x b.y → IsUpper c.x c.y → is_left a b ≡ false → is_left b c ≡ false → is_left a c ≡ false
+none_chain : (a b c : Point) → IsUpper a.x a.y → IsUpper b.x b.y → IsUpper c.x c.y → turns_left a b ≡ false → turns_left b c ≡ false → turns_left a c ≡ false
 none_chain a b c a_up b_up c_up h k =
     not_positive_tested _ (none_left_of_none_left a.x a.y b.x b.y c.x c.y a_up b_up c_up (tested_not_positive _ h) (tested_not_positive _ k))
 
-left_back : (a b : Point) → is_left (back a) (back b) ≡ is_left a b
+left_back : (a b : Point) → turns_left (back a) (back b) ≡ turns_left a b
 left_back a b = ap (int_lt (pos 0)) (both_back a b)
 
 none_chain_lower : (a b c : Point) → IsUpper (neg_ℤ a.x) (neg_ℤ a.y) → IsUpper (neg_ℤ b.x) (neg_ℤ b.y) → IsUpper (neg_ℤ c.x) (neg_ℤ c.y)
-    → is_left a b ≡ false → is_left b c ≡ false → is_left a c ≡ false
+    → turns_left a b ≡ false → turns_left b c ≡ false → turns_left a c ≡ false
 none_chain_lower a b c a_low b_low c_low h k =
     sym (left_back a c) ∙ none_chain (back a) (back b) (back c) a_low b_low c_low (left_back a b ∙ h) (left_back b c ∙ k)
 

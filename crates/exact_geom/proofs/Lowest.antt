@@ -51,14 +51,14 @@ size_of_divided (negsuc n) g = size_of_negative (suc n / g)
 
 -- the quotient by a divisor of a positive number is positive
 pub quotient_is_positive : (n g : ℕ) → 0 < n → g ∣ n → 0 < n / g
-quotient_is_positive n g some whole =
+quotient_is_positive n g nonzero whole =
     pos_of_ne-zero (λ e. let all = div-mul_cancel g whole in let none : n / g * g ≡ 0 = ap (λ t. t * g) e ∙ zero-mul g in absurd (omega arith))
 
 divided_is_positive : (z : ℤ) (g : ℕ) → pos 1 ≤ℤ z → g ∣ unsigned_abs z → pos 1 ≤ℤ divided z g
-divided_is_positive (pos n) g some whole =
+divided_is_positive (pos n) g nonzero whole =
     let more = quotient_is_positive n g (omega (arith, ints)) whole in
     subst (λ t. pos 1 ≤ℤ t) (sym (divided_natural n g)) (omega (arith, ints))
-divided_is_positive (negsuc n) g some whole = absurd (omega (arith, ints))
+divided_is_positive (negsuc n) g nonzero whole = absurd (omega (arith, ints))
 
 -- ---- fractions in lowest terms
 
@@ -67,22 +67,22 @@ abbrev pub divisor_of : Fraction → ℕ
 divisor_of f = common_divisor (unsigned_abs f.num) (unsigned_abs f.den)
 
 pub size_is_positive : (z : ℤ) → pos 1 ≤ℤ z → 0 < unsigned_abs z
-size_is_positive (pos n) some = omega (arith, ints)
-size_is_positive (negsuc n) some = omega arith
+size_is_positive (pos n) nonzero = omega (arith, ints)
+size_is_positive (negsuc n) nonzero = omega arith
 
 pub divisor_is_positive : (f : Fraction) → pos 1 ≤ℤ f.den → 0 < divisor_of f
-divisor_is_positive f some =
-    positive_divisor (unsigned_abs f.num) (unsigned_abs f.den) (divisor_of f) (size_is_positive f.den some) (common_divisor_is (unsigned_abs f.num) (unsigned_abs f.den))
+divisor_is_positive f nonzero =
+    positive_divisor (unsigned_abs f.num) (unsigned_abs f.den) (divisor_of f) (size_is_positive f.den nonzero) (common_divisor_is (unsigned_abs f.num) (unsigned_abs f.den))
 
 -- what is left is in lowest terms
 pub reduced_is_reduced : (f : Fraction) → pos 1 ≤ℤ f.den → IsReduced (reduced f)
 unfolding reduced
-reduced_is_reduced f some =
+reduced_is_reduced f nonzero =
     let g = divisor_of f in
     let is = common_divisor_is (unsigned_abs f.num) (unsigned_abs f.den) in
     record {
-      lowest = rw (size_of_divided f.num g, size_of_divided f.den g) (coprime_quotients (unsigned_abs f.num) (unsigned_abs f.den) g (divisor_is_positive f some) is);
-      positive = divided_is_positive f.den g some is.1;
+      lowest = rw (size_of_divided f.num g, size_of_divided f.den g) (coprime_quotients (unsigned_abs f.num) (unsigned_abs f.den) g (divisor_is_positive f nonzero) is);
+      positive = divided_is_positive f.den g nonzero is.1;
     }
 
 -- the parts, each divided by the greatest common divisor
@@ -116,22 +116,22 @@ pub neg_within : (most : ℕ) (z : ℤ) → IsWithin (pos most) z → IsWithin (
 neg_within most z h = record { low = omega (arith, ints); high = omega (arith, ints) }
 
 opposite_is_positive : (z : ℤ) → z ≢ pos 0 → int_lt (pos 0) z ≡ false → pos 1 ≤ℤ neg_ℤ z
-opposite_is_positive (pos zero) some h = absurd (some refl)
-opposite_is_positive (pos (suc n)) some h = absurd (omega (arith, ints, h))
-opposite_is_positive (negsuc n) some h = omega (arith, ints)
+opposite_is_positive (pos zero) nonzero h = absurd (nonzero refl)
+opposite_is_positive (pos (suc n)) nonzero h = absurd (omega (arith, ints, h))
+opposite_is_positive (negsuc n) nonzero h = omega (arith, ints)
 
 over_by : Bool → ℤ → ℤ → Fraction
 over_by up num den = if up then record { num = num; den = den } else record { num = neg_ℤ num; den = neg_ℤ den }
 
 positive_by : (up : Bool) (num den : ℤ) → den ≢ pos 0 → int_lt (pos 0) den ≡ up → pos 1 ≤ℤ (over_by up num den).den
 unfolding over_by
-positive_by true num den some h = omega (arith, ints, h)
-positive_by false num den some h = opposite_is_positive den some h
+positive_by true num den nonzero h = omega (arith, ints, h)
+positive_by false num den nonzero h = opposite_is_positive den nonzero h
 
 -- every denominator but 0 gives one of at least 1
 pub fraction_is_positive : (num den : ℤ) → den ≢ pos 0 → pos 1 ≤ℤ (fraction num den).den
 unfolding over_by
-fraction_is_positive num den some = positive_by (int_lt (pos 0) den) num den some refl
+fraction_is_positive num den nonzero = positive_by (int_lt (pos 0) den) num den nonzero refl
 
 -- a whole number is in lowest terms
 pub whole_is_reduced : (z : ℤ) → IsReduced (whole z)

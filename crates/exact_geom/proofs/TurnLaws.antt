@@ -8,7 +8,7 @@ use Rattle.std.specs.declared.cmp.Ordering.TheVariants.{Less, Equal, Greater}
 use Rattle.std.proofs.lemmas.Bool.{true_from_ne_false}
 use Rattle.std.proofs.lemmas.Int.{ints}
 use Rattle.plane_spec.specs.declared.Point.{Point}
-use Rattle.plane_spec.specs.Vectors.{point, cross_of, dot_of, is_left, is_upper, turns_by, turns_before, turn_order_of, IsDirected}
+use Rattle.plane_spec.specs.Vectors.{point, cross_of, dot_of, turns_left, is_upper, turns_by, turns_before, turn_order_of, IsDirected}
 use Rattle.int_laws.proofs.Ring.{times_zero, times_one, times_minus, times_sum, product_grouped, product_turned, product_swapped, dot_times, dot_times_across}
 use Rattle.int_laws.proofs.Signs.{not_positive_tested, tested_not_positive, positive_product, positive_factor, zero_factor}
 use Rattle.exact_geom.specs.Directions.{PointAlike}
@@ -106,17 +106,17 @@ less_transitive a b c a_some b_some c_some h k =
 
 -- values that each have a direction are ordered by their directions, as a sort by `turns_before` asks
 pub directions_ranked : {X : Type 0} (way : X → Point) → ((x : X) → IsDirected (way x)) → IsStrictWeakOrder (λ x y. turns_before (way x) (way y))
-directions_ranked way some = record {
+directions_ranked way nonzero = record {
   one_way = λ x y. turns_one_way (way x) (way y);
-  chain = λ x y z. turns_chain (way x) (way y) (way z) (some x) (some y) (some z);
+  chain = λ x y z. turns_chain (way x) (way y) (way z) (nonzero x) (nonzero y) (nonzero z);
 }
 
 -- the same, as an order of answers
 pub directions_ordered : {X : Type 0} (way : X → Point) → ((x : X) → IsDirected (way x)) → IsTotalOrder (λ x y. turn_order_of (way x) (way y))
-directions_ordered way some = record {
+directions_ordered way nonzero = record {
   antisymm = λ x y. order_reversed (way y) (way x);
-  trans = λ x y z. less_transitive (way x) (way y) (way z) (some x) (some y) (some z);
-  congr = λ x y z. equal_compares_alike (way x) (way y) (way z) (some x) (some y) (some z);
+  trans = λ x y z. less_transitive (way x) (way y) (way z) (nonzero x) (nonzero y) (nonzero z);
+  congr = λ x y z. equal_compares_alike (way x) (way y) (way z) (nonzero x) (nonzero y) (nonzero z);
 }
 
 not_before_first : (ex ey : ℤ) → pos 0 ≤ℤ ey → int_lt (pos 0) (ex *ℤ pos 0 -ℤ ey *ℤ pos 1) ≡ false
@@ -125,7 +125,7 @@ not_before_first ex ey h =
     let w = times_one ey in
     not_positive_tested (ex *ℤ pos 0 -ℤ ey *ℤ pos 1) (omega (arith, ints, z, w))
 
-before_first_by : (upper : Bool) (e : Point) → is_upper e ≡ upper → turns_by upper true (is_left e (point (pos 1) (pos 0))) ≡ false
+before_first_by : (upper : Bool) (e : Point) → is_upper e ≡ upper → turns_by upper true (turns_left e (point (pos 1) (pos 0))) ≡ false
 before_first_by true e h = not_before_first e.x e.y (not_down e.x e.y (upper_is e h))
 before_first_by false e h = refl
 
@@ -168,7 +168,7 @@ pub record InLine (d e : Point) : Type 0 where
 -- equal directions are in line
 pub in_line_of_equal : (d e : Point) → IsDirected d → IsDirected e → turn_order_of d e ≡ Equal → InLine d e
 in_line_of_equal d e d_some e_some h =
-    let half = same_half_by (is_upper d) (is_upper e) (is_left d e) (is_left e d) (sym (order_by_halves d e) ∙ h) in
+    let half = same_half_by (is_upper d) (is_upper e) (turns_left d e) (turns_left e d) (sym (order_by_halves d e) ∙ h) in
     let line = neither_way (cross_of e d) (cross_of d e) (cross_of_exchanged d e) half.not_left half.not_right in
     record { line = line; ahead = in_line_within d e (is_upper d) d_some e_some refl half.same line }
 

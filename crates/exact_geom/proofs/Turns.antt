@@ -5,7 +5,7 @@ use Rattle.std.specs.declared.cmp.Ordering.{Ordering}
 use Rattle.std.specs.declared.cmp.Ordering.TheVariants.{Less, Equal, Greater}
 use Rattle.std.proofs.lemmas.Int.{ints}
 use Rattle.plane_spec.specs.declared.Point.{Point}
-use Rattle.plane_spec.specs.Vectors.{cross_of, is_left, is_upper, turns_by, turns_before, turn_order_of}
+use Rattle.plane_spec.specs.Vectors.{cross_of, turns_left, is_upper, turns_by, turns_before, turn_order_of}
 use Rattle.int_laws.proofs.Ring.{cross_exchanged}
 use Rattle.exact_geom.specs.Directions.{turned_order}
 
@@ -17,14 +17,14 @@ right_of : (y z : ℤ) → y ≡ neg_ℤ z → int_lt (pos 0) y ≡ int_lt z (po
 right_of y z e = grind (arith, ints)
 
 -- d is left of e where e is right of d
-pub left_is_right : (d e : Point) → is_left e d ≡ int_lt (cross_of d e) (pos 0)
+pub left_is_right : (d e : Point) → turns_left e d ≡ int_lt (cross_of d e) (pos 0)
 left_is_right d e = right_of (cross_of e d) (cross_of d e) (cross_of_exchanged d e)
 
 -- the order by halves, by whether the second is left of the first, and whether the first is left of the second
 abbrev pub order_by : Bool → Bool → Bool → Bool → Ordering
 order_by upper upper_too left right = if turns_by upper upper_too left then Less else (if turns_by upper_too upper right then Greater else Equal)
 
-pub order_by_halves : (d e : Point) → turn_order_of d e ≡ order_by (is_upper d) (is_upper e) (is_left d e) (is_left e d)
+pub order_by_halves : (d e : Point) → turn_order_of d e ≡ order_by (is_upper d) (is_upper e) (turns_left d e) (turns_left e d)
 unfolding turn_order_of turns_before
 order_by_halves d e = refl
 

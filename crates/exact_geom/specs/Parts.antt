@@ -2,7 +2,7 @@
 use Rattle.std.specs.Prelude.{ℤ, Bool}
 use Rattle.std.specs.Ordering.{int_eq, eq_of_both, on}
 use Rattle.plane_spec.specs.Vectors.{IsWithin}
-use Rattle.plane_spec.specs.Fractions.{Fraction, Place}
+use Rattle.plane_spec.specs.Fractions.{Fraction, RPoint}
 use Rattle.exact_geom.specs.declared.limits.TheConstants.{MAX_STOP_PART, MAX_COORDINATE_PART}
 
 -- numerator and denominator are from -most to most
@@ -11,7 +11,7 @@ pub record HasPartsWithin (most : ℤ) (f : Fraction) : Type 0 where
   pub den : IsWithin most f.den
 
 -- so are those of both coordinates
-pub record HasCoordinatesWithin (most : ℤ) (p : Place) : Type 0 where
+pub record HasCoordinatesWithin (most : ℤ) (p : RPoint) : Type 0 where
   pub x : HasPartsWithin most p.x
   pub y : HasPartsWithin most p.y
 
@@ -28,5 +28,5 @@ abbrev pub HasCoordinateParts : Fraction → Type 0
 HasCoordinateParts f = HasPartsWithin MAX_COORDINATE_PART f
 
 -- a point with such coordinates
-abbrev pub HasPlaceParts : Place → Type 0
+abbrev pub HasPlaceParts : RPoint → Type 0
 HasPlaceParts p = HasCoordinatesWithin MAX_COORDINATE_PART p

@@ -2,9 +2,9 @@
 
 ghost use Rattle.std.specs.Prelude.{◌≡◌, ◌≤◌, Some, length};
 ghost use Rattle.plane_spec.specs.Vectors.{InRange};
-ghost use Rattle.plane_spec.specs.Boxes.{box_of_points, do_overlap, does_meet_box, is_left_of, reaches_line};
+ghost use Rattle.plane_spec.specs.Boxes.{box_of_points, do_intervals_overlap, does_meet_box, is_box_left_of_line, reaches_line};
 
-use crate::vectors::lies_left;
+use crate::vectors::is_left_of_line;
 use plane_spec::{PlanBox, Point};
 
 /// The least box that has `area` and `p` in it.
@@ -42,23 +42,23 @@ pub fn box_of(points: &[Point]) -> PlanBox
 
 /// Whether the stretch between `m` and `n` shares a number with the one from `low` to `high`.
 fn overlap(m: i64, n: i64, low: i64, high: i64) -> bool
-    ensures { result ≡ do_overlap m n low high }
+    ensures { result ≡ do_intervals_overlap m n low high }
 {
     (low <= m || low <= n) && (m <= high || n <= high)
 }
 
 /// Whether all corners of `area` lie strictly left of the line from `p` to `q`.
-#[tactic(auto, unfolding(plane_spec::specs::Boxes::is_left_of))]
+#[tactic(auto, unfolding(plane_spec::specs::Boxes::is_box_left_of_line))]
 fn left_of(p: Point, q: Point, area: PlanBox) -> bool
     requires p_in { InRange p }
     requires q_in { InRange q }
     requires low_in { InRange area.low }
     requires high_in { InRange area.high }
-    ensures { result ≡ is_left_of p q area }
+    ensures { result ≡ is_box_left_of_line p q area }
 {
     let (low, high) = (area.low, area.high);
-    lies_left(p, q, low)
-        && lies_left(
+    is_left_of_line(p, q, low)
+        && is_left_of_line(
             p,
             q,
             Point {
@@ -66,8 +66,8 @@ fn left_of(p: Point, q: Point, area: PlanBox) -> bool
                 y: low.y,
             },
         )
-        && lies_left(p, q, high)
-        && lies_left(
+        && is_left_of_line(p, q, high)
+        && is_left_of_line(
             p,
             q,
             Point {

@@ -99,7 +99,7 @@ mod tests {
     fn place(num: i128, den: i128) -> RPoint
         requires num_in { IsWithin MAX_STOP_PART num }
         requires den_in { IsWithin MAX_STOP_PART den }
-        requires some { den ≢ pos 0 }
+        requires nonzero { den ≢ pos 0 }
         ensures { HasPlaceParts result }
     {
         RPoint::along(

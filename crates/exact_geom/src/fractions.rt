@@ -77,7 +77,7 @@ fn common_divisor(a: u128, b: u128) -> u128
 fn divisor_of(num: i128, den: i128) -> u128
     requires { pos 1 ≤ℤ den }
     ensures value { result ≡ fractions.common_divisor (unsigned_abs num) (unsigned_abs den) }
-    ensures some { 0 < result }
+    ensures nonzero { 0 < result }
 {
     common_divisor(num.unsigned_abs(), den.unsigned_abs())
 }
@@ -85,7 +85,7 @@ fn divisor_of(num: i128, den: i128) -> u128
 /// `z` divided by a divisor of its size.
 fn divided(z: i128, divisor: u128) -> i128
     requires small { IsWithin MAX_FRACTION_PART z }
-    requires some { 0 < divisor }
+    requires nonzero { 0 < divisor }
     ensures { result ≡ fractions.divided z divisor }
 {
     let size = (z.unsigned_abs() / divisor) as i128;
@@ -135,7 +135,7 @@ impl Frac {
     pub fn new(num: i128, den: i128) -> Frac
         requires num_in { IsWithin MAX_FRACTION_PART num }
         requires den_in { IsWithin MAX_FRACTION_PART den }
-        requires some { den ≢ pos 0 }
+        requires nonzero { den ≢ pos 0 }
         ensures value { result ≡ fractions.reduced (fractions.fraction num den) }
         ensures no_larger { (most : ℕ) → IsWithin (pos most) num → IsWithin (pos most) den → HasPartsWithin (pos most) result }
     {
@@ -215,7 +215,7 @@ mod tests {
     fn is(num: i128, den: i128, parts: (i128, i128), floor: i128, ceil: i128) -> bool
         requires num_in { IsWithin MAX_FRACTION_PART num }
         requires den_in { IsWithin MAX_FRACTION_PART den }
-        requires some { den ≢ pos 0 }
+        requires nonzero { den ≢ pos 0 }
     {
         let f = Frac::new(num, den);
         f.num() == parts.0 && f.den() == parts.1 && f.floor() == floor && f.ceil() == ceil

@@ -10,7 +10,7 @@
 //! | [`MAX_STOP_PART`], [`MAX_COORDINATE_PART`], [`MAX_FRACTION_PART`] | how large the parts of fractions are |
 //! | [`orient`], [`cross`], [`dot`] | which way three points or two directions turn |
 //! | [`same_point`], [`vector`] | whether two points are one; the direction from one to another |
-//! | [`is_left`], [`lies_left`] | what is strictly left of a direction or of a line |
+//! | [`turns_left`], [`is_left_of_line`] | what is strictly left of a direction or of a line |
 //! | [`is_zero`], [`is_positive`], [`is_at_least_zero`], [`are_opposite`], [`is_less`] | comparisons |
 //! | [`wide_product`] | a product of two parts of fractions |
 //! | [`orient_laws`] | how three points turn in another order |
@@ -47,17 +47,14 @@ pub use compare::{are_opposite, is_at_least_zero, is_less, is_positive, is_zero}
 pub use directions::{turn_order, turn_order_laws};
 pub use extents::{extent_meets_box, on_extent};
 pub use fractions::{Frac, lowest_terms};
-pub use limits::{
-    MAX_COORDINATE_PART, MAX_CROSS, MAX_DIFFERENCE, MAX_FRACTION_PART, MAX_ORIENTATION,
-    MAX_PRODUCT, MAX_STOP_PART,
-};
+pub use limits::{MAX_COORDINATE_PART, MAX_CROSS, MAX_DIFFERENCE, MAX_FRACTION_PART, MAX_ORIENTATION, MAX_PRODUCT, MAX_STOP_PART};
 pub use places::{RPoint, along_is_by_value, place_order_laws, places_are_small};
 pub use plane_spec::{Corner, MAX_COMPONENT, MAX_COORDINATE, PlanBox, Point, Segment};
 pub use polygons::{edge, inside, on_border};
 pub use products::{cross, dot, orient, orient_laws};
 pub use segments::{crosses, on_segment, touch};
 pub use text_spec::{Name, NoMemory};
-pub use vectors::{in_range, is_coordinate, is_left, lies_left, same_point, vector};
+pub use vectors::{in_range, is_coordinate, turns_left, is_left_of_line, same_point, vector};
 
 fn is_shared<T: Send + Sync>() {}
 

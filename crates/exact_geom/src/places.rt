@@ -10,7 +10,7 @@ ghost use Rattle.plane_spec.specs.Vectors.{InRange, IsDirection, IsWithin};
 ghost use Rattle.plane_spec.specs.declared.Point.{Point};
 ghost use Rattle.plane_spec.specs.declared.TheConstants.{MAX_COMPONENT, MAX_COORDINATE};
 ghost use Rattle.plane_spec.specs.Fractions as fractions;
-ghost use Rattle.plane_spec.specs.Fractions.{Fraction, Place};
+ghost use Rattle.plane_spec.specs.Fractions.{Fraction, RPoint};
 ghost use Rattle.exact_geom.specs.Parts.{HasCoordinateParts, HasPlaceParts, HasStopParts, same_parts};
 ghost use Rattle.exact_geom.specs.Places as places;
 ghost use Rattle.exact_geom.specs.Places.{IsOverPositive};
@@ -30,7 +30,7 @@ pub struct RPoint {
 }
 
 impl Model for RPoint {
-    ghost Value = { Place };
+    ghost Value = { RPoint };
 
     ghost view = { λ a. record { x = a.x; y = a.y } };
 
@@ -45,7 +45,7 @@ impl PartialEq for RPoint {
     /// Whether the two are one point.
     fn eq(&self, other: &Self) -> bool
         ensures by_parts { result ≡ (same_parts self.now.x other.now.x && same_parts self.now.y other.now.y) }
-        ensures by_value { result ≡ fractions.same_place self.now other.now }
+        ensures by_value { result ≡ fractions.same_rpoint self.now other.now }
     {
         self.x == other.x && self.y == other.y
     }
@@ -83,7 +83,7 @@ impl RPoint {
     /// The whole point `p`.
     pub fn at(p: Point) -> RPoint
         requires { InRange p }
-        ensures value { result ≡ fractions.at_point p }
+        ensures value { result ≡ fractions.whole_point p }
         ensures within { HasPlaceParts result }
     {
         RPoint {
@@ -141,8 +141,8 @@ pub fn along_is_by_value()
 ///
 /// Proofs cite these laws from `proofs/PlaceOrder.antt`.
 pub fn place_order_laws()
-    ensures reversed { (p q : Place) → places.place_order_of q p ≡ ordering_reverse (places.place_order_of p q) }
-    ensures transitive { (p q r : Place) → IsOverPositive p → IsOverPositive q → IsOverPositive r → places.place_order_of p q ≡ Less → places.place_order_of q r ≡ Less → places.place_order_of p r ≡ Less }
-    ensures equal_compare_alike { (p q r : Place) → IsOverPositive p → IsOverPositive q → IsOverPositive r → places.place_order_of p q ≡ Equal → places.place_order_of p r ≡ places.place_order_of q r }
-    ensures equal_are_one { (p q : Place) → (places.place_order_of p q ≡ Equal) ↔ (fractions.same_place p q ≡ true) }
+    ensures reversed { (p q : RPoint) → places.place_order_of q p ≡ ordering_reverse (places.place_order_of p q) }
+    ensures transitive { (p q r : RPoint) → IsOverPositive p → IsOverPositive q → IsOverPositive r → places.place_order_of p q ≡ Less → places.place_order_of q r ≡ Less → places.place_order_of p r ≡ Less }
+    ensures equal_compare_alike { (p q r : RPoint) → IsOverPositive p → IsOverPositive q → IsOverPositive r → places.place_order_of p q ≡ Equal → places.place_order_of p r ≡ places.place_order_of q r }
+    ensures equal_are_one { (p q : RPoint) → (places.place_order_of p q ≡ Equal) ↔ (fractions.same_rpoint p q ≡ true) }
 {}

@@ -52,10 +52,10 @@ pub fn vector(a: Point, b: Point) -> Point
 /// Whether `e` is strictly left of `d`.
 ///
 /// Cost: two multiplications.
-pub fn is_left(d: Point, e: Point) -> bool
+pub fn turns_left(d: Point, e: Point) -> bool
     requires d_in { IsDirection d }
     requires e_in { IsDirection e }
-    ensures { result ≡ vectors.is_left d e }
+    ensures { result ≡ vectors.turns_left d e }
 {
     is_positive(cross(d, e))
 }
@@ -63,11 +63,11 @@ pub fn is_left(d: Point, e: Point) -> bool
 /// Whether `c` lies strictly left of the line from `a` to `b`.
 ///
 /// Cost: two multiplications.
-pub fn lies_left(a: Point, b: Point, c: Point) -> bool
+pub fn is_left_of_line(a: Point, b: Point, c: Point) -> bool
     requires a_in { InRange a }
     requires b_in { InRange b }
     requires c_in { InRange c }
-    ensures { result ≡ vectors.lies_left a b c }
+    ensures { result ≡ vectors.is_left_of_line a b c }
 {
     is_positive(orient(a, b, c))
 }

@@ -21,13 +21,13 @@ use Rattle.plane_spec.specs.declared.Point.{Point}
 use Rattle.plane_spec.specs.declared.PlanBox.{PlanBox}
 use Rattle.plane_spec.specs.declared.Segment.{Segment}
 use Rattle.plane_spec.specs.declared.Corner.{Corner}
-use Rattle.plane_spec.specs.Vectors.{vector, cross_of, dot_of, orient_of, same_point, is_left}
+use Rattle.plane_spec.specs.Vectors.{vector, cross_of, dot_of, orient_of, same_point, turns_left}
 use Rattle.plane_spec.specs.Cones.{is_in_cone}
 use Rattle.plane_spec.specs.Polygons.{is_on_edge}
 use Rattle.plane_spec.specs.Fractions.{Fraction, fraction, whole}
-use Rattle.plan_spec.specs.Sight.{is_on_middle}
-use Rattle.plan_spec.specs.Scene.{Scene, lines_of_scene}
-use Rattle.plan_spec.specs.Stops.{is_across, meeting, line_hit, corner_hit, start_hit, hits_of}
+use Rattle.sight_spec.specs.Sight.{is_in_interior}
+use Rattle.sight_spec.specs.Scene.{Scene, blockers_of_scene}
+use Rattle.sight_spec.specs.Stops.{is_across, meeting, blocker_hit, corner_hit, start_hit, hits_of}
 use Rattle.box_laws.specs.Boxes.{IsIn, OfEnds}
 use Rattle.box_laws.proofs.Touching.{order_stays, line_turned}
 use Rattle.box_laws.proofs.Blocking.{or_cases, on_edge_in}
@@ -85,9 +85,9 @@ seen_orient : (a b p : Point) → cross_of (vector p a) (vector p b) ≡ orient_
 seen_orient a b p = sym (orient_cycled p.x p.y a.x a.y b.x b.y)
 
 -- a wall or screen that is met has its ends on both sides, one way or the other
-line_parts : {P : Type 0} (p d : Point) (w : Segment) (t : Fraction) → line_hit p d w ≡ Some t
+line_parts : {P : Type 0} (p d : Point) (w : Segment) (t : Fraction) → blocker_hit p d w ≡ Some t
     → (Straddles p d w.a w.b t → P) → (Straddles p d w.b w.a t → P) → P
-unfolding line_hit
+unfolding blocker_hit
 line_parts p d w t e f g =
     let hit = passed (is_across p d w && int_lt (pos 0) (meeting p d w).num) (meeting p d w) t e in
     let tests = and_parts (is_across p d w) (int_lt (pos 0) (meeting p d w).num) hit.0 in
@@ -136,7 +136,7 @@ straddled_is_hit p d a b t s = record {
     apart u v h k = omega (arith, ints)
 
 -- a wall or screen is met ahead
-line_is_hit : (p d : Point) (w : Segment) (t : Fraction) → line_hit p d w ≡ Some t → IsHit t
+line_is_hit : (p d : Point) (w : Segment) (t : Fraction) → blocker_hit p d w ≡ Some t → IsHit t
 line_is_hit p d w t e = line_parts p d w t e (straddled_is_hit p d w.a w.b t) (straddled_is_hit p d w.b w.a t)
 
 -- where its ends are in the box it is met there
@@ -152,7 +152,7 @@ straddled_touches i j box a b ia ib t s = record {
 
 -- a wall or screen with its ends in the box is met there
 pub line_touches : (i j : Point) (box : PlanBox) (w : Segment) → OfEnds (IsIn box) w → (t : Fraction)
-    → line_hit j (vector i j) w ≡ Some t → Touch i j box t
+    → blocker_hit j (vector i j) w ≡ Some t → Touch i j box t
 line_touches i j box w held t e =
     line_parts j (vector i j) w t e (straddled_touches i j box w.a w.b held.a held.b t)
     (straddled_touches i j box w.b w.a held.b held.a t)
@@ -236,8 +236,8 @@ record Starts (p : Point) (w : Segment) (t : Fraction) : Type 0 where
 start_parts : (p d : Point) (w : Segment) (t : Fraction) → start_hit p d w ≡ Some t → Starts p w t
 unfolding start_hit
 start_parts p d w t e =
-    let hit = passed (is_on_middle p w && is_left (vector w.a w.b) d) (whole (pos 0)) t e in
-    let middle = (and_parts (is_on_middle p w) (is_left (vector w.a w.b) d) hit.0).0 in
+    let hit = passed (is_in_interior p w && turns_left (vector w.a w.b) d) (whole (pos 0)) t e in
+    let middle = (and_parts (is_in_interior p w) (turns_left (vector w.a w.b) d) hit.0).0 in
     record {
       on = (and_parts (is_on_edge p w) (not (same_point p w.a) && not (same_point p w.b)) middle).0;
       value = hit.1;
@@ -303,9 +303,9 @@ each_given {Y = Y} P f gives (x ∷ xs) = by (f x) (gives x) (each_given P f giv
 -- all that stops a ray is a hit
 pub all_hits : (scene : Scene) (p d : Point) → pos 0 <ℤ dot_of d d → All IsHit (hits_of scene p d)
 all_hits scene p d dd =
-    All-append IsHit (filter_map (line_hit p d) (lines_of_scene scene))
+    All-append IsHit (filter_map (blocker_hit p d) (blockers_of_scene scene))
     (filter_map (corner_hit p d) scene.corners ++ filter_map (start_hit p d) scene.walls)
-    (each_given IsHit (line_hit p d) (line_is_hit p d) (lines_of_scene scene))
+    (each_given IsHit (blocker_hit p d) (line_is_hit p d) (blockers_of_scene scene))
     (All-append IsHit (filter_map (corner_hit p d) scene.corners) (filter_map (start_hit p d) scene.walls)
     (each_given IsHit (corner_hit p d) (corner_is_hit p d dd) scene.corners)
     (each_given IsHit (start_hit p d) (start_is_hit p d) scene.walls))

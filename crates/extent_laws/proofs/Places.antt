@@ -22,13 +22,13 @@ use Rattle.int_laws.proofs.Tests.{tested_equal, at_most_tested}
 use Rattle.plane_spec.specs.declared.Point.{Point}
 use Rattle.plane_spec.specs.declared.PlanBox.{PlanBox}
 use Rattle.plane_spec.specs.Vectors.{vector, orient_of}
-use Rattle.plane_spec.specs.Fractions.{Fraction, Place, whole, is_before, reduced, same_value, same_place}
+use Rattle.plane_spec.specs.Fractions.{Fraction, RPoint, whole, is_before, reduced, same_value, same_rpoint}
 use Rattle.plane_spec.specs.Fractions.{along, shifted}
 use Rattle.plane_spec.specs.Boxes.{does_extent_meet_box}
 use Rattle.exact_geom.proofs.Lowest.{reduced_is_reduced}
 use Rattle.exact_geom.proofs.Values.{reduced_keeps_value}
 use Rattle.plane_spec.specs.Places.{is_between_fractions}
-use Rattle.plan_spec.specs.Axial.{end_by}
+use Rattle.sight_spec.specs.Axial.{end_by}
 use Rattle.box_laws.proofs.Touching.{line_turned}
 use Rattle.spot_laws.proofs.Spots.{Spot, spot_at, spots_meet_box}
 use Rattle.extent_laws.proofs.Hits.{IsHit}
@@ -40,7 +40,7 @@ use Rattle.spot_laws.proofs.SameSpots.{SameSpot, IsExtent, side_same, turned}
 -- ---- a place and a spot of one value
 
 -- the place has the values of the spot
-pub record IsSpot (e : Place) (s : Spot) : Type 0 where
+pub record IsSpot (e : RPoint) (s : Spot) : Type 0 where
   pub over : pos 0 <ℤ s.w
   pub over_x : pos 0 <ℤ e.x.den
   pub over_y : pos 0 <ℤ e.y.den
@@ -84,7 +84,7 @@ end_is_spot p d (Some t) h = record {
 }
 
 -- the boxes that are met are the same
-pub meets_as_spots : (a b : Point) (from to : Place) (f t : Spot) (area : PlanBox) → IsSpot from f → IsSpot to t
+pub meets_as_spots : (a b : Point) (from to : RPoint) (f t : Spot) (area : PlanBox) → IsSpot from f → IsSpot to t
     → does_extent_meet_box a b from to area ≡ spots_meet_box a b f t area
 unfolding does_extent_meet_box spots_meet_box
 meets_as_spots a b from to f t area i k =
@@ -132,7 +132,7 @@ same_over n d x w m e y v du eu p q r =
     ∙ product_swapped (y *ℤ w) (e *ℤ d))
 
 -- one place is one spot
-pub same_spots : (e g : Place) (s t : Spot) → IsSpot e s → IsSpot g t → same_place e g ≡ true → SameSpot s t
+pub same_spots : (e g : RPoint) (s t : Spot) → IsSpot e s → IsSpot g t → same_rpoint e g ≡ true → SameSpot s t
 same_spots e g s t i k h =
     let both = and_parts (same_value e.x g.x) (same_value e.y g.y) h in
     record {
@@ -156,7 +156,7 @@ is_on_spots a b f t p =
     int_eq (orient_of a b p) (pos 0) && (is_between_spots p.x f.x f.w t.x t.w && is_between_spots p.y f.y f.w t.y t.w)
 
 -- the same between places
-abbrev pub is_on_places : Point → Point → Place → Place → Point → Bool
+abbrev pub is_on_places : Point → Point → RPoint → RPoint → Point → Bool
 is_on_places a b f t p =
     int_eq (orient_of a b p) (pos 0)
     && (is_between_fractions (whole p.x) f.x t.x && is_between_fractions (whole p.y) f.y t.y)
@@ -190,7 +190,7 @@ between_as_spots z f g m v n w fu vu fe gu wu ge =
     not_below z g = as_least (z *ℤ g.den) g.num
 
 -- a point lies between places as between spots
-pub on_as_spots : (a b : Point) (from to : Place) (f t : Spot) (p : Point) → IsSpot from f → IsSpot to t
+pub on_as_spots : (a b : Point) (from to : RPoint) (f t : Spot) (p : Point) → IsSpot from f → IsSpot to t
     → is_on_places a b from to p ≡ is_on_spots a b f t p
 unfolding is_on_spots
 on_as_spots a b from to f t p i k =

@@ -14,14 +14,14 @@ use Rattle.int_laws.proofs.Ring.{product_swapped, product_grouped, product_turne
 use Rattle.int_laws.proofs.Tests.{tested_less, less_tested}
 use Rattle.plane_spec.specs.declared.Point.{Point}
 use Rattle.plane_spec.specs.declared.PlanBox.{PlanBox}
-use Rattle.plane_spec.specs.Lists.{least}
+use Rattle.plane_spec.specs.Lists.{min_by}
 use Rattle.plane_spec.specs.Vectors.{vector, dot_of, same_point, point}
 use Rattle.exact_geom.proofs.Circle.{dot_itself}
 use Rattle.plane_spec.specs.Fractions.{Fraction, whole, is_before, reduced}
 use Rattle.exact_geom.proofs.Lowest.{divisor_of, divisor_is_positive, reduced_is_reduced}
 use Rattle.exact_geom.proofs.Values.{numerator_is, denominator_is}
-use Rattle.plan_spec.specs.Scene.{Scene}
-use Rattle.plan_spec.specs.Stops.{hits_of, stop_of}
+use Rattle.sight_spec.specs.Scene.{Scene}
+use Rattle.sight_spec.specs.Stops.{hits_of, stop_of}
 use Rattle.box_laws.proofs.Touching.{order_stays}
 use Rattle.box_laws.proofs.Crossing.{strictly_stays}
 use Rattle.spot_laws.proofs.Spots.{Spot, spot_at, spots_meet_box, SpotIn, ending_meets}
@@ -163,7 +163,7 @@ reach (Some t) = t
 pub reach_is_hit : (scene : Scene) (p d : Point) → pos 0 <ℤ dot_of d d → IsHit (reach (stop_of scene p d))
 unfolding stop_of
 reach_is_hit scene p d dd =
-    by (least is_before (hits_of scene p d)) (least_has IsHit is_before (hits_of scene p d) (all_hits scene p d dd))
+    by (min_by is_before (hits_of scene p d)) (least_has IsHit is_before (hits_of scene p d) (all_hits scene p d dd))
   where
     by : (o : Option Fraction) → IfSome o IsHit → IsHit (reach (option_map reduced o))
     by None h = record { over = record { den = omega (arith, ints) }; ahead = omega (arith, ints) }

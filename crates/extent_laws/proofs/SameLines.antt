@@ -11,14 +11,14 @@ use Rattle.std.proofs.lemmas.Bool.{and_parts}
 use Rattle.plane_spec.specs.declared.Point.{Point}
 use Rattle.plane_spec.specs.declared.PlanBox.{PlanBox}
 use Rattle.plane_spec.specs.Vectors.{vector, same_point}
-use Rattle.plane_spec.specs.Fractions.{Fraction, same_place}
-use Rattle.plan_spec.specs.declared.changes.Changed.{Changed}
-use Rattle.plan_spec.specs.Scene.{Scene}
-use Rattle.plan_spec.specs.Stops.{stop_of}
+use Rattle.plane_spec.specs.Fractions.{Fraction, same_rpoint}
+use Rattle.plan_spec.specs.declared.edit.Changed.{Changed}
+use Rattle.sight_spec.specs.Scene.{Scene}
+use Rattle.sight_spec.specs.Stops.{stop_of}
 use Rattle.plan_spec.specs.Edits.{changed}
-use Rattle.plan_spec.specs.Axial.{AxialLine, end_beyond, line_through, same_ends}
-use Rattle.plan_spec.specs.Dirty.{corner_point, meets_if_there, extent_meets_if_there, is_dirty_pair, is_dirty_line}
-use Rattle.plan_spec.specs.Dirty.{is_on_axial_line}
+use Rattle.sight_spec.specs.Axial.{AxialLine, end_beyond, line_through, same_ends}
+use Rattle.sight_spec.specs.Dirty.{corner_point, meets_if_there, extent_meets_if_there, is_dirty_pair, is_dirty_line}
+use Rattle.sight_spec.specs.Dirty.{is_on_axial_line}
 use Rattle.box_laws.proofs.Blocking.{or_cases}
 use Rattle.extent_laws.specs.Corners.{Pair, IsPairOfCorners}
 use Rattle.spot_laws.proofs.Spans.{extent_of_meeting}
@@ -78,11 +78,11 @@ module _ (scene : Scene) where
         let e_to = to_spot e.0.1 e.1.1 e_differ in
         let f_from = from_spot f.0.1 f.1.1 f_differ in
         let f_to = to_spot f.0.1 f.1.1 f_differ in
-        or_cases (same_place l.from m.from && same_place l.to m.to)
-        (same_place l.from m.to && same_place l.to m.from) h
-        (λ t. let both = and_parts (same_place l.from m.from) (same_place l.to m.to) t in
+        or_cases (same_rpoint l.from m.from && same_rpoint l.to m.to)
+        (same_rpoint l.from m.to && same_rpoint l.to m.from) h
+        (λ t. let both = and_parts (same_rpoint l.from m.from) (same_rpoint l.to m.to) t in
         g (same_spots l.from m.from _ _ e_from f_from both.0) (same_spots l.to m.to _ _ e_to f_to both.1))
-        (λ t. let both = and_parts (same_place l.from m.to) (same_place l.to m.from) t in
+        (λ t. let both = and_parts (same_rpoint l.from m.to) (same_rpoint l.to m.from) t in
         k (same_spots l.from m.to _ _ e_from f_to both.0) (same_spots l.to m.from _ _ e_to f_from both.1))
 
     -- the extent of the first line

@@ -2,8 +2,8 @@
 use Rattle.std.specs.Prelude.{◌≡◌, ℕ, false}
 use Rattle.plane_spec.specs.declared.Point.{Point}
 use Rattle.plane_spec.specs.Vectors.{same_point}
-use Rattle.plan_spec.specs.Scene.{Scene}
-use Rattle.plan_spec.specs.Dirty.{corner_point}
+use Rattle.sight_spec.specs.Scene.{Scene}
+use Rattle.sight_spec.specs.Dirty.{corner_point}
 
 -- two points, each with a number
 abbrev pub Pair : Type 0

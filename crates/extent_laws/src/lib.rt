@@ -23,10 +23,10 @@
 
 ghost use Rattle.std.specs.Prelude.{◌≡◌, true};
 ghost use Rattle.plane_spec.specs.declared.Point.{Point};
-ghost use Rattle.plan_spec.specs.declared.changes.Changed.{Changed};
-ghost use Rattle.plan_spec.specs.Axial.{line_through, same_ends};
-ghost use Rattle.plan_spec.specs.Dirty.{is_dirty_line, is_dirty_pair, is_on_axial_line};
-ghost use Rattle.plan_spec.specs.Scene.{Scene};
+ghost use Rattle.plan_spec.specs.declared.edit.Changed.{Changed};
+ghost use Rattle.sight_spec.specs.Axial.{line_through, same_ends};
+ghost use Rattle.sight_spec.specs.Dirty.{is_dirty_line, is_dirty_pair, is_on_axial_line};
+ghost use Rattle.sight_spec.specs.Scene.{Scene};
 ghost use Rattle.extent_laws.specs.Corners.{IsPairOfCorners, Pair};
 
 /// Where the segment between two corners meets one of the boxes, the line through them does.

@@ -6,7 +6,7 @@ use Rattle.std.proofs.lemmas.Bool.{cases_eq, cases_lt}
 use Rattle.std.proofs.lemmas.List.Folds.{fold-map}
 use Rattle.std.proofs.lemmas.List.Sums.{count_by-le-length, sum_by-cons}
 use Rattle.std.proofs.lemmas.List.FromFn.{get_or-map-range_with_len, length-map-range_with_len, length-range_with_len}
-use Rattle.plan_spec.specs.Graphs.{Graph, IsDepth, nodes, depth_of, depths_of, measures_of, measures_of_nodes, no_measures}
+use Rattle.graph_spec.specs.Graphs.{Graph, IsDepth, nodes, depth_of, depths_of, measures_of, measures_of_nodes, no_measures}
 use Rattle.graph_laws.proofs.Walks.{begin_is_node, shorter_walk}
 use Rattle.graph_laws.proofs.Depths.{least_depth, one_depth_each, same_depth}
 

@@ -4,7 +4,7 @@ use Rattle.std.proofs.Common.{refl, sym, ap, ◌∙◌, inl, inr, arith, subst}
 use Rattle.std.proofs.lemmas.Bool.{cases_eq, cases_lt, both_ways}
 use Rattle.std.proofs.lemmas.List.{get_or_past}
 use Rattle.std.proofs.lemmas.List.FromFn.{length-map-range_with_len, get_or-map-range_with_len}
-use Rattle.plan_spec.specs.Graphs.{Graph, IsDepth, has_walk, first_from, depth_of, depths_of}
+use Rattle.graph_spec.specs.Graphs.{Graph, IsDepth, has_walk, first_from, depth_of, depths_of}
 use Rattle.graph_laws.proofs.Walks.{end_is_node, walk_is_found, found_is_walk, shorter_walk}
 
 -- none of so many numbers from k on passes, or it is the first that does

@@ -4,7 +4,7 @@ use Rattle.std.specs.List.{Contains}
 use Rattle.std.proofs.Common.{refl, sym, ◌⊎◌, inl, inr, arith, subst}
 use Rattle.std.proofs.lemmas.Bool.{cond_both, ltb-true, ltb-false}
 use Rattle.std.proofs.lemmas.Option.{none-some, same_Some}
-use Rattle.plan_spec.specs.Routes.{lesser, least_of, raised}
+use Rattle.route_spec.specs.Routes.{lesser, least_of, raised}
 use Rattle.graph_laws.proofs.Members.{contains_first, contains_later, contains_none, first_or_later}
 
 -- there is a cost, and it is no more than so much

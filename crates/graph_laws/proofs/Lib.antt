@@ -7,9 +7,6 @@ pub mod Least
 pub mod Rounds
 pub mod Turns
 pub mod Agreeing
-pub mod SimpleGraphs
-pub mod Visibility
 pub mod SameGraphs
 pub mod Bounds
-pub mod GridPoints
 pub mod SameEdges

@@ -4,7 +4,7 @@ use Rattle.std.specs.List.{Contains}
 use Rattle.std.proofs.Common.{refl, sym, ap, ◌∙◌, inl, inr, arith, subst}
 use Rattle.std.proofs.lemmas.Bool.{cond-true, eqb-true, eq-eqb}
 use Rattle.std.proofs.lemmas.Option.{same_Some}
-use Rattle.plan_spec.specs.Routes.{Piece, DirectedPiece, TurnWalk, directed_pieces, can_follow, turn_between, lesser, least_of, raised, cost_by_way, improved, at_source, costs_within}
+use Rattle.route_spec.specs.Routes.{Piece, DirectedPiece, TurnWalk, directed_pieces, can_follow, turn_between, lesser, least_of, raised, cost_by_way, improved, at_source, costs_within}
 use Rattle.graph_laws.proofs.Members.{contains_mapped, mapped_from}
 use Rattle.graph_laws.proofs.Least.{IsAtMost, lesser_at_most_first, lesser_at_most_second, lesser_is_one, least_at_most, least_is_one, raised_at_most, raised_from, none_unless}
 

@@ -5,7 +5,7 @@ use Rattle.std.proofs.Common.{refl, sym, ap, ◌∙◌, inl, inr, arith, subst}
 use Rattle.std.proofs.lemmas.Bool.{cases_eq, cases_lt}
 use Rattle.std.proofs.lemmas.List.Elements.{Contains-append_left, Contains-append_right}
 use Rattle.plane_spec.specs.Lists.{pairs, with_each}
-use Rattle.plan_spec.specs.Graphs.{Graph, IsSimpleGraph, nodes, is_edge, edges_of}
+use Rattle.graph_spec.specs.Graphs.{Graph, IsSimpleGraph, nodes, is_edge, edges_of}
 use Rattle.int_laws.proofs.Tests.{agree}
 use Rattle.graph_laws.proofs.Members.{contains_first, contains_later, contains_none, first_or_later, contains_mapped}
 use Rattle.graph_laws.proofs.SameGraphs.{same_simple_graphs}

@@ -4,7 +4,7 @@ use Rattle.std.specs.List.{count_by, range_with_len}
 use Rattle.std.proofs.Common.{sym, ap, ◌∙◌, inl, inr, arith}
 use Rattle.std.proofs.lemmas.Bool.{cases_Bool, cases_lt}
 use Rattle.plane_spec.specs.Lists.{pairs}
-use Rattle.plan_spec.specs.Graphs.{Graph, IsSimpleGraph, IsSameGraph, nodes, is_edge, edges_of, Walk, IsDepth, depth_of, depths_of, measures_by, measures_of, measures_of_nodes}
+use Rattle.graph_spec.specs.Graphs.{Graph, IsSimpleGraph, IsSameGraph, nodes, is_edge, edges_of, Walk, IsDepth, depth_of, depths_of, measures_by, measures_of, measures_of_nodes}
 use Rattle.graph_laws.proofs.Agreeing.{map_agree, map_agree_on, filter_agree_on, count_agree_on, all_in_range, all_in_pairs}
 use Rattle.graph_laws.proofs.Walks.{end_is_node}
 use Rattle.graph_laws.proofs.Depths.{least_depth, same_depth}

@@ -2,7 +2,7 @@
 use Rattle.std.specs.Prelude.{◌≡◌, ℕ, zero, suc, ◌+◌, ◌*◌, ◌<◌, ◌≤◌, Bool, true, false, cond, List, [], ◌∷◌, length}
 use Rattle.std.specs.List.{Contains, enumerate_from}
 use Rattle.std.proofs.Common.{refl, sym, ap, ◌∙◌, inl, inr, arith, subst}
-use Rattle.plan_spec.specs.Routes.{Piece, DirectedPiece, TurnWalk, both_ways, directed_pieces, can_follow, turn_between}
+use Rattle.route_spec.specs.Routes.{Piece, DirectedPiece, TurnWalk, both_ways, directed_pieces, can_follow, turn_between}
 use Rattle.graph_laws.proofs.Members.{contains_none, first_or_later, among_from, number_is_place, same_numbered}
 use Rattle.graph_laws.proofs.Paths.{IsPath, ShortPath, path_cost, stays, extend, few_steps}
 

@@ -3,7 +3,7 @@ use Rattle.std.specs.Prelude.{◌≡◌, ℕ, zero, suc, ◌+◌, ◌<◌, ◌�
 use Rattle.std.specs.List.{list_any, range_with_len}
 use Rattle.std.proofs.Common.{sym, ap, ◌∙◌, inl, inr, arith}
 use Rattle.std.proofs.lemmas.Bool.{cases_eq, and_from, and_parts, or_cases, or_left, or_right, eqb-true, eq-eqb, lt-ltb, ltb-true}
-use Rattle.plan_spec.specs.Graphs.{Graph, Walk, has_walk, nodes}
+use Rattle.graph_spec.specs.Graphs.{Graph, Walk, has_walk, nodes}
 use Rattle.graph_laws.proofs.Paths.{IsPath, ShortPath, stays, extend, few_steps}
 
 -- ---- the test for a walk

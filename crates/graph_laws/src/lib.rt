@@ -1,5 +1,5 @@
 //! Laws of graphs and of walks along routes: the depths that are computed, and that stand in tables, are those of the
-//! least walks; the graphs of what is seen and of what meets have no direction and no loops.
+//! least walks.
 //!
 //! A depth is said twice. As a relation it is the least over all walks, of any length: that is what a reader has to
 //! believe. As a value it is found by a search that ends, from which the tables are defined. These laws say that both
@@ -15,9 +15,6 @@
 //! | [`measures_stand_at_their_nodes`] | the list of measures has those of each node, at its number | `Graphs` |
 //! | [`same_graphs_measure_the_same`] | graphs that are the same below their count have the same depths, measures and edges | `Graphs` |
 //! | [`same_simple_graphs_are_equal`] | where graphs join nodes alone, that makes them equal, and so does one list of edges | `Graphs` |
-//! | [`grid_points_are_numbered_by_rows`] | number `row * cols + col` is the point in that row and column, and each point has its number alone | `Grid` |
-//! | [`the_visibility_graph_is_simple`] | what sees is seen, and the graph's edges are the listed pairs that see each other | `Grid`, `Sight` |
-//! | [`the_crossing_graph_is_simple`] | what meets is met | `Axial` |
 //! | [`turn_depth_is_least`] | the computed turn depth of a piece is the least cost of a walk to it, or none where there is no walk | `Routes` |
 //! | [`turn_depth_is_unique`] | a piece has one turn depth | `Routes` |
 //!
@@ -28,12 +25,8 @@
 ghost use Rattle.std.specs.Prelude.{◌≡◌, ◌<◌, ◌≤◌, ◌+◌, ◌-◌, ◌*◌, ◌≤ℤ◌, pos, unsigned_abs, ℕ, List, Option, None, Some, length, get_or};
 ghost use Rattle.std.specs.List.{Contains, enumerate_from};
 ghost use Rattle.plane_spec.specs.declared.Point.{Point};
-ghost use Rattle.plan_spec.specs.declared.kinds.GridSpec.{GridSpec};
-ghost use Rattle.plan_spec.specs.Plan.{Plan};
-ghost use Rattle.plan_spec.specs.Graphs.{Graph, IsDepth, IsSameGraph, IsSimpleGraph, depth_of, depths_of, edges_of, measures_of, measures_of_nodes, no_measures};
-ghost use Rattle.plan_spec.specs.Grid.{grid_points, number_of_point, point_at, point_of_number, visibility_edges, visibility_graph};
-ghost use Rattle.plan_spec.specs.Axial.{AxialLine, crossing_graph};
-ghost use Rattle.plan_spec.specs.Routes.{IsTurnDepth, Piece, turn_depths_of};
+ghost use Rattle.graph_spec.specs.Graphs.{Graph, IsDepth, IsSameGraph, IsSimpleGraph, depth_of, depths_of, edges_of, measures_of, measures_of_nodes, no_measures};
+ghost use Rattle.route_spec.specs.Routes.{IsTurnDepth, Piece, turn_depths_of};
 
 /// The depth of node `j` from `i` that is computed is the least number of edges of any walk from `i` to `j`, and none
 /// is computed exactly where there is no walk. The list of depths from `i` has one for each node, at its number.
@@ -86,32 +79,6 @@ pub fn same_simple_graphs_are_equal()
     ensures edges { (g h : Graph) → IsSimpleGraph g → IsSimpleGraph h → g.count ≡ h.count
         → edges_of g ≡ edges_of h → g ≡ h }
     ensures joins { (g h : Graph) → g.count ≡ h.count → ((i j : ℕ) → g.joins i j ≡ h.joins i j) → g ≡ h }
-{}
-
-/// The points of a grid are numbered row by row. So the point in a row and a column has the number of those before it:
-/// the columns of each row below, and the earlier ones of its own. Where columns and rows are at least a unit apart,
-/// as in a sound plan, no two numbers have one point: a point's number is the one that is found for it.
-pub fn grid_points_are_numbered_by_rows()
-    ensures point { (g : GridSpec) (row col : ℕ) → row < unsigned_abs g.rows → col < unsigned_abs g.cols
-        → point_of_number (Some g) (row * unsigned_abs g.cols + col) ≡ point_at g row col }
-    ensures below { (g : GridSpec) (row col : ℕ) → row < unsigned_abs g.rows → col < unsigned_abs g.cols
-        → row * unsigned_abs g.cols + col < length (grid_points (Some g)) }
-    ensures number { (g : GridSpec) → pos 1 ≤ℤ g.step → (k : ℕ) → k < length (grid_points (Some g))
-        → number_of_point (Some g) (point_of_number (Some g) k) ≡ Some k }
-    ensures found { (g : GridSpec) (x : Point) (k : ℕ) → number_of_point (Some g) x ≡ Some k
-        → (k < length (grid_points (Some g))) × (point_of_number (Some g) k ≡ x) }
-{}
-
-/// The visibility graph of any plan has no direction and no loops and joins numbers of grid points alone. Its edges
-/// are the pairs of open points that see each other, in the order in which the table of edges has them.
-pub fn the_visibility_graph_is_simple()
-    ensures simple { (plan : Plan) → IsSimpleGraph (visibility_graph plan) }
-    ensures edges { (plan : Plan) → edges_of (visibility_graph plan) ≡ visibility_edges plan }
-{}
-
-/// The crossing graph of any lines has no direction and no loops and joins numbers of lines alone.
-pub fn the_crossing_graph_is_simple()
-    ensures { (lines : List AxialLine) → IsSimpleGraph (crossing_graph lines) }
 {}
 
 /// The list of turn depths that is computed has one for each piece, at its number. It is the least cost of any walk

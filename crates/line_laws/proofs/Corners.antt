@@ -5,9 +5,9 @@ use Rattle.std.specs.List.{All, enumerate_from}
 use Rattle.std.proofs.lemmas.List.Elements.{All-nil, All-cons}
 use Rattle.plane_spec.specs.declared.Point.{Point}
 use Rattle.plane_spec.specs.declared.Corner.{Corner}
-use Rattle.plan_spec.specs.Scene.{Scene}
-use Rattle.plan_spec.specs.Axial.{here_of}
-use Rattle.plan_spec.specs.Dirty.{corner_point}
+use Rattle.sight_spec.specs.Scene.{Scene}
+use Rattle.sight_spec.specs.Axial.{here_of}
+use Rattle.sight_spec.specs.Dirty.{corner_point}
 
 -- the corner of a number, by what is left of the corners there
 at_number : (scene : Scene) (k : ℕ) (c : Corner) (corners : List Corner) → drop k scene.corners ≡ c ∷ corners

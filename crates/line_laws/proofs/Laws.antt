@@ -1,9 +1,9 @@
 -- The laws, of two scenes of which the second is the first without what lies in a box.
 use Rattle.std.proofs.Common.{◌≡◌, true, false, length}
 use Rattle.plane_spec.specs.declared.PlanBox.{PlanBox}
-use Rattle.plan_spec.specs.Scene.{Scene}
-use Rattle.plan_spec.specs.Axial.{axial_lines, line_through}
-use Rattle.plan_spec.specs.Dirty.{is_dirty_line}
+use Rattle.sight_spec.specs.Scene.{Scene}
+use Rattle.sight_spec.specs.Axial.{axial_lines, line_through}
+use Rattle.sight_spec.specs.Dirty.{is_dirty_line}
 use Rattle.list_laws.specs.Merged.{merged}
 use Rattle.dirty_laws.specs.Scenes.{removal_of, IsWithout, ClosesUp}
 use Rattle.dirty_laws.proofs.ClosingUp.{all_met_in}

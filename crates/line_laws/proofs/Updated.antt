@@ -30,18 +30,18 @@ use Rattle.std.proofs.lemmas.List.Elements.{filter_agree}
 use Rattle.std.proofs.lemmas.List.Elements.{All-contains_itself, All-map}
 use Rattle.plane_spec.specs.declared.Point.{Point}
 use Rattle.plane_spec.specs.declared.PlanBox.{PlanBox}
-use Rattle.plane_spec.specs.Lists.{pairs, firsts, numbered_pairs}
+use Rattle.plane_spec.specs.Lists.{pairs, distinct_by, numbered_pairs}
 use Rattle.plane_spec.specs.Vectors.{vector, same_point}
 use Rattle.plane_spec.specs.Fractions.{Fraction}
 use Rattle.plane_spec.specs.Boxes.{does_meet_box}
-use Rattle.plan_spec.specs.declared.changes.Changed.{Changed}
-use Rattle.plan_spec.specs.Scene.{Scene}
-use Rattle.plan_spec.specs.Sight.{is_blocked, are_in_sight}
-use Rattle.plan_spec.specs.Stops.{stop_of}
-use Rattle.plan_spec.specs.Axial.{AxialLine, here_of, line_through, is_seen_pair, same_ends}
-use Rattle.plan_spec.specs.Axial.{axial_lines}
-use Rattle.plan_spec.specs.Dirty.{corner_point, is_dirty_pair, is_dirty_line, is_on_axial_line, stood}
-use Rattle.plan_spec.specs.Dirty.{is_dirty_to_another, is_dirty_corner}
+use Rattle.plan_spec.specs.declared.edit.Changed.{Changed}
+use Rattle.sight_spec.specs.Scene.{Scene}
+use Rattle.sight_spec.specs.Sight.{is_blocked, are_in_sight}
+use Rattle.sight_spec.specs.Stops.{stop_of}
+use Rattle.sight_spec.specs.Axial.{AxialLine, here_of, line_through, is_seen_pair, same_ends}
+use Rattle.sight_spec.specs.Axial.{axial_lines}
+use Rattle.sight_spec.specs.Dirty.{corner_point, is_dirty_pair, is_dirty_line, is_on_axial_line, was_corner}
+use Rattle.sight_spec.specs.Dirty.{is_dirty_to_another, is_dirty_corner}
 use Rattle.list_laws.proofs.Tests.{list_any_map}
 use Rattle.list_laws.specs.Merged.{merged}
 use Rattle.line_laws.specs.Lines.{comes_before, renumbered, kept_lines, fresh_pairs, fresh_lines, IsSameLine}
@@ -89,10 +89,10 @@ same_line scene e f = same_ends (line_through scene e) (line_through scene f)
 -- the axial lines of a scene are those of the first pairs in sight
 pub lines_are : (scene : Scene) (points : List Point) → map here_of scene.corners ≡ points
     → axial_lines scene ≡ map (line_through scene)
-    (firsts (same_line scene) (filter (is_seen_pair scene) (pairs (enumerate_from 0 points))))
+    (distinct_by (same_line scene) (filter (is_seen_pair scene) (pairs (enumerate_from 0 points))))
 unfolding axial_lines
 lines_are scene points e =
-    ap (λ ps. firsts same_ends (map (line_through scene) (filter (is_seen_pair scene) (numbered_pairs ps)))) e
+    ap (λ ps. distinct_by same_ends (map (line_through scene) (filter (is_seen_pair scene) (numbered_pairs ps)))) e
     ∙ firsts_map same_ends (line_through scene) [] (filter (is_seen_pair scene) (pairs (enumerate_from 0 points)))
 
 -- the second of three
@@ -238,7 +238,7 @@ module _ (box : PlanBox) (old new : Scene) (less : IsWithout box old new) (front
       → is_dirty p ≡ true
   unfolding is_dirty_corner is_dirty_pair
   another_dirty p q i differ meets =
-      either_second (not (stood old p)) _ _
+      either_second (not (was_corner old p)) _ _
       (sym (list_any_map (λ x. not (same_point x p) && is_dirty_pair boxes p x) here_of new.corners)
       ∙ ap (list_any (λ x. not (same_point x p) && is_dirty_pair boxes p x)) new_is
       ∙ passed_by_one (λ x. not (same_point x p) && is_dirty_pair boxes p x) (front ++ back) q i
@@ -303,9 +303,9 @@ module _ (box : PlanBox) (old new : Scene) (less : IsWithout box old new) (front
         (and_from (is_seen_pair old e) (test e) sees
         (through_is e (record { known = k; sees = sees })
         ∙ and_from (meets_old e) (on_line old e.0.1 e.1.1 x) meets on)) in
-        either_third (not (stood old x)) (is_dirty_to_another boxes new x) _
+        either_third (not (was_corner old x)) (is_dirty_to_another boxes new x) _
         (ap (list_any is_dirty_through) (lines_are old (front ++ (gone ++ back)) old_is)
-        ∙ list_any_map is_dirty_through (line_through old) (firsts (same_line old) seen)
+        ∙ list_any_map is_dirty_through (line_through old) (distinct_by (same_line old) seen)
         ∙ first_passes SeenOld (same_line old) test through_alike seen
         (λ i d h. record {
           known = All-filter (is_seen_pair old) Known olds all_known i d h;
@@ -428,8 +428,8 @@ module _ (box : PlanBox) (old new : Scene) (less : IsWithout box old new) (front
 
   -- the first pairs with clean lines are the same before and after
   clean_lines : filter (λ e. not (meets_new e))
-      (firsts (same_line new) (filter (is_seen_pair new) (filter keeps olds)))
-      ≡ filter (λ e. not (meets_old e)) (firsts (same_line old) (filter (is_seen_pair old) olds))
+      (distinct_by (same_line new) (filter (is_seen_pair new) (filter keeps olds)))
+      ≡ filter (λ e. not (meets_old e)) (distinct_by (same_line old) (filter (is_seen_pair old) olds))
   clean_lines =
       clean_ones_stay Known keeps (is_seen_pair old) (λ e. not (meets_old e)) (is_seen_pair new)
       (λ e. not (meets_new e)) (same_line old) (same_line new)
@@ -465,14 +465,14 @@ module _ (box : PlanBox) (old new : Scene) (less : IsWithout box old new) (front
   new_line e = line_through new (renew e)
 
   -- the new lines are those of the first such pairs
-  new_lines_are : axial_lines new ≡ map new_line (firsts (same_line new) standing)
+  new_lines_are : axial_lines new ≡ map new_line (distinct_by (same_line new) standing)
   unfolding axial_lines
   new_lines_are =
-      ap (λ ps. firsts same_ends (map (line_through new) (filter (is_seen_pair new) (numbered_pairs ps)))) new_is
-      ∙ ap (λ xs. firsts same_ends (map (line_through new) (filter (is_seen_pair new) xs))) news_are
-      ∙ ap (λ xs. firsts same_ends (map (line_through new) xs))
+      ap (λ ps. distinct_by same_ends (map (line_through new) (filter (is_seen_pair new) (numbered_pairs ps)))) new_is
+      ∙ ap (λ xs. distinct_by same_ends (map (line_through new) (filter (is_seen_pair new) xs))) news_are
+      ∙ ap (λ xs. distinct_by same_ends (map (line_through new) xs))
       (filter_map_first (is_seen_pair new) renew (filter keeps olds))
-      ∙ ap (firsts same_ends) (map_twice (line_through new) renew standing)
+      ∙ ap (distinct_by same_ends) (map_twice (line_through new) renew standing)
       ∙ firsts_map same_ends new_line [] standing
 
   -- a new line is dirty where it meets the box
@@ -507,11 +507,11 @@ module _ (box : PlanBox) (old new : Scene) (less : IsWithout box old new) (front
 
   -- the first ones like which none stands before, in the old scene
   abbrev firsts_old : List Pair
-  firsts_old = firsts (same_line old) (filter (is_seen_pair old) olds)
+  firsts_old = distinct_by (same_line old) (filter (is_seen_pair old) olds)
 
   -- and in the new one
   abbrev firsts_new : List Pair
-  firsts_new = firsts (same_line new) standing
+  firsts_new = distinct_by (same_line new) standing
 
   -- the clean old lines, by their pairs
   clean_old_lines : filter (is_clean old) (axial_lines old)
@@ -624,12 +624,12 @@ module _ (box : PlanBox) (old new : Scene) (less : IsWithout box old new) (front
   fresh_part : filter (is_dirty_line boxes new) (axial_lines new) ≡ fresh_lines boxes old (axial_lines old) new
   fresh_part =
       ap (filter (is_dirty_line boxes new)) (lines_are new (front ++ back) new_is)
-      ∙ filter_map_first (is_dirty_line boxes new) (line_through new) (firsts (same_line new) seen_news)
+      ∙ filter_map_first (is_dirty_line boxes new) (line_through new) (distinct_by (same_line new) seen_news)
       ∙ ap (map (line_through new)) (split SeesNew (same_line new) is_dirty_of dirty_of_alike seen_news
-      all_seen_news ∙ ap (firsts (same_line new)) dirty_pairs_alone)
+      all_seen_news ∙ ap (distinct_by (same_line new)) dirty_pairs_alone)
       ∙ sym (firsts_map same_ends (line_through new) []
       (filter is_dirty_of (fresh_pairs boxes old (axial_lines old) new)))
-      ∙ ap (firsts same_ends) (sym (filter_map_first (is_dirty_line boxes new) (line_through new)
+      ∙ ap (distinct_by same_ends) (sym (filter_map_first (is_dirty_line boxes new) (line_through new)
       (fresh_pairs boxes old (axial_lines old) new)))
 
   -- ---- both
@@ -638,7 +638,7 @@ module _ (box : PlanBox) (old new : Scene) (less : IsWithout box old new) (front
   lines_rise : IsRising comes_before (axial_lines new)
   lines_rise =
       subst (IsRising comes_before) (sym (lines_are new (front ++ back) new_is))
-      (rising_map comes_before (line_through new) (firsts (same_line new) seen_news)
+      (rising_map comes_before (line_through new) (distinct_by (same_line new) seen_news)
       (rising_firsts pair_before (same_line new) [] seen_news
       (rising_filter pair_before (is_seen_pair new) news (pairs_rising 0 (front ++ back)))))
 

@@ -19,13 +19,13 @@ use Rattle.std.specs.Option.{option_map, IfSome}
 use Rattle.std.proofs.lemmas.Int.{ints}
 use Rattle.plane_spec.specs.declared.Point.{Point}
 use Rattle.plane_spec.specs.declared.PlanBox.{PlanBox}
-use Rattle.plane_spec.specs.Lists.{least}
+use Rattle.plane_spec.specs.Lists.{min_by}
 use Rattle.plane_spec.specs.Vectors.{vector, dot_of, same_point}
 use Rattle.plane_spec.specs.Fractions.{Fraction, is_before, reduced}
 use Rattle.plane_spec.specs.Boxes.{does_meet_box}
-use Rattle.plan_spec.specs.Scene.{Scene, lines_of_scene}
-use Rattle.plan_spec.specs.Sight.{crosses, enters_wall, corner_blocks, is_blocked, are_in_sight}
-use Rattle.plan_spec.specs.Stops.{line_hit, corner_hit, start_hit, hits_of, stop_of}
+use Rattle.sight_spec.specs.Scene.{Scene, blockers_of_scene}
+use Rattle.sight_spec.specs.Sight.{crosses, starts_or_ends_in_wall, corner_blocks, is_blocked, are_in_sight}
+use Rattle.sight_spec.specs.Stops.{blocker_hit, corner_hit, start_hit, hits_of, stop_of}
 use Rattle.exact_geom.proofs.Orders.{reduced_keeps_before}
 use Rattle.box_laws.specs.Boxes.{IsIn, OfEnds, OfCorner}
 use Rattle.box_laws.proofs.Touching.{not_true}
@@ -42,8 +42,8 @@ use Rattle.extent_laws.proofs.Reaches.{hits_ordered, reduced_is_hit, reduced_in,
 use Rattle.extent_laws.proofs.Reaches.{spot_beyond, line_meets, leads, same_back}
 use Rattle.dirty_laws.specs.Scenes.{IsWithout, removal_of}
 use Rattle.extent_laws.specs.Corners.{Pair, IsPairOfCorners}
-use Rattle.plan_spec.specs.Axial.{line_through}
-use Rattle.plan_spec.specs.Dirty.{is_dirty_line}
+use Rattle.sight_spec.specs.Axial.{line_through}
+use Rattle.sight_spec.specs.Dirty.{is_dirty_line}
 use Rattle.line_laws.specs.Lines.{is_stopped, IsSameLine}
 use Rattle.extent_laws.proofs.SameLines.{dirty_as_meets, line_of_corners}
 
@@ -54,7 +54,7 @@ clash false h k = cc
 
 module _ (box : PlanBox) (old new : Scene) (less : IsWithout box old new) where
   -- walls and screens without those in the box
-  lines_less : Dropped (OfEnds (IsIn box)) (lines_of_scene old) (lines_of_scene new)
+  lines_less : Dropped (OfEnds (IsIn box)) (blockers_of_scene old) (blockers_of_scene new)
   lines_less = both_dropped (OfEnds (IsIn box)) old.walls new.walls old.screens new.screens less.walls less.screens
 
   -- ---- sight
@@ -66,9 +66,9 @@ module _ (box : PlanBox) (old new : Scene) (less : IsWithout box old new) where
       either_alike _ _ _ _ _ _
       (found_alike (OfEnds (IsIn box)) (crosses p q)
       (λ w held. fails_where_missed (crosses p q w) (does_meet_box p q box) (crossed_meets p q w (Some box) held)
-      h) (lines_of_scene old) (lines_of_scene new) lines_less)
-      (found_alike (OfEnds (IsIn box)) (enters_wall p q)
-      (λ w held. fails_where_missed (enters_wall p q w) (does_meet_box p q box)
+      h) (blockers_of_scene old) (blockers_of_scene new) lines_less)
+      (found_alike (OfEnds (IsIn box)) (starts_or_ends_in_wall p q)
+      (λ w held. fails_where_missed (starts_or_ends_in_wall p q w) (does_meet_box p q box)
       (entered_meets p q w (Some box) held) h) old.walls new.walls less.walls)
       (found_alike (OfCorner (IsIn box)) (corner_blocks p q)
       (λ c held. fails_where_missed (corner_blocks p q c) (does_meet_box p q box)
@@ -89,12 +89,12 @@ module _ (box : PlanBox) (old new : Scene) (less : IsWithout box old new) where
       → Dropped (Touch i j box) (hits_of old j (vector i j)) (hits_of new j (vector i j))
   hits_less i j dd =
       let d = vector i j in
-      both_dropped (Touch i j box) (filter_map (line_hit j d) (lines_of_scene old))
-      (filter_map (line_hit j d) (lines_of_scene new))
+      both_dropped (Touch i j box) (filter_map (blocker_hit j d) (blockers_of_scene old))
+      (filter_map (blocker_hit j d) (blockers_of_scene new))
       (filter_map (corner_hit j d) old.corners ++ filter_map (start_hit j d) old.walls)
       (filter_map (corner_hit j d) new.corners ++ filter_map (start_hit j d) new.walls)
-      (mapped_dropped (OfEnds (IsIn box)) (Touch i j box) (line_hit j d) (line_touches i j box) (lines_of_scene old)
-      (lines_of_scene new) lines_less)
+      (mapped_dropped (OfEnds (IsIn box)) (Touch i j box) (blocker_hit j d) (line_touches i j box) (blockers_of_scene old)
+      (blockers_of_scene new) lines_less)
       (both_dropped (Touch i j box) (filter_map (corner_hit j d) old.corners)
       (filter_map (corner_hit j d) new.corners) (filter_map (start_hit j d) old.walls)
       (filter_map (start_hit j d) new.walls)
@@ -124,11 +124,11 @@ module _ (box : PlanBox) (old new : Scene) (less : IsWithout box old new) where
       → spots_meet_box i j from (spot_beyond old i j) box ≡ false
       → stop_of new j (vector i j) ≡ stop_of old j (vector i j)
   unfolding stop_of
-  stop_stays i j from dd = by (least is_before (hits old i j)) refl
+  stop_stays i j from dd = by (min_by is_before (hits old i j)) refl
     where
-      by : (o : Option Fraction) → least is_before (hits old i j) ≡ o
+      by : (o : Option Fraction) → min_by is_before (hits old i j) ≡ o
           → spots_meet_box i j from (spot_at j (vector i j) (reach (option_map reduced o))) box ≡ false
-          → option_map reduced (least is_before (hits new i j)) ≡ option_map reduced o
+          → option_map reduced (min_by is_before (hits new i j)) ≡ option_map reduced o
       by None e misses =
           ap (option_map reduced) (none_without (IsTouchingHit i j) is_before (hits old i j) (hits new i j)
           (touching_less i j dd) e)
@@ -146,7 +146,7 @@ module _ (box : PlanBox) (old new : Scene) (less : IsWithout box old new) where
       → stop_of old j (vector i j) ≡ Some t
   unfolding stop_of
   stop_came i j s t dd sh =
-      by (least is_before (hits new i j)) refl
+      by (min_by is_before (hits new i j)) refl
       (least_has IsHit is_before (hits new i j) (all_hits new j (vector i j) dd))
     where
       some_is : (a b : Fraction) → Some a ≡ Some b → a ≡ b
@@ -158,9 +158,9 @@ module _ (box : PlanBox) (old new : Scene) (less : IsWithout box old new) where
       to_one : (z : ℤ) → pos 0 <ℤ z → pos 1 ≤ℤ z
       to_one z h = omega (arith, ints)
 
-      by : (o : Option Fraction) → least is_before (hits new i j) ≡ o → IfSome o IsHit → option_map reduced o ≡ Some t
+      by : (o : Option Fraction) → min_by is_before (hits new i j) ≡ o → IfSome o IsHit → option_map reduced o ≡ Some t
           → spots_meet_box i j (spot_at i (vector j i) s) (spot_at j (vector i j) t) box ≡ false
-          → option_map reduced (least is_before (hits old i j)) ≡ Some t
+          → option_map reduced (min_by is_before (hits old i j)) ≡ Some t
       by None e h k misses = cc
       by (Some m) e h k misses =
           ap (option_map reduced)

@@ -3,14 +3,14 @@
 use Rattle.std.specs.Prelude.{◌≡◌, ℕ, ◌==◌, nat_lt, Bool, ◌&&◌, ◌||◌, not, List, map, filter, is_some}
 use Rattle.std.specs.List.{list_all, enumerate_from}
 use Rattle.plane_spec.specs.declared.Point.{Point}
-use Rattle.plane_spec.specs.Lists.{pairs, firsts}
+use Rattle.plane_spec.specs.Lists.{pairs, distinct_by}
 use Rattle.plane_spec.specs.Vectors.{vector}
-use Rattle.plan_spec.specs.declared.changes.Changed.{Changed}
-use Rattle.plan_spec.specs.Scene.{Scene}
-use Rattle.plan_spec.specs.Sight.{are_in_sight}
-use Rattle.plan_spec.specs.Stops.{stop_of}
-use Rattle.plan_spec.specs.Axial.{AxialLine, here_of, line_through, is_seen_pair, same_ends}
-use Rattle.plan_spec.specs.Dirty.{is_dirty_line, is_dirty_corner}
+use Rattle.plan_spec.specs.declared.edit.Changed.{Changed}
+use Rattle.sight_spec.specs.Scene.{Scene}
+use Rattle.sight_spec.specs.Sight.{are_in_sight}
+use Rattle.sight_spec.specs.Stops.{stop_of}
+use Rattle.sight_spec.specs.Axial.{AxialLine, here_of, line_through, is_seen_pair, same_ends}
+use Rattle.sight_spec.specs.Dirty.{is_dirty_line, is_dirty_corner}
 use Rattle.list_laws.specs.Gaps.{closed_up}
 
 -- ---- the same line
@@ -47,7 +47,7 @@ fresh_pairs boxes old lines new = filter (is_seen_pair new) (pairs (dirty_corner
 -- their lines, as far as their extent meets the boxes; one whose ends are those of an earlier one is left out
 abbrev pub fresh_lines : Changed → Scene → List AxialLine → Scene → List AxialLine
 fresh_lines boxes old lines new =
-    firsts same_ends (filter (is_dirty_line boxes new) (map (line_through new) (fresh_pairs boxes old lines new)))
+    distinct_by same_ends (filter (is_dirty_line boxes new) (map (line_through new) (fresh_pairs boxes old lines new)))
 
 -- something stops the line of the pair at each end
 abbrev pub is_stopped : Scene → (ℕ × Point) × (ℕ × Point) → Bool

@@ -22,9 +22,9 @@
 
 ghost use Rattle.std.specs.Prelude.{◌≡◌, false, length, true};
 ghost use Rattle.plane_spec.specs.declared.PlanBox.{PlanBox};
-ghost use Rattle.plan_spec.specs.Axial.{axial_lines, line_through};
-ghost use Rattle.plan_spec.specs.Dirty.{is_dirty_line};
-ghost use Rattle.plan_spec.specs.Scene.{Scene};
+ghost use Rattle.sight_spec.specs.Axial.{axial_lines, line_through};
+ghost use Rattle.sight_spec.specs.Dirty.{is_dirty_line};
+ghost use Rattle.sight_spec.specs.Scene.{Scene};
 ghost use Rattle.list_laws.specs.Merged.{merged};
 ghost use Rattle.dirty_laws.specs.Scenes.{ClosesUp, IsWithout, removal_of};
 ghost use Rattle.extent_laws.specs.Corners.{IsPairOfCorners, Pair};

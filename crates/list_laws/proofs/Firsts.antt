@@ -18,7 +18,7 @@ use Rattle.std.proofs.Common.{◌≡◌, ◌∙◌, Bool, true, false, cond, not
 use Rattle.std.proofs.Common.{refl, sym, ap}
 use Rattle.std.specs.List.{All, list_any}
 use Rattle.std.proofs.lemmas.List.Elements.{All-nil, All-cons, All-head, All-tail, All-filter, filter_passes}
-use Rattle.plane_spec.specs.Lists.{firsts_after, firsts}
+use Rattle.plane_spec.specs.Lists.{distinct_after, distinct_by}
 use Rattle.list_laws.proofs.Tests.{list_any_map}
 use Rattle.list_laws.proofs.Elements.{filter_same_on, filter_twice}
 
@@ -26,27 +26,27 @@ use Rattle.list_laws.proofs.Elements.{filter_same_on, filter_twice}
 
 -- what holds of all holds of the first ones
 pub firsts_hold : {X : Type 0} (P : X → Type 0) (same : X → X → Bool) (seen xs : List X) → All P xs
-    → All P (firsts_after same seen xs)
+    → All P (distinct_after same seen xs)
 firsts_hold P same seen [] all = All-nil P
 firsts_hold {X = X} P same seen (x ∷ xs) all =
     by (list_any (same x) seen) (firsts_hold P same (x ∷ seen) xs (All-tail P x xs all))
   where
-    by : (t : Bool) → All P (firsts_after same (x ∷ seen) xs)
-        → All P (cond t (firsts_after same (x ∷ seen) xs) (x ∷ firsts_after same (x ∷ seen) xs))
+    by : (t : Bool) → All P (distinct_after same (x ∷ seen) xs)
+        → All P (cond t (distinct_after same (x ∷ seen) xs) (x ∷ distinct_after same (x ∷ seen) xs))
     by true ih = ih
-    by false ih = All-cons P x (firsts_after same (x ∷ seen) xs) (All-head P x xs all) ih
+    by false ih = All-cons P x (distinct_after same (x ∷ seen) xs) (All-head P x xs all) ih
 
 -- the first ones of what a function gives, by what it gives
 pub firsts_map : {X Y : Type 0} (same : Y → Y → Bool) (f : X → Y) (seen xs : List X)
-    → firsts_after same (map f seen) (map f xs) ≡ map f (firsts_after (λ x y. same (f x) (f y)) seen xs)
+    → distinct_after same (map f seen) (map f xs) ≡ map f (distinct_after (λ x y. same (f x) (f y)) seen xs)
 firsts_map same f seen [] = refl
 firsts_map same f seen (x ∷ xs) = by (list_any (λ y. same (f x) (f y)) seen) refl (firsts_map same f (x ∷ seen) xs)
   where
     by : (u : Bool) → list_any (λ y. same (f x) (f y)) seen ≡ u
-        → firsts_after same (map f (x ∷ seen))
-        (map f xs) ≡ map f (firsts_after (λ x y. same (f x) (f y)) (x ∷ seen) xs)
-        → firsts_after same (map f seen)
-        (map f (x ∷ xs)) ≡ map f (firsts_after (λ x y. same (f x) (f y)) seen (x ∷ xs))
+        → distinct_after same (map f (x ∷ seen))
+        (map f xs) ≡ map f (distinct_after (λ x y. same (f x) (f y)) (x ∷ seen) xs)
+        → distinct_after same (map f seen)
+        (map f (x ∷ xs)) ≡ map f (distinct_after (λ x y. same (f x) (f y)) seen (x ∷ xs))
     by true e h = rw (list_any_map (same (f x)) f seen, e) h
     by false e h = rw (list_any_map (same (f x)) f seen, e) (ap (λ r. f x ∷ r) h)
 
@@ -74,8 +74,8 @@ module _ {X : Type 0} (V : X → Type 0) (same : X → X → Bool) (test : X →
 
   -- one element more, by whether it passes and whether it is like one before it
   step : (x : X) (seen xs : List X) (t u : Bool) → V x → All V seen → test x ≡ t → list_any (same x) seen ≡ u
-      → filter test (firsts_after same (x ∷ seen) xs) ≡ firsts_after same (filter test (x ∷ seen)) (filter test xs)
-      → filter test (firsts_after same seen (x ∷ xs)) ≡ firsts_after same (filter test seen) (filter test (x ∷ xs))
+      → filter test (distinct_after same (x ∷ seen) xs) ≡ distinct_after same (filter test (x ∷ seen)) (filter test xs)
+      → filter test (distinct_after same seen (x ∷ xs)) ≡ distinct_after same (filter test seen) (filter test (x ∷ xs))
   step x seen xs true true vx vs e f ih = rw (e, f, seen_same x seen vx vs e ∙ f) (rw e at ih)
   step x seen xs true false vx vs e f ih = rw (f, e, seen_same x seen vx vs e ∙ f) (ap (λ r. x ∷ r) (rw e at ih))
   step x seen xs false true vx vs e f ih = rw (e, f) (rw e at ih)
@@ -83,7 +83,7 @@ module _ {X : Type 0} (V : X → Type 0) (same : X → X → Bool) (test : X →
 
   -- the same after some that were seen
   split_after : (seen xs : List X) → All V seen → All V xs
-      → filter test (firsts_after same seen xs) ≡ firsts_after same (filter test seen) (filter test xs)
+      → filter test (distinct_after same seen xs) ≡ distinct_after same (filter test seen) (filter test xs)
   split_after seen [] vs all = refl
   split_after seen (x ∷ xs) vs all =
       let vx = All-head V x xs all in
@@ -91,20 +91,20 @@ module _ {X : Type 0} (V : X → Type 0) (same : X → X → Bool) (test : X →
       (split_after (x ∷ seen) xs (All-cons V x seen vx vs) (All-tail V x xs all))
 
   -- the first ones that pass are the first ones of those that pass
-  pub split : (xs : List X) → All V xs → filter test (firsts same xs) ≡ firsts same (filter test xs)
+  pub split : (xs : List X) → All V xs → filter test (distinct_by same xs) ≡ distinct_by same (filter test xs)
   split xs all = split_after [] xs (All-nil V) all
 
   -- where some element passes, one of the first ones does
-  pub first_passes : (xs : List X) → All V xs → list_any test xs ≡ true → list_any test (firsts same xs) ≡ true
+  pub first_passes : (xs : List X) → All V xs → list_any test xs ≡ true → list_any test (distinct_by same xs) ≡ true
   first_passes xs all h =
-      any_left test (firsts same xs) ∙ ap is_some_left (split xs all) ∙ first_left (filter test xs)
+      any_left test (distinct_by same xs) ∙ ap is_some_left (split xs all) ∙ first_left (filter test xs)
       ∙ sym (any_left test xs) ∙ h
     where
       is_some_left : List X → Bool
       is_some_left [] = false
       is_some_left (x ∷ xs) = true
 
-      first_left : (xs : List X) → is_some_left (firsts same xs) ≡ is_some_left xs
+      first_left : (xs : List X) → is_some_left (distinct_by same xs) ≡ is_some_left xs
       first_left [] = refl
       first_left (x ∷ xs) = refl
 
@@ -131,7 +131,7 @@ module _ {X : Type 0} (C : X → Type 0) (old new : X → X → Bool)
 
   -- the first ones by either test
   pub firsts_agree_on : (seen xs : List X) → All C seen → All C xs
-      → firsts_after old seen xs ≡ firsts_after new seen xs
+      → distinct_after old seen xs ≡ distinct_after new seen xs
   firsts_agree_on seen [] before all = refl
   firsts_agree_on seen (x ∷ xs) before all =
       let here = All-head C x xs all in
@@ -160,26 +160,26 @@ module _ {X : Type 0} (W : X → Type 0) (stays sees clean sees' clean' : X → 
 
     -- the clean ones are the same before and after
     pub clean_ones_stay : (xs : List X) → All W xs
-        → filter clean' (firsts same' (filter sees' (filter stays xs))) ≡ filter clean (firsts same (filter sees xs))
+        → filter clean' (distinct_by same' (filter sees' (filter stays xs))) ≡ filter clean (distinct_by same (filter sees xs))
     clean_ones_stay xs all =
         let in_sight : X → Bool = λ x. sees x && clean x in
         split (Passes sees') same' clean' (λ x y v w e. alike' x y v.valid w.valid v.passes w.passes e)
         (filter sees' (filter stays xs)) (passing sees' (filter stays xs) (All-filter stays W xs all))
-        ∙ ap (firsts same')
+        ∙ ap (distinct_by same')
         (filter_twice clean' sees' (filter stays xs)
         ∙ filter_twice (λ x. sees' x && clean' x) stays xs
         ∙ filter_same_on W _ _ kept xs all)
         ∙ firsts_agree_on (Passes in_sight) same' same (λ x y v w. agree x y v.valid w.valid v.passes w.passes) []
         (filter in_sight xs) (All-nil (Passes in_sight)) (passing in_sight xs all)
-        ∙ ap (firsts same) (sym (filter_twice clean sees xs))
+        ∙ ap (distinct_by same) (sym (filter_twice clean sees xs))
         ∙ sym (split (Passes sees) same clean (λ x y v w e. alike x y v.valid w.valid v.passes w.passes e)
         (filter sees xs)
         (passing sees xs all))
 
     -- the others are the first ones of those that aren't clean
     pub others_are_fresh : (xs : List X) → All W xs
-        → filter (λ x. not (clean' x)) (firsts same' (filter sees' (filter stays xs)))
-        ≡ firsts same' (filter (λ x. not (clean' x)) (filter sees' (filter stays xs)))
+        → filter (λ x. not (clean' x)) (distinct_by same' (filter sees' (filter stays xs)))
+        ≡ distinct_by same' (filter (λ x. not (clean' x)) (filter sees' (filter stays xs)))
     others_are_fresh xs all =
         split (Passes sees') same' (λ x. not (clean' x))
         (λ x y v w e. ap not (alike' x y v.valid w.valid v.passes w.passes e)) (filter sees' (filter stays xs))

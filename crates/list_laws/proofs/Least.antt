@@ -15,7 +15,7 @@ use Rattle.std.proofs.Common.{refl, sym, ap, subst, arith}
 use Rattle.std.specs.List.{All, best_of}
 use Rattle.std.specs.Option.{IfSome}
 use Rattle.std.proofs.lemmas.List.Elements.{All-head, All-tail}
-use Rattle.plane_spec.specs.Lists.{least}
+use Rattle.plane_spec.specs.Lists.{min_by}
 use Rattle.list_laws.specs.Dropped.{Dropped, done, keep, drop}
 use Rattle.list_laws.specs.Orders.{IsWeakOrder}
 use Rattle.list_laws.proofs.Dropped.{left_hold}
@@ -44,7 +44,7 @@ best_from before b (x ∷ xs) =
     some_cond false = refl
 
 -- the least of a list is its best from none
-from_none : {X : Type 0} (before : X → X → Bool) (xs : List X) → least before xs ≡ least_from before None xs
+from_none : {X : Type 0} (before : X → X → Bool) (xs : List X) → min_by before xs ≡ least_from before None xs
 from_none before [] = refl
 from_none before (x ∷ xs) = best_from before x xs
 
@@ -165,26 +165,26 @@ module _ {X : Type 0} (Q : X → Type 0) (before : X → X → Bool) (laws : IsW
 
   -- the least stays where C holds of it, as it does of nothing that is dropped
   pub least_without : (P C : X → Type 0) → ((y : X) → P y → C y → ⊥) → (m : X) (xs ys : List X) → Dropped P xs ys
-      → All Q xs → C m → least before xs ≡ Some m → least before ys ≡ Some m
+      → All Q xs → C m → min_by before xs ≡ Some m → min_by before ys ≡ Some m
   least_without P C bad m xs ys d qs good h =
       from_none before ys ∙ without_from P C bad m None xs ys d tt qs good (sym (from_none before xs) ∙ h)
 
   -- the least of those that are left is that of all, where it comes before all that is dropped
   pub least_with : (P : X → Type 0) (m : X) → ((y : X) → P y → Q y → before m y ≡ true) → (xs ys : List X)
-      → Dropped P xs ys → All Q xs → least before ys ≡ Some m → least before xs ≡ Some m
+      → Dropped P xs ys → All Q xs → min_by before ys ≡ Some m → min_by before xs ≡ Some m
   least_with P m more xs ys d qs h =
       from_none before xs ∙ with_from P m more None xs ys d tt qs (sym (from_none before ys) ∙ h)
 
 -- where a list has no least, what is left of it has none
 pub none_without : {X : Type 0} (P : X → Type 0) (before : X → X → Bool) (xs ys : List X) → Dropped P xs ys
-    → least before xs ≡ None → least before ys ≡ None
+    → min_by before xs ≡ None → min_by before ys ≡ None
 none_without P before xs ys done h = refl
 none_without P before xs ys (keep x us vs d) h = cc
 none_without P before xs ys (drop x us vs p d) h = cc
 
 -- what holds of all elements holds of the least
 pub least_has : {X : Type 0} (P : X → Type 0) (before : X → X → Bool) (xs : List X) → All P xs
-    → IfSome (least before xs) P
+    → IfSome (min_by before xs) P
 least_has P before [] all = tt
 least_has {X = X} P before (x ∷ xs) all = best x xs (All-head P x xs all) (All-tail P x xs all)
   where

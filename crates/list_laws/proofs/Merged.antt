@@ -8,7 +8,7 @@ use Rattle.std.proofs.Common.{◌≡◌, ◌∙◌, Bool, true, false, cond, not
 use Rattle.std.specs.List.{All, list_any}
 use Rattle.std.proofs.lemmas.List.Elements.{All-head, All-tail, All-append, All-filter, All-map}
 use Rattle.std.proofs.lemmas.List.Elements.{All-weaker}
-use Rattle.plane_spec.specs.Lists.{firsts_after}
+use Rattle.plane_spec.specs.Lists.{distinct_after}
 use Rattle.list_laws.specs.Orders.{IsBefore, IsRising}
 use Rattle.list_laws.specs.Merged.{merged}
 use Rattle.list_laws.proofs.Firsts.{firsts_hold}
@@ -65,13 +65,13 @@ rising_filter {X = X} before passes (x ∷ xs) h = by (passes x) (rising_filter 
 
 -- those that are like none before them are in order
 pub rising_firsts : {X : Type 0} (before same : X → X → Bool) (seen xs : List X) → IsRising before xs
-    → IsRising before (firsts_after same seen xs)
+    → IsRising before (distinct_after same seen xs)
 rising_firsts before same seen [] h = tt
 rising_firsts {X = X} before same seen (x ∷ xs) h =
     by (list_any (same x) seen) (rising_firsts before same (x ∷ seen) xs h.1)
   where
-    by : (t : Bool) → IsRising before (firsts_after same (x ∷ seen) xs)
-        → IsRising before (cond t (firsts_after same (x ∷ seen) xs) (x ∷ firsts_after same (x ∷ seen) xs))
+    by : (t : Bool) → IsRising before (distinct_after same (x ∷ seen) xs)
+        → IsRising before (cond t (distinct_after same (x ∷ seen) xs) (x ∷ distinct_after same (x ∷ seen) xs))
     by true ih = ih
     by false ih = (firsts_hold (IsBefore before x) same (x ∷ seen) xs h.0, ih)
 

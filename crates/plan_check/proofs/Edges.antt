@@ -6,7 +6,7 @@ use Rattle.std.proofs.lemmas.List.Folds.{list_all-append, list_all-map}
 use Rattle.plane_spec.specs.declared.Point.{Point}
 use Rattle.plane_spec.specs.declared.Segment.{Segment}
 use Rattle.plane_spec.specs.Lists.{pairs, with_each}
-use Rattle.plane_spec.specs.Polygons.{edges_of, may_stand}
+use Rattle.plane_spec.specs.Polygons.{edges_of, may_be_edges}
 use Rattle.exact_geom.proofs.Edges.{edges_of-end}
 
 -- all of the edges past the last pass a test
@@ -20,9 +20,9 @@ pub pairs_left : (test : (ℕ × Segment) × (ℕ × Segment) → Bool) (points 
 pairs_left test points number k h = rw (edges_of-end points k h)
 
 -- an edge stands beside those after it, and those beside each other
-pub stand_next : (count i : ℕ) (e : Segment) (rest : List Segment) → list_all (may_stand count) (pairs (enumerate_from i (e ∷ rest)))
-    ≡ (list_all (λ f. may_stand count ((i, e), f)) (enumerate_from (i + 1) rest) && list_all (may_stand count) (pairs (enumerate_from (i + 1) rest)))
+pub stand_next : (count i : ℕ) (e : Segment) (rest : List Segment) → list_all (may_be_edges count) (pairs (enumerate_from i (e ∷ rest)))
+    ≡ (list_all (λ f. may_be_edges count ((i, e), f)) (enumerate_from (i + 1) rest) && list_all (may_be_edges count) (pairs (enumerate_from (i + 1) rest)))
 stand_next count i e rest =
     let others = enumerate_from (i + 1) rest in
-    list_all-append (may_stand count) (map (with_each (i, e)) others) (pairs others)
-    ∙ ap (λ t. t && list_all (may_stand count) (pairs others)) (list_all-map (may_stand count) (with_each (i, e)) others)
+    list_all-append (may_be_edges count) (map (with_each (i, e)) others) (pairs others)
+    ∙ ap (λ t. t && list_all (may_be_edges count) (pairs others)) (list_all-map (may_be_edges count) (with_each (i, e)) others)

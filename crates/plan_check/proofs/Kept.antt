@@ -9,7 +9,7 @@ use Rattle.std.proofs.lemmas.List.{length-map}
 use Rattle.std.proofs.lemmas.Cmp.{nat_list_eq_equiv}
 use Rattle.plane_spec.specs.declared.Segment.{Segment}
 use Rattle.plan_spec.specs.Plan.{is_route_named}
-use Rattle.plan_check.specs.Kept.{kept_route}
+use Rattle.plan_check.specs.Kept.{route_of_entry}
 
 -- what is left of the list after the entry before
 pub kept_next : {X Y : Type 0} (f : X → Y) (es : List X) (k : ℕ) (e : X) → slice_get es k ≡ Some e
@@ -28,9 +28,9 @@ module _ {X Y Z : Type 0} (p : Y → Bool) (q : Z → Bool) (f : X → Y) (g : X
   position_agrees xs = rw (prefix_agrees xs, length-map xs f, length-map xs g)
 
 -- a name is found among the entries where it is found among the routes
-pub route_position : (name : List ℕ) (es : List (List ℕ × Segment)) → position (bytes_eq name) (map (λ e. e.0) es) ≡ position (is_route_named name) (map kept_route es)
+pub route_position : (name : List ℕ) (es : List (List ℕ × Segment)) → position (bytes_eq name) (map (λ e. e.0) es) ≡ position (is_route_named name) (map route_of_entry es)
 route_position name es =
-    position_agrees (bytes_eq name) (is_route_named name) (λ (e : List ℕ × Segment). e.0) kept_route (λ e. nat_list_eq_equiv.symm name e.0) es
+    position_agrees (bytes_eq name) (is_route_named name) (λ (e : List ℕ × Segment). e.0) route_of_entry (λ e. nat_list_eq_equiv.symm name e.0) es
 
 -- ---- names
 

@@ -6,7 +6,7 @@ use Rattle.plane_spec.specs.declared.Point.{Point}
 use Rattle.plane_spec.specs.Lists.{pairs}
 use Rattle.plane_spec.specs.Vectors.{same_point}
 use Rattle.plane_spec.specs.Segments.{is_on_segment}
-use Rattle.plan_spec.specs.Accepted.{do_overlap_lines}
+use Rattle.plan_spec.specs.Accepted.{do_segments_overlap}
 use Rattle.plan_check.specs.Ends.{are_two_shared}
 
 abbrev kept_if : Bool → Point → List Point → List Point
@@ -42,7 +42,7 @@ two_by a b c d false false false false = refl
 abbrev is_shared : Point → Point → Point → Point → Point → Bool
 is_shared a b c d x = is_on_segment x a b && is_on_segment x c d
 
-pub overlap_is : (a b c d : Point) → do_overlap_lines a b c d
+pub overlap_is : (a b c d : Point) → do_segments_overlap a b c d
     ≡ two_of a (is_shared a b c d a) b (is_shared a b c d b) c (is_shared a b c d c) d (is_shared a b c d d)
-unfolding do_overlap_lines
+unfolding do_segments_overlap
 overlap_is a b c d = two_by a b c d (is_shared a b c d a) (is_shared a b c d b) (is_shared a b c d c) (is_shared a b c d d)

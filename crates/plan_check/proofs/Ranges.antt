@@ -5,11 +5,11 @@ use Rattle.std.proofs.Common.{ap, add-zero, arith, get_or, subst, sym}
 use Rattle.std.proofs.lemmas.List.{get_or-drop, length-drop}
 use Rattle.plane_spec.specs.declared.Point.{Point}
 use Rattle.plane_spec.specs.Vectors.{InRange}
-use Rattle.plan_spec.specs.declared.kinds.Screen.{Screen}
-use Rattle.plan_spec.specs.declared.kinds.Route.{Route}
+use Rattle.plan_spec.specs.declared.item.Screen.{Screen}
+use Rattle.plan_spec.specs.declared.item.Route.{Route}
 use Rattle.plan_spec.specs.Plan.{Obstacle, Plan}
 use Rattle.plan_spec.specs.Accepted.{is_sound}
-use Rattle.plan_spec.specs.Ranges.{IsLineInRange, IsPolygonInRange}
+use Rattle.plan_spec.specs.Ranges.{IsProperSegmentInRange, IsPolygonInRange}
 use Rattle.plan_laws.proofs.Ranges.{sound_obstacles, sound_screens, sound_routes}
 
 -- what holds of all elements holds of the next
@@ -24,8 +24,8 @@ pub next_obstacle_in : (plan : Plan) (k : ℕ) (o : Obstacle) (rest : List Obsta
 next_obstacle_in plan k o rest points sound next same =
     subst (All InRange) (sym same) (next_of_all (λ o. IsPolygonInRange o.points) plan.obstacles k o rest next (sound_obstacles plan sound)).in_range
 
-pub next_screen_in : (plan : Plan) (k : ℕ) (s : Screen) (rest : List Screen) → IsTrue (is_sound plan) → drop k plan.screens ≡ s ∷ rest → IsLineInRange s.from s.to
-next_screen_in plan k s rest sound next = next_of_all (λ s. IsLineInRange s.from s.to) plan.screens k s rest next (sound_screens plan sound)
+pub next_screen_in : (plan : Plan) (k : ℕ) (s : Screen) (rest : List Screen) → IsTrue (is_sound plan) → drop k plan.screens ≡ s ∷ rest → IsProperSegmentInRange s.from s.to
+next_screen_in plan k s rest sound next = next_of_all (λ s. IsProperSegmentInRange s.from s.to) plan.screens k s rest next (sound_screens plan sound)
 
-pub next_route_in : (plan : Plan) (k : ℕ) (r : Route) (rest : List Route) → IsTrue (is_sound plan) → drop k plan.routes ≡ r ∷ rest → IsLineInRange r.from r.to
-next_route_in plan k r rest sound next = next_of_all (λ r. IsLineInRange r.from r.to) plan.routes k r rest next (sound_routes plan sound)
+pub next_route_in : (plan : Plan) (k : ℕ) (r : Route) (rest : List Route) → IsTrue (is_sound plan) → drop k plan.routes ≡ r ∷ rest → IsProperSegmentInRange r.from r.to
+next_route_in plan k r rest sound next = next_of_all (λ r. IsProperSegmentInRange r.from r.to) plan.routes k r rest next (sound_routes plan sound)

@@ -1,6 +1,6 @@
 -- What the answers other than a plan say.
 use Rattle.std.specs.Prelude.{ℕ, ⊤}
-use Rattle.plan_spec.specs.declared.refusals.Why.{Why}
+use Rattle.plan_spec.specs.declared.why.Why.{Why}
 use Rattle.plan_check.specs.declared.checking.CheckFault.{CheckFault}
 use Rattle.plan_check.specs.declared.checking.CheckFault.TheVariants.{Bad, NoMemory}
 use Rattle.plan_check.specs.declared.editing.EditFault.{EditFault}

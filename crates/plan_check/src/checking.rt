@@ -3,7 +3,7 @@
 ghost use Rattle.std.specs.Prelude.{◌≡◌, IsTrue, None, Ok, Err, IfOk, IfErr, OnErr, OnOk, false};
 ghost use Rattle.plan_spec.specs.Accepted.{is_accepted, is_sound};
 ghost use Rattle.plan_spec.specs.Plan.{with_item};
-ghost use Rattle.plan_spec.specs.Refusals.{checked, why_not_item};
+ghost use Rattle.plan_spec.specs.Refusals.{check_of, why_not_item};
 ghost use Rattle.plan_check.specs.Faults.{IfBad};
 
 use crate::draft::Draft;
@@ -68,8 +68,8 @@ fn add_item(alloc: Global, draft: &mut Draft, item: &Item) -> Result<(), NoMemor
 ///
 /// Cost: each new part is tested against those that are there, at most one touching test for each two edges.
 pub fn check(alloc: Global, given: &PlanData) -> Result<Plan, CheckFault>
-    ensures plan { IfOk result (λ plan. checked given.now.items ≡ Ok plan) }
-    ensures bad { IfErr result (λ fault. IfBad fault (λ item why. checked given.now.items ≡ Err (item, why))) }
+    ensures plan { IfOk result (λ plan. check_of given.now.items ≡ Ok plan) }
+    ensures bad { IfErr result (λ fault. IfBad fault (λ item why. check_of given.now.items ≡ Err (item, why))) }
     ensures accepted { OnOk result (IsTrue (is_accepted given.now.items)) }
     ensures not_accepted { IfErr result (λ fault. IfBad fault (λ _ _. is_accepted given.now.items ≡ false)) }
 {

@@ -2,10 +2,10 @@
 
 ghost use Rattle.std.specs.Prelude.{◌≡◌, ◌<◌, ◌≤◌, ◌+◌, ◌∷◌, [], IfOk, IfSome, drop, is_some, length, position};
 ghost use Rattle.std.specs.List.{list_any};
-ghost use Rattle.plan_spec.specs.declared.limits.TheConstants.{MOST_CORNERS};
+ghost use Rattle.plan_spec.specs.declared.limits.TheConstants.{MAX_CORNERS};
 ghost use Rattle.plan_spec.specs.Plan.{corner_count, empty_plan, has_outer, is_obstacle_named, is_route_named, is_screen_named};
 ghost use Rattle.plan_spec.specs.Edits.{ends_named, points_named};
-ghost use Rattle.plan_check.specs.Kept.{kept_route, kept_screen, obstacle_at};
+ghost use Rattle.plan_check.specs.Kept.{route_of_entry, screen_of_entry, obstacle_at};
 
 mod changing;
 
@@ -29,15 +29,15 @@ pub(crate) struct Draft {
 
 impl Model for Draft {
     ghost use Rattle.plan_spec.specs.Plan.{Plan};
-    ghost use Rattle.plan_check.specs.Kept.{kept_plan};
+    ghost use Rattle.plan_check.specs.Kept.{plan_of_tables};
 
     ghost Value = { Plan };
 
-    ghost view = { λ a. kept_plan a.outer a.grid a.obstacles.entries a.screens.entries a.routes.entries };
+    ghost view = { λ a. plan_of_tables a.outer a.grid a.obstacles.entries a.screens.entries a.routes.entries };
 }
 
 fn make_screen(name: &Name, line: &Segment) -> Screen
-    ensures { result ≡ kept_screen (name.now, line.now) }
+    ensures { result ≡ screen_of_entry (name.now, line.now) }
 {
     Screen {
         name: name.copy(),
@@ -47,7 +47,7 @@ fn make_screen(name: &Name, line: &Segment) -> Screen
 }
 
 fn make_route(name: &Name, line: &Segment) -> Route
-    ensures { result ≡ kept_route (name.now, line.now) }
+    ensures { result ≡ route_of_entry (name.now, line.now) }
 {
     Route {
         name: name.copy(),
@@ -167,7 +167,7 @@ impl Draft {
 
     /// The corners of the outer polygon and of all obstacles, and the two ends of each screen.
     pub(crate) fn corners(&self) -> usize
-        requires { corner_count self.now ≤ MOST_CORNERS }
+        requires { corner_count self.now ≤ MAX_CORNERS }
         ensures { result ≡ corner_count self.now }
     {
         let mut corners = self.outer().len() + 2 * self.screens();

@@ -107,12 +107,12 @@ pub(crate) fn why_not_edit(
 
 /// The parts after an edit that isn't refused: what is new stands last, what is removed closes up, what is moved keeps
 /// its place.
-#[tactic(auto, unfolding(plan_spec::specs::Edits::edited, plan_spec::specs::Plan::with_item))]
-pub(crate) fn edited(alloc: Global, draft: &Draft, edit: &Edit) -> Result<Draft, NoMemory>
+#[tactic(auto, unfolding(plan_spec::specs::Edits::plan_after_edit, plan_spec::specs::Plan::with_item))]
+pub(crate) fn plan_after_edit(alloc: Global, draft: &Draft, edit: &Edit) -> Result<Draft, NoMemory>
     requires sound { IsTrue (is_sound draft.now) }
     requires shift { HasShift edit.now }
     requires valid { edits.why_not_edit draft.now edit.now ≡ None }
-    ensures { IfOk result (λ new. new ≡ edits.edited draft.now edit.now) }
+    ensures { IfOk result (λ new. new ≡ edits.plan_after_edit draft.now edit.now) }
 {
     let mut new = draft.copied(alloc)?;
     match edit {

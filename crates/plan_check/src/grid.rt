@@ -3,10 +3,10 @@
 ghost use Rattle.std.specs.Prelude.{◌≡◌, ◌^◌, ◌&&◌, pos, ◌≤ℤ◌, ◌+ℤ◌, ◌-ℤ◌, ◌*ℤ◌, int_le};
 ghost use Rattle.std.specs.Bool.{OnTrue};
 ghost use Rattle.plane_spec.specs.Vectors as vectors;
-ghost use Rattle.plan_spec.specs.declared.limits.TheConstants.{MOST_STEP};
+ghost use Rattle.plan_spec.specs.declared.limits.TheConstants.{MAX_STEP};
 ghost use Rattle.plan_spec.specs.Accepted as accepted;
 
-use plan_spec::{GridSpec, MOST_GRID_POINTS, MOST_STEP};
+use plan_spec::{GridSpec, MAX_GRID_POINTS, MAX_STEP};
 
 const LEAST_COORDINATE: i128 = -100_000;
 
@@ -66,11 +66,11 @@ fn is_from_one(most: i64, z: i64) -> bool
 
 /// Whether the step is at least 1 and not too long, and there is at least one column and one row.
 fn has_points(grid: GridSpec) -> bool
-    ensures value { result ≡ (accepted.is_from_one MOST_STEP grid.step && (int_le (pos 1) grid.cols && int_le (pos 1) grid.rows)) }
+    ensures value { result ≡ (accepted.is_from_one MAX_STEP grid.step && (int_le (pos 1) grid.cols && int_le (pos 1) grid.rows)) }
     ensures cols { OnTrue result (pos 1 ≤ℤ grid.cols) }
     ensures rows { OnTrue result (pos 1 ≤ℤ grid.rows) }
 {
-    is_from_one(MOST_STEP, grid.step) && 1 <= grid.cols && 1 <= grid.rows
+    is_from_one(MAX_STEP, grid.step) && 1 <= grid.cols && 1 <= grid.rows
 }
 
 /// Whether the step is at least 1 and not too long, there is at least one column and one row, and all points are in
@@ -89,5 +89,5 @@ pub(crate) fn is_grid_in_range(grid: GridSpec) -> bool
 pub(crate) fn is_grid_small(grid: GridSpec) -> bool
     ensures { result ≡ accepted.is_grid_small grid }
 {
-    product(grid.cols, grid.rows) <= MOST_GRID_POINTS as i128
+    product(grid.cols, grid.rows) <= MAX_GRID_POINTS as i128
 }

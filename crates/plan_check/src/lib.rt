@@ -8,7 +8,7 @@
 //! | [`GridSpec`], [`Screen`], [`Route`] | the parts of a plan that aren't polygons |
 //! | [`Edit`], [`EditFault`], [`Changed`] | a change of a plan, why it is refused, and the boxes in which something changes |
 //! | [`Why`], [`Limit`] | why an item or an edit is refused |
-//! | [`MOST_OBSTACLES`], [`MOST_CORNERS`], .. | how much a plan may have |
+//! | [`MAX_OBSTACLES`], [`MAX_CORNERS`], .. | how much a plan may have |
 //! | [`Point`], [`PlanBox`] | a point, or a direction; a box with sides along the axes |
 //! | [`Name`], [`NoMemory`] | a name; the answer for want of memory |
 #![tactic(auto)]
@@ -30,10 +30,7 @@ mod shifts;
 pub use checking::{CheckFault, check};
 pub use editing::EditFault;
 pub use plan::Plan;
-pub use plan_spec::{
-    Changed, Edit, GridSpec, Item, Items, Limit, MOST_CORNERS, MOST_GRID_POINTS, MOST_OBSTACLES,
-    MOST_ROUTES, MOST_SCREENS, MOST_SHIFT, MOST_STEP, PlanData, Points, Route, Screen, Why,
-};
+pub use plan_spec::{Changed, Edit, GridSpec, Item, Items, Limit, MAX_CORNERS, MAX_GRID_POINTS, MAX_OBSTACLES, MAX_ROUTES, MAX_SCREENS, MAX_SHIFT, MAX_STEP, PlanData, Points, Route, Screen, Why};
 pub use plane_spec::{PlanBox, Point};
 pub use sharing::types_are_shared;
 pub use text_spec::{Name, NoMemory};

@@ -7,7 +7,7 @@ ghost use Rattle.plan_spec.specs.Refusals as refusals;
 
 use crate::draft::Draft;
 use crate::polygons::{
-    lies_within, line_lies_within, line_meets_polygon, lines_overlap, polygons_meet,
+    lies_within, segment_lies_within, segment_meets_polygon, lines_overlap, polygons_meet,
 };
 use exact_geom::touch;
 use plan_spec::Why;
@@ -37,7 +37,7 @@ fn screen_met(draft: &Draft, points: &[Point]) -> Option<Why>
 {
     for k in 0..draft.screens() {
         let screen = draft.screen(k);
-        if line_meets_polygon(screen.from, screen.to, points) {
+        if segment_meets_polygon(screen.from, screen.to, points) {
             return Some(Why::Screen(screen.name));
         }
     }
@@ -67,10 +67,10 @@ fn obstacle_met_by_line(draft: &Draft, from: Point, to: Point) -> Option<Why>
     requires sound { IsTrue (is_sound draft.now) }
     requires from_in { InRange from }
     requires to_in { InRange to }
-    ensures { result ≡ refusals.first_obstacle (refusals.obstacles_met_by_line from to draft.now.obstacles) }
+    ensures { result ≡ refusals.first_obstacle (refusals.obstacles_met_by_segment from to draft.now.obstacles) }
 {
     for k in 0..draft.obstacles() {
-        if line_meets_polygon(from, to, draft.obstacle(k)) {
+        if segment_meets_polygon(from, to, draft.obstacle(k)) {
             return Some(Why::Touch(draft.obstacle_name(k).copy()));
         }
     }
@@ -82,7 +82,7 @@ fn screen_met_by_line(draft: &Draft, from: Point, to: Point) -> Option<Why>
     requires sound { IsTrue (is_sound draft.now) }
     requires from_in { InRange from }
     requires to_in { InRange to }
-    ensures { result ≡ refusals.first_screen (refusals.screens_met_by_line from to draft.now.screens) }
+    ensures { result ≡ refusals.first_screen (refusals.screens_met_by_segment from to draft.now.screens) }
 {
     for k in 0..draft.screens() {
         let screen = draft.screen(k);
@@ -101,7 +101,7 @@ pub(crate) fn why_not_line_in(draft: &Draft, from: Point, to: Point) -> Option<W
     requires to_in { InRange to }
     ensures { result ≡ refusals.why_not_line_in draft.now from to }
 {
-    if !line_lies_within(draft.outer(), from, to) {
+    if !segment_lies_within(draft.outer(), from, to) {
         return Some(Why::Outside);
     }
     if let Some(why) = obstacle_met_by_line(draft, from, to) {

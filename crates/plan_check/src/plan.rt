@@ -3,15 +3,15 @@
 ghost use Rattle.std.specs.Prelude.{◌≡◌, ◌<◌, ◌+◌, ◌∷◌, IfErr, IfOk, IsTrue, None, Ok, OnOk, Some, drop, length, position};
 ghost use Rattle.plan_spec.specs.Accepted.{is_sound};
 ghost use Rattle.plan_spec.specs.Plan.{is_route_named, items_of};
-ghost use Rattle.plan_spec.specs.Refusals.{checked};
-ghost use Rattle.plan_spec.specs.Edits.{HasShift, changed_boxes, edited, why_not_edit};
+ghost use Rattle.plan_spec.specs.Refusals.{check_of};
+ghost use Rattle.plan_spec.specs.Edits.{HasShift, changed_boxes, plan_after_edit, why_not_edit};
 ghost use Rattle.plan_spec.specs.Ranges.{AreBoxesInRange};
 ghost use Rattle.plan_check.specs.Faults.{IfRefused};
 ghost use Rattle.plan_check.specs.Kept.{obstacle_at};
 
 use crate::boxes::changed_boxes;
 use crate::draft::Draft;
-use crate::editing::{EditFault, edited, why_not_edit};
+use crate::editing::{EditFault, plan_after_edit, why_not_edit};
 use crate::plan_parts::listed;
 use plan_spec::{Changed, Edit, GridSpec, PlanData, Route, Screen};
 use plane_spec::Point;
@@ -130,7 +130,7 @@ impl Plan {
     /// Checking them gives the plan again.
     pub fn items(&self, alloc: Global) -> Result<PlanData, NoMemory>
         ensures items { IfOk result (λ listed. listed.items ≡ items_of self.now) }
-        ensures again { IfOk result (λ listed. checked listed.items ≡ Ok self.now) }
+        ensures again { IfOk result (λ listed. check_of listed.items ≡ Ok self.now) }
     {
         let items = listed(alloc, &self.draft)?;
         Ok(PlanData { items })
@@ -139,24 +139,24 @@ impl Plan {
     /// The plan after the edit; this one is untouched. A new obstacle, screen or route goes last, a removal closes up, a
     /// move keeps the place.
     ///
-    /// `Err(Refused)` names the first cause for which the edit is refused. The shift of a move is at most `MOST_SHIFT`.
+    /// `Err(Refused)` names the first cause for which the edit is refused. The shift of a move is at most `MAX_SHIFT`.
     ///
     /// Cost: a copy of the plan, and the tests of what is new against each part.
     pub fn with(&self, alloc: Global, edit: &Edit) -> Result<Plan, EditFault>
         requires shift { HasShift edit.now }
-        ensures plan { IfOk result (λ plan. plan ≡ edited self.now edit.now) }
+        ensures plan { IfOk result (λ plan. plan ≡ plan_after_edit self.now edit.now) }
         ensures valid { OnOk result (why_not_edit self.now edit.now ≡ None) }
         ensures refused { IfErr result (λ fault. IfRefused fault (λ why. why_not_edit self.now edit.now ≡ Some why)) }
     {
         if let Some(why) = why_not_edit(alloc, &self.draft, edit)? {
             return Err(EditFault::Refused(why));
         }
-        let parts = edited(alloc, &self.draft, edit)?;
+        let parts = plan_after_edit(alloc, &self.draft, edit)?;
         Ok(Plan::of_sound(parts))
     }
 
     /// The boxes of the obstacle, or of the screen's ends, before and after the edit, where there is one; a route has
-    /// none. Where nothing refuses the edit they are in range. The shift of a move is at most `MOST_SHIFT`.
+    /// none. Where nothing refuses the edit they are in range. The shift of a move is at most `MAX_SHIFT`.
     pub fn changed(&self, edit: &Edit) -> Changed
         requires shift { HasShift edit.now }
         ensures boxes { result ≡ changed_boxes self.now edit.now }

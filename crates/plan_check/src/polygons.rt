@@ -51,15 +51,15 @@ fn folds_back(e: Segment, f: Segment) -> bool
 }
 
 /// Whether edges `i` and `j` of a polygon of so many edges may stand together, where i < j.
-#[tactic(auto, using(std::proofs::lemmas::Bool::Decides::nat_tests), unfolding(plane_spec::specs::Polygons::may_stand))]
-fn may_stand(count: usize, i: usize, e: Segment, j: usize, f: Segment) -> bool
+#[tactic(auto, using(std::proofs::lemmas::Bool::Decides::nat_tests), unfolding(plane_spec::specs::Polygons::may_be_edges))]
+fn may_be_edges(count: usize, i: usize, e: Segment, j: usize, f: Segment) -> bool
     requires before { i < j }
     requires within { j < count }
     requires ea_in { InRange e.a }
     requires eb_in { InRange e.b }
     requires fa_in { InRange f.a }
     requires fb_in { InRange f.b }
-    ensures { result ≡ polygon.may_stand count ((i, e), (j, f)) }
+    ensures { result ≡ polygon.may_be_edges count ((i, e), (j, f)) }
 {
     if j == i + 1 {
         !folds_back(e, f)
@@ -71,15 +71,15 @@ fn may_stand(count: usize, i: usize, e: Segment, j: usize, f: Segment) -> bool
 }
 
 /// Whether edge `i` may stand beside each edge after it.
-fn stands_beside(points: &[Point], i: usize, e: Segment) -> bool
+fn fits_later_edges(points: &[Point], i: usize, e: Segment) -> bool
     requires i_in { i < length points.now }
     requires points_in { All InRange points.now }
     requires a_in { InRange e.a }
     requires b_in { InRange e.b }
-    ensures { result ≡ list_all (λ f. polygon.may_stand (length points.now) ((i, e), f)) (enumerate_from (i + 1) (drop (i + 1) (polygon.edges_of points.now))) }
+    ensures { result ≡ list_all (λ f. polygon.may_be_edges (length points.now) ((i, e), f)) (enumerate_from (i + 1) (drop (i + 1) (polygon.edges_of points.now))) }
 {
     for j in i + 1..points.len() {
-        if !may_stand(points.len(), i, e, j, edge_in_range(points, j)) {
+        if !may_be_edges(points.len(), i, e, j, edge_in_range(points, j)) {
             return false;
         }
     }
@@ -94,7 +94,7 @@ pub(crate) fn crosses_nowhere(points: &[Point]) -> bool
     ensures { result ≡ polygon.crosses_nowhere points.now }
 {
     for i in 0..points.len() {
-        if !stands_beside(points, i, edge_in_range(points, i)) {
+        if !fits_later_edges(points, i, edge_in_range(points, i)) {
             return false;
         }
     }
@@ -173,23 +173,23 @@ pub(crate) fn polygons_meet(points: &[Point], others: &[Point]) -> bool
 }
 
 /// Whether both ends are inside the outer polygon, and the segment touches none of its edges.
-#[tactic(auto, unfolding(plan_spec::specs::Accepted::line_lies_within))]
-pub(crate) fn line_lies_within(outer: &[Point], from: Point, to: Point) -> bool
+#[tactic(auto, unfolding(plan_spec::specs::Accepted::segment_lies_within))]
+pub(crate) fn segment_lies_within(outer: &[Point], from: Point, to: Point) -> bool
     requires outer_in { All InRange outer.now }
     requires from_in { InRange from }
     requires to_in { InRange to }
-    ensures { result ≡ accepted.line_lies_within outer.now from to }
+    ensures { result ≡ accepted.segment_lies_within outer.now from to }
 {
     inside(from, outer) && inside(to, outer) && !touches_border(from, to, outer)
 }
 
 /// Whether the segment touches an edge of the polygon, or has an end inside it.
-#[tactic(auto, unfolding(plan_spec::specs::Accepted::line_meets_polygon))]
-pub(crate) fn line_meets_polygon(from: Point, to: Point, points: &[Point]) -> bool
+#[tactic(auto, unfolding(plan_spec::specs::Accepted::segment_meets_polygon))]
+pub(crate) fn segment_meets_polygon(from: Point, to: Point, points: &[Point]) -> bool
     requires from_in { InRange from }
     requires to_in { InRange to }
     requires points_in { All InRange points.now }
-    ensures { result ≡ accepted.line_meets_polygon from to points.now }
+    ensures { result ≡ accepted.segment_meets_polygon from to points.now }
 {
     touches_border(from, to, points) || inside(from, points) || inside(to, points)
 }
@@ -221,7 +221,7 @@ pub(crate) fn lines_overlap(a: Point, b: Point, c: Point, d: Point) -> bool
     requires b_in { InRange b }
     requires c_in { InRange c }
     requires d_in { InRange d }
-    ensures { result ≡ accepted.do_overlap_lines a b c d }
+    ensures { result ≡ accepted.do_segments_overlap a b c d }
 {
     let a_shared = is_shared(a, a, b, c, d);
     let b_shared = is_shared(b, a, b, c, d);

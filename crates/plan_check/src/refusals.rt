@@ -7,10 +7,8 @@ ghost use Rattle.plan_check.specs.Kept.{IsDraft};
 use crate::draft::Draft;
 use crate::grid::{is_grid_in_range, is_grid_small};
 use crate::place_refusals::{route_overlapped, why_not_line_in, why_not_polygon_in};
-use crate::shape_refusals::{why_not_line, why_not_polygon};
-use plan_spec::{
-    GridSpec, Item, Limit, MOST_CORNERS, MOST_OBSTACLES, MOST_ROUTES, MOST_SCREENS, Why,
-};
+use crate::shape_refusals::{why_not_segment, why_not_polygon};
+use plan_spec::{GridSpec, Item, Limit, MAX_CORNERS, MAX_OBSTACLES, MAX_ROUTES, MAX_SCREENS, Why};
 use plane_spec::Point;
 use text_spec::Name;
 
@@ -26,7 +24,7 @@ fn why_not_outer(draft: &Draft, points: &[Point]) -> Option<Why>
     if let Some(why) = why_not_polygon(points) {
         return Some(why);
     }
-    if draft.corners() + points.len() > MOST_CORNERS {
+    if draft.corners() + points.len() > MAX_CORNERS {
         return Some(Why::Full(Limit::Corners));
     }
     None
@@ -67,10 +65,10 @@ pub(crate) fn why_not_obstacle(draft: &Draft, name: &Name, points: &[Point]) -> 
     if draft.has_obstacle(name) {
         return Some(Why::NameTaken);
     }
-    if draft.obstacles() >= MOST_OBSTACLES {
+    if draft.obstacles() >= MAX_OBSTACLES {
         return Some(Why::Full(Limit::Obstacles));
     }
-    if draft.corners() + points.len() > MOST_CORNERS {
+    if draft.corners() + points.len() > MAX_CORNERS {
         return Some(Why::Full(Limit::Corners));
     }
     None
@@ -85,7 +83,7 @@ pub(crate) fn why_not_screen(draft: &Draft, name: &Name, from: Point, to: Point)
     if !draft.has_outer() {
         return Some(Why::Order);
     }
-    if let Some(why) = why_not_line(from, to) {
+    if let Some(why) = why_not_segment(from, to) {
         return Some(why);
     }
     if let Some(why) = why_not_line_in(draft, from, to) {
@@ -94,10 +92,10 @@ pub(crate) fn why_not_screen(draft: &Draft, name: &Name, from: Point, to: Point)
     if draft.has_screen(name) {
         return Some(Why::NameTaken);
     }
-    if draft.screens() >= MOST_SCREENS {
+    if draft.screens() >= MAX_SCREENS {
         return Some(Why::Full(Limit::Screens));
     }
-    if draft.corners() + 2 > MOST_CORNERS {
+    if draft.corners() + 2 > MAX_CORNERS {
         return Some(Why::Full(Limit::Corners));
     }
     None
@@ -112,13 +110,13 @@ pub(crate) fn why_not_route(draft: &Draft, name: &Name, from: Point, to: Point) 
     if !draft.has_outer() {
         return Some(Why::Order);
     }
-    if let Some(why) = why_not_line(from, to) {
+    if let Some(why) = why_not_segment(from, to) {
         return Some(why);
     }
     if draft.has_route(name) {
         return Some(Why::NameTaken);
     }
-    if draft.routes() >= MOST_ROUTES {
+    if draft.routes() >= MAX_ROUTES {
         return Some(Why::Full(Limit::Routes));
     }
     route_overlapped(draft, from, to)

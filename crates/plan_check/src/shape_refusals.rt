@@ -41,9 +41,9 @@ pub(crate) fn why_not_polygon(points: &[Point]) -> Option<Why>
 }
 
 /// What the ends of a line are refused for by themselves.
-#[tactic(auto, unfolding(plan_spec::specs::Refusals::why_not_line))]
-pub(crate) fn why_not_line(from: Point, to: Point) -> Option<Why>
-    ensures cause { result ≡ refusals.why_not_line from to }
+#[tactic(auto, unfolding(plan_spec::specs::Refusals::why_not_segment))]
+pub(crate) fn why_not_segment(from: Point, to: Point) -> Option<Why>
+    ensures cause { result ≡ refusals.why_not_segment from to }
     ensures from_in { IfNone result (InRange from) }
     ensures to_in { IfNone result (InRange to) }
 {

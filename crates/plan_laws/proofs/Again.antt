@@ -5,13 +5,13 @@ use Rattle.std.proofs.Math.Bool.{and_assoc}
 use Rattle.std.proofs.lemmas.Bool.{and_from}
 use Rattle.std.proofs.lemmas.List.{append-nil, append_assoc}
 use Rattle.plane_spec.specs.declared.Point.{Point}
-use Rattle.plan_spec.specs.declared.kinds.GridSpec.{GridSpec}
-use Rattle.plan_spec.specs.declared.kinds.Screen.{Screen}
-use Rattle.plan_spec.specs.declared.kinds.Route.{Route}
-use Rattle.plan_spec.specs.declared.kinds.Item.{Item}
+use Rattle.plan_spec.specs.declared.item.GridSpec.{GridSpec}
+use Rattle.plan_spec.specs.declared.item.Screen.{Screen}
+use Rattle.plan_spec.specs.declared.item.Route.{Route}
+use Rattle.plan_spec.specs.declared.item.Item.{Item}
 use Rattle.plan_spec.specs.Plan.{Obstacle, Plan, empty_plan, with_outer, with_grid, with_obstacles, with_screens, with_routes, with_item, with_items, grid_items, obstacle_item, screen_item, route_item, items_of}
 use Rattle.plan_spec.specs.Accepted.{are_in_order, is_sound, is_accepted}
-use Rattle.plan_spec.specs.Refusals.{checked}
+use Rattle.plan_spec.specs.Refusals.{check_of}
 use Rattle.plan_spec.specs.Accepted.{may_follow}
 use Rattle.plan_laws.proofs.Checking.{may_all_follow, order_after_outer, accepted_makes}
 
@@ -112,5 +112,5 @@ pub items_accepted : (p : Plan) → is_accepted (items_of p) ≡ is_sound p
 unfolding is_accepted
 items_accepted p = ap (λ t. t && is_sound (with_items empty_plan (items_of p))) (items_in_order p) ∙ ap is_sound (items_make p)
 
-pub checked_again : (p : Plan) → is_sound p ≡ true → checked (items_of p) ≡ Ok p
+pub checked_again : (p : Plan) → is_sound p ≡ true → check_of (items_of p) ≡ Ok p
 checked_again p h = accepted_makes (items_of p) (items_accepted p ∙ h) ∙ ap Ok (items_make p)

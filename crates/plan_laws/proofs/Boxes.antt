@@ -8,13 +8,13 @@ use Rattle.plane_spec.specs.declared.Point.{Point}
 use Rattle.plane_spec.specs.declared.PlanBox.{PlanBox}
 use Rattle.plane_spec.specs.Vectors.{IsWithin, InRange, is_in_range}
 use Rattle.plane_spec.specs.Boxes.{with_point, with_points, box_of_points}
-use Rattle.plan_spec.specs.declared.kinds.Screen.{Screen}
-use Rattle.plan_spec.specs.declared.changes.Edit.{Edit}
-use Rattle.plan_spec.specs.declared.changes.Edit.TheVariants.{Add, Remove, Move, AddScreen, RemoveScreen, AddRoute, RemoveRoute}
+use Rattle.plan_spec.specs.declared.item.Screen.{Screen}
+use Rattle.plan_spec.specs.declared.edit.Edit.{Edit}
+use Rattle.plan_spec.specs.declared.edit.Edit.TheVariants.{Add, Remove, Move, AddScreen, RemoveScreen, AddRoute, RemoveRoute}
 use Rattle.plan_spec.specs.Plan.{Obstacle, Plan, obstacle, screen, with_item, is_obstacle_named, is_screen_named}
-use Rattle.plan_spec.specs.Accepted.{lies_within, polygons_meet, line_meets_polygon, is_sound}
-use Rattle.plan_spec.specs.Edits.{others_of, moved_points, shifted_point, points_named, ends_named, why_not_moved, why_not_edit, edited, changed_boxes}
-use Rattle.plan_spec.specs.Ranges.{IsPolygonInRange, IsLineInRange, IsBoxInRange, AreBoxesInRange}
+use Rattle.plan_spec.specs.Accepted.{lies_within, polygons_meet, segment_meets_polygon, is_sound}
+use Rattle.plan_spec.specs.Edits.{others_of, moved_points, shifted_point, points_named, ends_named, why_not_moved, why_not_edit, plan_after_edit, changed_boxes}
+use Rattle.plan_spec.specs.Ranges.{IsPolygonInRange, IsProperSegmentInRange, IsBoxInRange, AreBoxesInRange}
 use Rattle.plan_laws.proofs.Ranges.{points_in_range, obstacles_in_range, sound_obstacles, sound_screens}
 use Rattle.plan_laws.proofs.Adding.Items.{no_cause}
 use Rattle.plan_laws.proofs.Edits.Refused.{fits_when_moved, none_of_move, edited_is_sound}
@@ -49,10 +49,10 @@ box_in_range (p ∷ points) all =
     let p_in = All-head InRange p points all in
     with_points_in (record { low = p; high = p }) points (record { low = p_in; high = p_in }) (All-tail InRange p points all)
 
-ends_in : (from to : Point) → IsLineInRange from to → All InRange (from ∷ to ∷ [])
+ends_in : (from to : Point) → IsProperSegmentInRange from to → All InRange (from ∷ to ∷ [])
 ends_in from to line = All-cons InRange from (to ∷ []) line.from_in (All-cons InRange to [] line.to_in (All-nil InRange))
 
-line_box_in_range : (from to : Point) → IsLineInRange from to → IfSome (box_of_points (from ∷ to ∷ [])) IsBoxInRange
+line_box_in_range : (from to : Point) → IsProperSegmentInRange from to → IfSome (box_of_points (from ∷ to ∷ [])) IsBoxInRange
 line_box_in_range from to line = box_in_range (from ∷ to ∷ []) (ends_in from to line)
 
 -- ---- what the plan has
@@ -74,7 +74,7 @@ named_ends_in : (plan : Plan) (name : List ℕ) → is_sound plan ≡ true → A
 named_ends_in plan name sound =
     joined_in InRange (λ (s : Screen). s.from ∷ s.to ∷ []) (filter (is_screen_named name) plan.screens)
     (All-filter (is_screen_named name) (λ (s : Screen). All InRange (s.from ∷ s.to ∷ [])) plan.screens
-    (All-weaker (λ (s : Screen). IsLineInRange s.from s.to) (λ (s : Screen). All InRange (s.from ∷ s.to ∷ [])) (λ s. ends_in s.from s.to) plan.screens (sound_screens plan sound)))
+    (All-weaker (λ (s : Screen). IsProperSegmentInRange s.from s.to) (λ (s : Screen). All InRange (s.from ∷ s.to ∷ [])) (λ s. ends_in s.from s.to) plan.screens (sound_screens plan sound)))
 
 named_points_box : (plan : Plan) (name : List ℕ) → is_sound plan ≡ true → IfSome (box_of_points (points_named name plan.obstacles)) IsBoxInRange
 named_points_box plan name sound = box_in_range (points_named name plan.obstacles) (named_points_in plan name sound)
@@ -90,16 +90,16 @@ last_of_all P [] x all = All-head P x [] all
 last_of_all P (y ∷ xs) x all = last_of_all P xs x (All-tail P y (xs ++ x ∷ []) all)
 
 added_points_in : (p : Plan) (name : List ℕ) (points : List Point) → is_sound p ≡ true → why_not_edit p (Add name points) ≡ None → All InRange points
-unfolding edited with_item
+unfolding plan_after_edit with_item
 added_points_in p name points h none =
     (last_of_all (λ (o : Obstacle). IsPolygonInRange o.points) p.obstacles (obstacle name points)
-    (sound_obstacles (edited p (Add name points)) (edited_is_sound p (Add name points) h none))).in_range
+    (sound_obstacles (plan_after_edit p (Add name points)) (edited_is_sound p (Add name points) h none))).in_range
 
-added_screen_in : (p : Plan) (name : List ℕ) (from to : Point) → is_sound p ≡ true → why_not_edit p (AddScreen name from to) ≡ None → IsLineInRange from to
-unfolding edited with_item
+added_screen_in : (p : Plan) (name : List ℕ) (from to : Point) → is_sound p ≡ true → why_not_edit p (AddScreen name from to) ≡ None → IsProperSegmentInRange from to
+unfolding plan_after_edit with_item
 added_screen_in p name from to h none =
-    last_of_all (λ (s : Screen). IsLineInRange s.from s.to) p.screens (screen name from to)
-    (sound_screens (edited p (AddScreen name from to)) (edited_is_sound p (AddScreen name from to) h none))
+    last_of_all (λ (s : Screen). IsProperSegmentInRange s.from s.to) p.screens (screen name from to)
+    (sound_screens (plan_after_edit p (AddScreen name from to)) (edited_is_sound p (AddScreen name from to) h none))
 
 moved_points_in : (p : Plan) (name : List ℕ) (dx dy : ℤ) → why_not_edit p (Move name dx dy) ≡ None → All InRange (map (shifted_point dx dy) (points_named name p.obstacles))
 moved_points_in p name dx dy none =
@@ -108,7 +108,7 @@ moved_points_in p name dx dy none =
     let there : Bool = list_any (is_obstacle_named name) p.obstacles in
     let fits : Bool =
     lies_within others.outer points
-    && (not (list_any (λ x. polygons_meet x.points points) others.obstacles) && not (list_any (λ s. line_meets_polygon s.from s.to points) others.screens)) in
+    && (not (list_any (λ x. polygons_meet x.points points) others.obstacles) && not (list_any (λ s. segment_meets_polygon s.from s.to points) others.screens)) in
     let tests = and_parts there (is_none (why_not_moved others points)) (sym (none_of_move p name dx dy) ∙ no_cause _ none) in
     points_in_range points (and_parts (list_all is_in_range points) fits (sym (fits_when_moved others points) ∙ tests.1)).0
 

@@ -7,8 +7,8 @@ use Rattle.std.proofs.lemmas.List.{length-append, length-map}
 use Rattle.std.proofs.lemmas.List.Elements.{All-nil, All-cons, All-append, All-map}
 use Rattle.std.proofs.lemmas.List.FromFn.{length-range_with_len}
 use Rattle.plane_spec.specs.Vectors.{IsWithin, InRange, is_coordinate}
-use Rattle.plan_spec.specs.declared.kinds.GridSpec.{GridSpec}
-use Rattle.plan_spec.specs.declared.limits.TheConstants.{MOST_GRID_POINTS, MOST_STEP}
+use Rattle.plan_spec.specs.declared.item.GridSpec.{GridSpec}
+use Rattle.plan_spec.specs.declared.limits.TheConstants.{MAX_GRID_POINTS, MAX_STEP}
 use Rattle.plan_spec.specs.Plan.{Plan}
 use Rattle.plan_spec.specs.Accepted.{is_grid_sound, is_grid_in_range, is_grid_small, is_from_one, is_row_in_range, is_sound}
 use Rattle.plan_spec.specs.Grid.{point_at, row_points, grid_points}
@@ -31,21 +31,21 @@ factor_of_small most m n h k e = absurd (omega (arith, ints))
 pub grid_is : (g : GridSpec) → (is_grid_in_range g && is_grid_small g) ≡ true → IsGridInRange g
 unfolding is_grid_in_range
 grid_is g h =
-    let small = at_most (g.cols *ℤ g.rows) (pos MOST_GRID_POINTS) (second_of_both (is_grid_in_range g) (is_grid_small g) h) in
+    let small = at_most (g.cols *ℤ g.rows) (pos MAX_GRID_POINTS) (second_of_both (is_grid_in_range g) (is_grid_small g) h) in
     let all = first_of_both (is_grid_in_range g) (is_grid_small g) h in
-    let numbers = first_of_both (is_from_one MOST_STEP g.step && (int_le (pos 1) g.cols && int_le (pos 1) g.rows)) (is_row_in_range g.x0 g.step g.cols && is_row_in_range g.y0 g.step g.rows) all in
-    let ends = second_of_both (is_from_one MOST_STEP g.step && (int_le (pos 1) g.cols && int_le (pos 1) g.rows)) (is_row_in_range g.x0 g.step g.cols && is_row_in_range g.y0 g.step g.rows) all in
-    let step = first_of_both (is_from_one MOST_STEP g.step) (int_le (pos 1) g.cols && int_le (pos 1) g.rows) numbers in
-    let counts = second_of_both (is_from_one MOST_STEP g.step) (int_le (pos 1) g.cols && int_le (pos 1) g.rows) numbers in
+    let numbers = first_of_both (is_from_one MAX_STEP g.step && (int_le (pos 1) g.cols && int_le (pos 1) g.rows)) (is_row_in_range g.x0 g.step g.cols && is_row_in_range g.y0 g.step g.rows) all in
+    let ends = second_of_both (is_from_one MAX_STEP g.step && (int_le (pos 1) g.cols && int_le (pos 1) g.rows)) (is_row_in_range g.x0 g.step g.cols && is_row_in_range g.y0 g.step g.rows) all in
+    let step = first_of_both (is_from_one MAX_STEP g.step) (int_le (pos 1) g.cols && int_le (pos 1) g.rows) numbers in
+    let counts = second_of_both (is_from_one MAX_STEP g.step) (int_le (pos 1) g.cols && int_le (pos 1) g.rows) numbers in
     let cols_from = at_most (pos 1) g.cols (first_of_both (int_le (pos 1) g.cols) (int_le (pos 1) g.rows) counts) in
     let rows_from = at_most (pos 1) g.rows (second_of_both (int_le (pos 1) g.cols) (int_le (pos 1) g.rows) counts) in
-    let few = factor_of_small MOST_GRID_POINTS g.cols g.rows cols_from rows_from small in
+    let few = factor_of_small MAX_GRID_POINTS g.cols g.rows cols_from rows_from small in
     let xs = first_of_both (is_row_in_range g.x0 g.step g.cols) (is_row_in_range g.y0 g.step g.rows) ends in
     let ys = second_of_both (is_row_in_range g.x0 g.step g.cols) (is_row_in_range g.y0 g.step g.rows) ends in
     record {
       step = record {
-        from = at_most (pos 1) g.step (first_of_both (int_le (pos 1) g.step) (int_le g.step MOST_STEP) step);
-        to = at_most g.step MOST_STEP (second_of_both (int_le (pos 1) g.step) (int_le g.step MOST_STEP) step);
+        from = at_most (pos 1) g.step (first_of_both (int_le (pos 1) g.step) (int_le g.step MAX_STEP) step);
+        to = at_most g.step MAX_STEP (second_of_both (int_le (pos 1) g.step) (int_le g.step MAX_STEP) step);
       };
       cols = record { from = cols_from; to = few.0 };
       rows = record { from = rows_from; to = few.1 };
@@ -84,13 +84,13 @@ few_points most (pos m) (pos n) h k e = omega (arith, ints)
 few_points most (pos m) (negsuc n) h k e = absurd (omega (arith, ints))
 few_points most (negsuc m) n h k e = absurd (omega (arith, ints))
 
-pub sound_grid_length : (p : Plan) → is_sound p ≡ true → length (grid_points p.grid) ≤ MOST_GRID_POINTS
+pub sound_grid_length : (p : Plan) → is_sound p ≡ true → length (grid_points p.grid) ≤ MAX_GRID_POINTS
 unfolding grid_points
 sound_grid_length p h = by_grid p.grid (sound_grid p h)
   where
-    by_grid : (grid : Option GridSpec) → IfSome grid IsGridInRange → length (grid_points grid) ≤ MOST_GRID_POINTS
+    by_grid : (grid : Option GridSpec) → IfSome grid IsGridInRange → length (grid_points grid) ≤ MAX_GRID_POINTS
     by_grid None h = omega arith
-    by_grid (Some g) h = omega (arith, grid_length g, few_points MOST_GRID_POINTS g.cols g.rows h.cols.from h.rows.from h.count)
+    by_grid (Some g) h = omega (arith, grid_length g, few_points MAX_GRID_POINTS g.cols g.rows h.cols.from h.rows.from h.count)
 
 -- ---- where its points are
 

@@ -6,8 +6,8 @@ pub mod Ranges
 pub mod Grids
 pub mod Shifts
 pub mod Meeting
-pub mod MutualSight
 pub mod Names
 pub mod Edits
 pub mod Boxes
 pub mod Again
+pub mod GridPoints

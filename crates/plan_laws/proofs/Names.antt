@@ -6,7 +6,7 @@ use Rattle.std.proofs.Common.{sym, ◌∙◌}
 use Rattle.std.proofs.lemmas.Bool.{and_parts, not-true, false_from_ne_true, both_ways}
 use Rattle.std.proofs.lemmas.Slice.Eq.{bytes_eq-Decides}
 use Rattle.plane_spec.specs.Segments.{do_touch}
-use Rattle.plan_spec.specs.declared.kinds.Screen.{Screen}
+use Rattle.plan_spec.specs.declared.item.Screen.{Screen}
 use Rattle.plan_spec.specs.Plan.{Obstacle, Plan, is_obstacle_named, is_screen_named}
 use Rattle.plan_spec.specs.Accepted.{polygons_meet, obstacles_apart, screens_apart, is_sound}
 use Rattle.list_laws.proofs.Single.{Single, single}

@@ -9,10 +9,10 @@ use Rattle.std.proofs.lemmas.List.Sums.{get_or-le-sum_by}
 use Rattle.plane_spec.specs.declared.Point.{Point}
 use Rattle.plane_spec.specs.Vectors.{IsWithin, InRange, is_coordinate, is_in_range, same_point}
 use Rattle.plane_spec.specs.Polygons.{has_repeat, crosses_nowhere, is_simple}
-use Rattle.plan_spec.specs.declared.limits.TheConstants.{MOST_OBSTACLES, MOST_SCREENS, MOST_ROUTES, MOST_CORNERS}
+use Rattle.plan_spec.specs.declared.limits.TheConstants.{MAX_OBSTACLES, MAX_SCREENS, MAX_ROUTES, MAX_CORNERS}
 use Rattle.plan_spec.specs.Plan.{Plan, has_outer, corner_count, corners_of_obstacle_count}
-use Rattle.plan_spec.specs.Accepted.{is_polygon, is_line, lies_within, line_lies_within, is_within_limits, is_sound}
-use Rattle.plan_spec.specs.Ranges.{IsPolygonInRange, IsLineInRange, IsWithinLimits}
+use Rattle.plan_spec.specs.Accepted.{is_polygon, is_proper_segment, lies_within, segment_lies_within, is_within_limits, is_sound}
+use Rattle.plan_spec.specs.Ranges.{IsPolygonInRange, IsProperSegmentInRange, IsWithinLimits}
 use Rattle.plan_laws.proofs.Parts.{first_of_both, second_of_both, parts_of_sound, parts_of_obstacles, parts_of_screens, parts_of_routes}
 
 -- ---- points
@@ -41,10 +41,10 @@ points_in_range points h = each_is is_in_range InRange point_in_range points h
 pub limits_are : (p : Plan) → is_within_limits p ≡ true → IsWithinLimits p
 unfolding is_within_limits
 limits_are p h =
-    let obstacles = nat_le (length p.obstacles) MOST_OBSTACLES in
-    let screens = nat_le (length p.screens) MOST_SCREENS in
-    let routes = nat_le (length p.routes) MOST_ROUTES in
-    let corners = nat_le (corner_count p) MOST_CORNERS in
+    let obstacles = nat_le (length p.obstacles) MAX_OBSTACLES in
+    let screens = nat_le (length p.screens) MAX_SCREENS in
+    let routes = nat_le (length p.routes) MAX_ROUTES in
+    let corners = nat_le (corner_count p) MAX_CORNERS in
     let counts = first_of_both (obstacles && screens) (routes && corners) h in
     let rest = second_of_both (obstacles && screens) (routes && corners) h in
     record {
@@ -60,7 +60,7 @@ sound_limits p h = limits_are p (parts_of_sound p h).limits
 -- ---- polygons
 
 polygon_in_range : (points : List Point)
-    → is_polygon points ≡ true → length points ≤ MOST_CORNERS → IsPolygonInRange points
+    → is_polygon points ≡ true → length points ≤ MAX_CORNERS → IsPolygonInRange points
 polygon_in_range points h few =
     let simple = second_of_both (list_all is_in_range points) (is_simple points) h in
     record {
@@ -98,7 +98,7 @@ sound_has_outer p h = some_points p (sound_outer p h).at_least
 
 -- ---- lines
 
-line_in_range : (from to : Point) → is_line from to ≡ true → IsLineInRange from to
+line_in_range : (from to : Point) → is_proper_segment from to ≡ true → IsProperSegmentInRange from to
 line_in_range from to h =
     let ends = first_of_both (is_in_range from && is_in_range to) (not (same_point from to)) h in
     record {
@@ -107,15 +107,15 @@ line_in_range from to h =
       apart = not-true _ (second_of_both (is_in_range from && is_in_range to) (not (same_point from to)) h);
     }
 
-pub sound_screens : (p : Plan) → is_sound p ≡ true → All (λ s. IsLineInRange s.from s.to) p.screens
+pub sound_screens : (p : Plan) → is_sound p ≡ true → All (λ s. IsProperSegmentInRange s.from s.to) p.screens
 sound_screens p h =
-    each_is (λ s. is_line s.from s.to && line_lies_within p.outer s.from s.to) (λ s. IsLineInRange s.from s.to)
-    (λ s e. line_in_range s.from s.to (first_of_both (is_line s.from s.to) (line_lies_within p.outer s.from s.to) e))
+    each_is (λ s. is_proper_segment s.from s.to && segment_lies_within p.outer s.from s.to) (λ s. IsProperSegmentInRange s.from s.to)
+    (λ s e. line_in_range s.from s.to (first_of_both (is_proper_segment s.from s.to) (segment_lies_within p.outer s.from s.to) e))
     p.screens (parts_of_screens p (parts_of_sound p h).screens).lines
 
-pub sound_routes : (p : Plan) → is_sound p ≡ true → All (λ r. IsLineInRange r.from r.to) p.routes
+pub sound_routes : (p : Plan) → is_sound p ≡ true → All (λ r. IsProperSegmentInRange r.from r.to) p.routes
 sound_routes p h =
-    each_is (λ r. is_line r.from r.to) (λ r. IsLineInRange r.from r.to) (λ r. line_in_range r.from r.to)
+    each_is (λ r. is_proper_segment r.from r.to) (λ r. IsProperSegmentInRange r.from r.to) (λ r. line_in_range r.from r.to)
     p.routes (parts_of_routes p (parts_of_sound p h).routes).lines
 
 -- ---- the points of each, alone

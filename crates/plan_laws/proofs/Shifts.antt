@@ -11,7 +11,7 @@ use Rattle.plane_spec.specs.declared.Segment.{Segment}
 use Rattle.plane_spec.specs.Lists.{numbered_pairs}
 use Rattle.plane_spec.specs.Vectors.{orient_of, same_point}
 use Rattle.plane_spec.specs.Segments.{is_on_segment, cross_properly, do_touch}
-use Rattle.plane_spec.specs.Polygons.{edges_to, edges_of, is_on_edge, is_on_border, passes_right, is_inside, borders_touch, is_nothing, has_repeat, may_stand, crosses_nowhere}
+use Rattle.plane_spec.specs.Polygons.{edges_to, edges_of, is_on_edge, is_on_border, passes_right, is_inside, borders_touch, is_nothing, has_repeat, may_be_edges, crosses_nowhere}
 use Rattle.plan_spec.specs.Edits.{shifted_point}
 use Rattle.list_laws.proofs.Tests.{list_all_agree, list_any_map, list_any_agree, count_map}
 use Rattle.plan_laws.proofs.Pairs.{each_of_pair, beside_number, numbered_pairs_map}
@@ -77,18 +77,18 @@ module _ (dx dy : ℤ) where
       ∙ list_any_map is_nothing shifted_edge (edges_of points)
       ∙ list_any_agree (λ e. is_nothing (shifted_edge e)) is_nothing (λ e. same_point_shifted e.a e.b) (edges_of points)
 
-  may_stand_shifted : (count : ℕ) (e : (ℕ × Segment) × (ℕ × Segment)) → may_stand count (each_of_pair (beside_number shifted_edge) e) ≡ may_stand count e
-  unfolding may_stand shifted_edge each_of_pair beside_number
+  may_stand_shifted : (count : ℕ) (e : (ℕ × Segment) × (ℕ × Segment)) → may_be_edges count (each_of_pair (beside_number shifted_edge) e) ≡ may_be_edges count e
+  unfolding may_be_edges shifted_edge each_of_pair beside_number
   may_stand_shifted count e = simp (on_segment_shifted, touch_shifted)
 
   pub crosses_shifted : (points : List Point) → crosses_nowhere (map (shifted_point dx dy) points) ≡ crosses_nowhere points
   unfolding crosses_nowhere
   crosses_shifted points =
-      ap (λ n. list_all (may_stand n) (numbered_pairs (edges_of (map (shifted_point dx dy) points)))) (length-map points (shifted_point dx dy))
-      ∙ ap (λ edges. list_all (may_stand (length points)) (numbered_pairs edges)) (edges_shifted points)
-      ∙ ap (list_all (may_stand (length points))) (numbered_pairs_map shifted_edge (edges_of points))
-      ∙ list_all-map (may_stand (length points)) (each_of_pair (beside_number shifted_edge)) (numbered_pairs (edges_of points))
-      ∙ list_all_agree (λ e. may_stand (length points) (each_of_pair (beside_number shifted_edge) e)) (may_stand (length points)) (may_stand_shifted (length points)) (numbered_pairs (edges_of points))
+      ap (λ n. list_all (may_be_edges n) (numbered_pairs (edges_of (map (shifted_point dx dy) points)))) (length-map points (shifted_point dx dy))
+      ∙ ap (λ edges. list_all (may_be_edges (length points)) (numbered_pairs edges)) (edges_shifted points)
+      ∙ ap (list_all (may_be_edges (length points))) (numbered_pairs_map shifted_edge (edges_of points))
+      ∙ list_all-map (may_be_edges (length points)) (each_of_pair (beside_number shifted_edge)) (numbered_pairs (edges_of points))
+      ∙ list_all_agree (λ e. may_be_edges (length points) (each_of_pair (beside_number shifted_edge) e)) (may_be_edges (length points)) (may_stand_shifted (length points)) (numbered_pairs (edges_of points))
 
   -- ---- inside
 

@@ -2,7 +2,7 @@
 use Rattle.std.specs.Prelude.{ℕ, List, [], ◌∷◌, pos, Some, codes}
 use Rattle.plane_spec.specs.declared.Point.{Point}
 use Rattle.plane_spec.specs.Vectors.{point}
-use Rattle.plan_spec.specs.declared.kinds.GridSpec.{GridSpec}
+use Rattle.plan_spec.specs.declared.item.GridSpec.{GridSpec}
 use Rattle.plan_spec.specs.Plan.{Obstacle, Plan, obstacle, empty_plan, with_outer, with_grid, with_obstacles}
 
 -- a point from two numbers that aren't negative

@@ -7,12 +7,12 @@ use Rattle.plane_spec.specs.Lists.{pairs}
 use Rattle.plane_spec.specs.Vectors.{is_coordinate, is_in_range, same_point}
 use Rattle.plane_spec.specs.Segments.{do_touch, is_on_segment}
 use Rattle.plane_spec.specs.Polygons.{edges_of, is_inside, borders_touch, is_simple}
-use Rattle.plan_spec.specs.declared.kinds.GridSpec.{GridSpec}
-use Rattle.plan_spec.specs.declared.kinds.Screen.{Screen}
-use Rattle.plan_spec.specs.declared.kinds.Route.{Route}
-use Rattle.plan_spec.specs.declared.kinds.Item.{Item}
-use Rattle.plan_spec.specs.declared.kinds.Item.TheVariants.{Grid, Outer}
-use Rattle.plan_spec.specs.declared.limits.TheConstants.{MOST_OBSTACLES, MOST_SCREENS, MOST_ROUTES, MOST_CORNERS, MOST_GRID_POINTS, MOST_STEP}
+use Rattle.plan_spec.specs.declared.item.GridSpec.{GridSpec}
+use Rattle.plan_spec.specs.declared.item.Screen.{Screen}
+use Rattle.plan_spec.specs.declared.item.Route.{Route}
+use Rattle.plan_spec.specs.declared.item.Item.{Item}
+use Rattle.plan_spec.specs.declared.item.Item.TheVariants.{Grid, Outer}
+use Rattle.plan_spec.specs.declared.limits.TheConstants.{MAX_OBSTACLES, MAX_SCREENS, MAX_ROUTES, MAX_CORNERS, MAX_GRID_POINTS, MAX_STEP}
 use Rattle.plan_spec.specs.Plan.{Obstacle, Plan, empty_plan, with_items, corner_count}
 
 -- each two elements of the list, the earlier one first, pass the test
@@ -26,8 +26,8 @@ abbrev pub is_polygon : List Point → Bool
 is_polygon points = list_all is_in_range points && is_simple points
 
 -- two different ends in range
-abbrev pub is_line : Point → Point → Bool
-is_line from to = (is_in_range from && is_in_range to) && not (same_point from to)
+abbrev pub is_proper_segment : Point → Point → Bool
+is_proper_segment from to = (is_in_range from && is_in_range to) && not (same_point from to)
 
 -- z is from 1 to most
 abbrev pub is_from_one : ℤ → ℤ → Bool
@@ -40,12 +40,12 @@ is_row_in_range first step count = is_coordinate first && is_coordinate (first +
 -- a step of at least 1 that isn't too long, at least one column and one row, and all points in range
 unfoldable pub is_grid_in_range : GridSpec → Bool
 is_grid_in_range g =
-    (is_from_one MOST_STEP g.step && (int_le (pos 1) g.cols && int_le (pos 1) g.rows))
+    (is_from_one MAX_STEP g.step && (int_le (pos 1) g.cols && int_le (pos 1) g.rows))
     && (is_row_in_range g.x0 g.step g.cols && is_row_in_range g.y0 g.step g.rows)
 
 -- no more points than a grid may have
 abbrev pub is_grid_small : GridSpec → Bool
-is_grid_small g = int_le (g.cols *ℤ g.rows) (pos MOST_GRID_POINTS)
+is_grid_small g = int_le (g.cols *ℤ g.rows) (pos MAX_GRID_POINTS)
 
 -- there is no grid, or its points are in range and not too many
 abbrev pub is_grid_sound : Option GridSpec → Bool
@@ -67,20 +67,20 @@ abbrev pub touches_border : Point → Point → List Point → Bool
 touches_border from to points = list_any (λ e. do_touch from to e.a e.b) (edges_of points)
 
 -- both ends are inside the outer polygon, and the segment touches none of its edges
-unfoldable pub line_lies_within : List Point → Point → Point → Bool
-line_lies_within outer from to = (is_inside from outer && is_inside to outer) && not (touches_border from to outer)
+unfoldable pub segment_lies_within : List Point → Point → Point → Bool
+segment_lies_within outer from to = (is_inside from outer && is_inside to outer) && not (touches_border from to outer)
 
 -- the segment touches an edge of the polygon, or has an end inside it
-unfoldable pub line_meets_polygon : Point → Point → List Point → Bool
-line_meets_polygon from to points = touches_border from to points || (is_inside from points || is_inside to points)
+unfoldable pub segment_meets_polygon : Point → Point → List Point → Bool
+segment_meets_polygon from to points = touches_border from to points || (is_inside from points || is_inside to points)
 
 -- the ends of two segments that lie on both
 abbrev pub shared_ends : Point → Point → Point → Point → List Point
 shared_ends a b c d = filter (λ x. is_on_segment x a b && is_on_segment x c d) (a ∷ b ∷ c ∷ d ∷ [])
 
 -- two segments share more than one point: then the ends of what they share are two different ends of theirs
-unfoldable pub do_overlap_lines : Point → Point → Point → Point → Bool
-do_overlap_lines a b c d = list_any (λ e. not (same_point e.0 e.1)) (pairs (shared_ends a b c d))
+unfoldable pub do_segments_overlap : Point → Point → Point → Point → Bool
+do_segments_overlap a b c d = list_any (λ e. not (same_point e.0 e.1)) (pairs (shared_ends a b c d))
 
 -- ---- the obstacles, the screens, the routes
 
@@ -89,8 +89,8 @@ abbrev pub obstacles_apart : Obstacle → Obstacle → Bool
 obstacles_apart o q = not (polygons_meet o.points q.points) && not (bytes_eq o.name q.name)
 
 -- simple polygons within the outer polygon, apart from each other, with different names
-unfoldable pub do_obstacles_stand : Plan → Bool
-do_obstacles_stand plan =
+unfoldable pub are_obstacles_sound : Plan → Bool
+are_obstacles_sound plan =
     list_all (λ o. is_polygon o.points && lies_within plan.outer o.points) plan.obstacles && each_two obstacles_apart plan.obstacles
 
 -- two screens don't touch, and have different names
@@ -98,34 +98,34 @@ abbrev pub screens_apart : Screen → Screen → Bool
 screens_apart s t = not (do_touch s.from s.to t.from t.to) && not (bytes_eq s.name t.name)
 
 -- lines within the outer polygon that meet no obstacle and no other screen, with different names
-unfoldable pub do_screens_stand : Plan → Bool
-do_screens_stand plan =
-    list_all (λ s. is_line s.from s.to && line_lies_within plan.outer s.from s.to) plan.screens
-    && (list_all (λ s. not (list_any (λ o. line_meets_polygon s.from s.to o.points) plan.obstacles)) plan.screens
+unfoldable pub are_screens_sound : Plan → Bool
+are_screens_sound plan =
+    list_all (λ s. is_proper_segment s.from s.to && segment_lies_within plan.outer s.from s.to) plan.screens
+    && (list_all (λ s. not (list_any (λ o. segment_meets_polygon s.from s.to o.points) plan.obstacles)) plan.screens
     && each_two screens_apart plan.screens)
 
 -- two routes share at most one point, and have different names
 abbrev pub routes_apart : Route → Route → Bool
-routes_apart r q = not (do_overlap_lines r.from r.to q.from q.to) && not (bytes_eq r.name q.name)
+routes_apart r q = not (do_segments_overlap r.from r.to q.from q.to) && not (bytes_eq r.name q.name)
 
 -- lines of which each two share at most one point, with different names
-unfoldable pub do_routes_stand : Plan → Bool
-do_routes_stand plan = list_all (λ r. is_line r.from r.to) plan.routes && each_two routes_apart plan.routes
+unfoldable pub are_routes_sound : Plan → Bool
+are_routes_sound plan = list_all (λ r. is_proper_segment r.from r.to) plan.routes && each_two routes_apart plan.routes
 
 -- ---- the plan
 
 -- no more obstacles, screens, routes and corners than a plan may have
 unfoldable pub is_within_limits : Plan → Bool
 is_within_limits plan =
-    (nat_le (length plan.obstacles) MOST_OBSTACLES && nat_le (length plan.screens) MOST_SCREENS)
-    && (nat_le (length plan.routes) MOST_ROUTES && nat_le (corner_count plan) MOST_CORNERS)
+    (nat_le (length plan.obstacles) MAX_OBSTACLES && nat_le (length plan.screens) MAX_SCREENS)
+    && (nat_le (length plan.routes) MAX_ROUTES && nat_le (corner_count plan) MAX_CORNERS)
 
 -- the outer polygon is simple, the obstacles and the screens stand in it, apart from each other, the grid and the
 -- routes are sound by themselves, wherever they lie, and no limit is passed
 unfoldable pub is_sound : Plan → Bool
 is_sound plan =
     (is_polygon plan.outer && is_grid_sound plan.grid)
-    && ((do_obstacles_stand plan && do_screens_stand plan) && (do_routes_stand plan && is_within_limits plan))
+    && ((are_obstacles_sound plan && are_screens_sound plan) && (are_routes_sound plan && is_within_limits plan))
 
 -- ---- the items
 

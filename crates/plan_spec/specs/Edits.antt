@@ -5,14 +5,14 @@ use Rattle.plane_spec.specs.declared.Point.{Point}
 use Rattle.plane_spec.specs.declared.PlanBox.{PlanBox}
 use Rattle.plane_spec.specs.Vectors.{IsWithin, point, is_in_range}
 use Rattle.plane_spec.specs.Boxes.{box_of_points}
-use Rattle.plan_spec.specs.declared.kinds.Screen.{Screen}
-use Rattle.plan_spec.specs.declared.kinds.Item.TheVariants.{Obstacle as ObstacleItem, Screen as ScreenItem, Route as RouteItem}
-use Rattle.plan_spec.specs.declared.changes.Edit.{Edit}
-use Rattle.plan_spec.specs.declared.changes.Edit.TheVariants.{Add, Remove, Move, AddScreen, RemoveScreen, AddRoute, RemoveRoute}
-use Rattle.plan_spec.specs.declared.changes.Changed.{Changed}
-use Rattle.plan_spec.specs.declared.refusals.Why.{Why}
-use Rattle.plan_spec.specs.declared.refusals.Why.TheVariants.{Range, Missing}
-use Rattle.plan_spec.specs.declared.limits.TheConstants.{MOST_SHIFT}
+use Rattle.plan_spec.specs.declared.item.Screen.{Screen}
+use Rattle.plan_spec.specs.declared.item.Item.TheVariants.{Obstacle as ObstacleItem, Screen as ScreenItem, Route as RouteItem}
+use Rattle.plan_spec.specs.declared.edit.Edit.{Edit}
+use Rattle.plan_spec.specs.declared.edit.Edit.TheVariants.{Add, Remove, Move, AddScreen, RemoveScreen, AddRoute, RemoveRoute}
+use Rattle.plan_spec.specs.declared.edit.Changed.{Changed}
+use Rattle.plan_spec.specs.declared.why.Why.{Why}
+use Rattle.plan_spec.specs.declared.why.Why.TheVariants.{Range, Missing}
+use Rattle.plan_spec.specs.declared.limits.TheConstants.{MAX_SHIFT}
 use Rattle.plan_spec.specs.Plan.{Obstacle, Plan, obstacle, with_item, with_obstacles, with_screens, with_routes, is_obstacle_named, is_screen_named, is_route_named}
 use Rattle.plan_spec.specs.Accepted.{is_sound}
 use Rattle.plan_spec.specs.Refusals.{when, first_cause, why_not_polygon_in, why_not_obstacle, why_not_screen, why_not_route}
@@ -33,8 +33,8 @@ shifted_obstacle dx dy o = obstacle o.name (map (shifted_point dx dy) o.points)
 
 -- a shift that isn't too far in either coordinate
 pub record IsShift (dx dy : ℤ) : Type 0 where
-  pub x : IsWithin MOST_SHIFT dx
-  pub y : IsWithin MOST_SHIFT dy
+  pub x : IsWithin MAX_SHIFT dx
+  pub y : IsWithin MAX_SHIFT dy
 
 -- where the edit is a move, its shift isn't too far
 abbrev pub HasShift : Edit → Type 0
@@ -90,14 +90,14 @@ why_not_edit plan (RemoveRoute name) = when (not (list_any (is_route_named name)
 -- ---- the plan after the edit
 
 -- what is new stands last, what is removed closes up, what is moved keeps its place
-unfoldable pub edited : Plan → Edit → Plan
-edited plan (Add name points) = with_item plan (ObstacleItem name points)
-edited plan (Remove name) = others_of plan name
-edited plan (Move name dx dy) = with_obstacles plan (map (λ o. if is_obstacle_named name o then shifted_obstacle dx dy o else o) plan.obstacles)
-edited plan (AddScreen name from to) = with_item plan (ScreenItem name from to)
-edited plan (RemoveScreen name) = with_screens plan (filter (λ s. not (is_screen_named name s)) plan.screens)
-edited plan (AddRoute name from to) = with_item plan (RouteItem name from to)
-edited plan (RemoveRoute name) = with_routes plan (filter (λ r. not (is_route_named name r)) plan.routes)
+unfoldable pub plan_after_edit : Plan → Edit → Plan
+plan_after_edit plan (Add name points) = with_item plan (ObstacleItem name points)
+plan_after_edit plan (Remove name) = others_of plan name
+plan_after_edit plan (Move name dx dy) = with_obstacles plan (map (λ o. if is_obstacle_named name o then shifted_obstacle dx dy o else o) plan.obstacles)
+plan_after_edit plan (AddScreen name from to) = with_item plan (ScreenItem name from to)
+plan_after_edit plan (RemoveScreen name) = with_screens plan (filter (λ s. not (is_screen_named name s)) plan.screens)
+plan_after_edit plan (AddRoute name from to) = with_item plan (RouteItem name from to)
+plan_after_edit plan (RemoveRoute name) = with_routes plan (filter (λ r. not (is_route_named name r)) plan.routes)
 
 -- ---- the boxes
 
@@ -127,5 +127,5 @@ pub record IsEditBetween (before after : Plan) (boxes : Changed) : Type 0 where
   pub edit : Edit
   pub sound : is_sound before ≡ true
   pub valid : why_not_edit before edit ≡ None
-  pub makes : after ≡ edited before edit
+  pub makes : after ≡ plan_after_edit before edit
   pub has : boxes ≡ changed_boxes before edit

@@ -3,12 +3,4 @@ pub mod Accepted
 pub mod Refusals
 pub mod Edits
 pub mod Ranges
-pub mod Scene
-pub mod Sight
-pub mod Stops
-pub mod Graphs
 pub mod Grid
-pub mod Isovist
-pub mod Axial
-pub mod Dirty
-pub mod Routes

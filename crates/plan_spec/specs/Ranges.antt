@@ -4,19 +4,19 @@ use Rattle.std.specs.List.{All}
 use Rattle.plane_spec.specs.declared.Point.{Point}
 use Rattle.plane_spec.specs.declared.PlanBox.{PlanBox}
 use Rattle.plane_spec.specs.Vectors.{IsWithin, InRange, same_point}
-use Rattle.plan_spec.specs.declared.kinds.GridSpec.{GridSpec}
-use Rattle.plan_spec.specs.declared.changes.Changed.{Changed}
-use Rattle.plan_spec.specs.declared.limits.TheConstants.{MOST_OBSTACLES, MOST_SCREENS, MOST_ROUTES, MOST_CORNERS, MOST_GRID_POINTS, MOST_STEP}
+use Rattle.plan_spec.specs.declared.item.GridSpec.{GridSpec}
+use Rattle.plan_spec.specs.declared.edit.Changed.{Changed}
+use Rattle.plan_spec.specs.declared.limits.TheConstants.{MAX_OBSTACLES, MAX_SCREENS, MAX_ROUTES, MAX_CORNERS, MAX_GRID_POINTS, MAX_STEP}
 use Rattle.plan_spec.specs.Plan.{Plan, corner_count}
 
 -- at least three points, as many as a plan may have corners, all in range
 pub record IsPolygonInRange (points : List Point) : Type 0 where
   pub in_range : All InRange points
   pub at_least : 3 ≤ length points
-  pub at_most : length points ≤ MOST_CORNERS
+  pub at_most : length points ≤ MAX_CORNERS
 
 -- two different ends, both in range
-pub record IsLineInRange (from to : Point) : Type 0 where
+pub record IsProperSegmentInRange (from to : Point) : Type 0 where
   pub from_in : InRange from
   pub to_in : InRange to
   pub apart : same_point from to ≡ false
@@ -39,10 +39,10 @@ pub record IsFromTo (low high z : ℤ) : Type 0 where
 -- a step that isn't too long, at least one column and one row, not too many points, the first and the last column and
 -- row in range
 pub record IsGridInRange (g : GridSpec) : Type 0 where
-  pub step : IsFromTo (pos 1) MOST_STEP g.step
-  pub cols : IsFromTo (pos 1) (pos MOST_GRID_POINTS) g.cols
-  pub rows : IsFromTo (pos 1) (pos MOST_GRID_POINTS) g.rows
-  pub count : (g.cols *ℤ g.rows) ≤ℤ pos MOST_GRID_POINTS
+  pub step : IsFromTo (pos 1) MAX_STEP g.step
+  pub cols : IsFromTo (pos 1) (pos MAX_GRID_POINTS) g.cols
+  pub rows : IsFromTo (pos 1) (pos MAX_GRID_POINTS) g.rows
+  pub count : (g.cols *ℤ g.rows) ≤ℤ pos MAX_GRID_POINTS
   pub first_col : IsWithin (pos 100000) g.x0
   pub last_col : IsWithin (pos 100000) (g.x0 +ℤ g.step *ℤ (g.cols -ℤ pos 1))
   pub first_row : IsWithin (pos 100000) g.y0
@@ -50,7 +50,7 @@ pub record IsGridInRange (g : GridSpec) : Type 0 where
 
 -- no more obstacles, screens, routes and corners than a plan may have
 pub record IsWithinLimits (p : Plan) : Type 0 where
-  pub obstacles : length p.obstacles ≤ MOST_OBSTACLES
-  pub screens : length p.screens ≤ MOST_SCREENS
-  pub routes : length p.routes ≤ MOST_ROUTES
-  pub corners : corner_count p ≤ MOST_CORNERS
+  pub obstacles : length p.obstacles ≤ MAX_OBSTACLES
+  pub screens : length p.screens ≤ MAX_SCREENS
+  pub routes : length p.routes ≤ MAX_ROUTES
+  pub corners : corner_count p ≤ MAX_CORNERS

@@ -5,17 +5,17 @@ use Rattle.plane_spec.specs.declared.Point.{Point}
 use Rattle.plane_spec.specs.Vectors.{is_in_range, same_point}
 use Rattle.plane_spec.specs.Segments.{do_touch}
 use Rattle.plane_spec.specs.Polygons.{has_repeat, crosses_nowhere}
-use Rattle.plan_spec.specs.declared.kinds.GridSpec.{GridSpec}
-use Rattle.plan_spec.specs.declared.kinds.Screen.{Screen}
-use Rattle.plan_spec.specs.declared.kinds.Route.{Route}
-use Rattle.plan_spec.specs.declared.kinds.Item.{Item}
-use Rattle.plan_spec.specs.declared.kinds.Item.TheVariants.{Grid, Outer, Obstacle as ObstacleItem, Screen as ScreenItem, Route as RouteItem}
-use Rattle.plan_spec.specs.declared.refusals.Why.{Why}
-use Rattle.plan_spec.specs.declared.refusals.Why.TheVariants.{Order, Count, Range, Repeat, Cross, Outside, Touch, Screen as TouchesScreen, NameTaken, Full, Overlap}
-use Rattle.plan_spec.specs.declared.refusals.Limit.TheVariants.{Obstacles, Corners, Screens, Routes, Points as GridPoints}
-use Rattle.plan_spec.specs.declared.limits.TheConstants.{MOST_OBSTACLES, MOST_SCREENS, MOST_ROUTES, MOST_CORNERS}
+use Rattle.plan_spec.specs.declared.item.GridSpec.{GridSpec}
+use Rattle.plan_spec.specs.declared.item.Screen.{Screen}
+use Rattle.plan_spec.specs.declared.item.Route.{Route}
+use Rattle.plan_spec.specs.declared.item.Item.{Item}
+use Rattle.plan_spec.specs.declared.item.Item.TheVariants.{Grid, Outer, Obstacle as ObstacleItem, Screen as ScreenItem, Route as RouteItem}
+use Rattle.plan_spec.specs.declared.why.Why.{Why}
+use Rattle.plan_spec.specs.declared.why.Why.TheVariants.{Order, Count, Range, Repeat, Cross, Outside, Touch, Screen as TouchesScreen, NameTaken, Full, Overlap}
+use Rattle.plan_spec.specs.declared.why.Limit.TheVariants.{Obstacles, Corners, Screens, Routes, Points as GridPoints}
+use Rattle.plan_spec.specs.declared.limits.TheConstants.{MAX_OBSTACLES, MAX_SCREENS, MAX_ROUTES, MAX_CORNERS}
 use Rattle.plan_spec.specs.Plan.{Obstacle, Plan, empty_plan, has_outer, with_item, corner_count, is_obstacle_named, is_screen_named, is_route_named}
-use Rattle.plan_spec.specs.Accepted.{is_grid_in_range, is_grid_small, lies_within, polygons_meet, line_lies_within, line_meets_polygon, do_overlap_lines}
+use Rattle.plan_spec.specs.Accepted.{is_grid_in_range, is_grid_small, lies_within, polygons_meet, segment_lies_within, segment_meets_polygon, do_segments_overlap}
 
 -- ---- what the new part meets, in plan order
 
@@ -25,19 +25,19 @@ obstacles_met points obstacles = filter (λ o. polygons_meet o.points points) ob
 
 -- the screens that meet a polygon
 abbrev pub screens_met : List Point → List Screen → List Screen
-screens_met points screens = filter (λ s. line_meets_polygon s.from s.to points) screens
+screens_met points screens = filter (λ s. segment_meets_polygon s.from s.to points) screens
 
 -- the obstacles that a line meets
-abbrev pub obstacles_met_by_line : Point → Point → List Obstacle → List Obstacle
-obstacles_met_by_line from to obstacles = filter (λ o. line_meets_polygon from to o.points) obstacles
+abbrev pub obstacles_met_by_segment : Point → Point → List Obstacle → List Obstacle
+obstacles_met_by_segment from to obstacles = filter (λ o. segment_meets_polygon from to o.points) obstacles
 
 -- the screens that a line touches
-abbrev pub screens_met_by_line : Point → Point → List Screen → List Screen
-screens_met_by_line from to screens = filter (λ s. do_touch s.from s.to from to) screens
+abbrev pub screens_met_by_segment : Point → Point → List Screen → List Screen
+screens_met_by_segment from to screens = filter (λ s. do_touch s.from s.to from to) screens
 
 -- the routes that share more than one point with a line
 abbrev pub routes_overlapped : Point → Point → List Route → List Route
-routes_overlapped from to routes = filter (λ r. do_overlap_lines r.from r.to from to) routes
+routes_overlapped from to routes = filter (λ r. do_segments_overlap r.from r.to from to) routes
 
 -- ---- the first cause of several
 
@@ -78,8 +78,8 @@ why_not_polygon points = first_cause (
     ∷ [])
 
 -- what the ends of a line are refused for by themselves
-unfoldable pub why_not_line : Point → Point → Option Why
-why_not_line from to = first_cause (
+unfoldable pub why_not_segment : Point → Point → Option Why
+why_not_segment from to = first_cause (
     when (not (is_in_range from && is_in_range to)) Range
     ∷ when (same_point from to) Repeat
     ∷ [])
@@ -97,9 +97,9 @@ why_not_polygon_in plan points = first_cause (
 -- what a screen is refused for where it stands: it isn't within the outer polygon, or meets an obstacle or a screen
 unfoldable pub why_not_line_in : Plan → Point → Point → Option Why
 why_not_line_in plan from to = first_cause (
-    when (not (line_lies_within plan.outer from to)) Outside
-    ∷ first_obstacle (obstacles_met_by_line from to plan.obstacles)
-    ∷ first_screen (screens_met_by_line from to plan.screens)
+    when (not (segment_lies_within plan.outer from to)) Outside
+    ∷ first_obstacle (obstacles_met_by_segment from to plan.obstacles)
+    ∷ first_screen (screens_met_by_segment from to plan.screens)
     ∷ [])
 
 -- ---- each kind of item
@@ -109,7 +109,7 @@ unfoldable pub why_not_outer : Plan → List Point → Option Why
 why_not_outer plan points = first_cause (
     when (has_outer plan) Order
     ∷ why_not_polygon points
-    ∷ when (nat_lt MOST_CORNERS (corner_count plan + length points)) (Full Corners)
+    ∷ when (nat_lt MAX_CORNERS (corner_count plan + length points)) (Full Corners)
     ∷ [])
 
 -- a grid is refused where there is one already or no outer polygon yet, for its numbers, and for too many points
@@ -127,28 +127,28 @@ why_not_obstacle plan name points = first_cause (
     ∷ why_not_polygon points
     ∷ why_not_polygon_in plan points
     ∷ when (list_any (is_obstacle_named name) plan.obstacles) NameTaken
-    ∷ when (nat_le MOST_OBSTACLES (length plan.obstacles)) (Full Obstacles)
-    ∷ when (nat_lt MOST_CORNERS (corner_count plan + length points)) (Full Corners)
+    ∷ when (nat_le MAX_OBSTACLES (length plan.obstacles)) (Full Obstacles)
+    ∷ when (nat_lt MAX_CORNERS (corner_count plan + length points)) (Full Corners)
     ∷ [])
 
 -- a screen is refused before the outer polygon, for its ends, for where it stands, for its name, and for limits
 unfoldable pub why_not_screen : Plan → List ℕ → Point → Point → Option Why
 why_not_screen plan name from to = first_cause (
     when (not (has_outer plan)) Order
-    ∷ why_not_line from to
+    ∷ why_not_segment from to
     ∷ why_not_line_in plan from to
     ∷ when (list_any (is_screen_named name) plan.screens) NameTaken
-    ∷ when (nat_le MOST_SCREENS (length plan.screens)) (Full Screens)
-    ∷ when (nat_lt MOST_CORNERS (corner_count plan + 2)) (Full Corners)
+    ∷ when (nat_le MAX_SCREENS (length plan.screens)) (Full Screens)
+    ∷ when (nat_lt MAX_CORNERS (corner_count plan + 2)) (Full Corners)
     ∷ [])
 
 -- a route is refused before the outer polygon, for its ends, for its name, for the limit, and for what it overlaps
 unfoldable pub why_not_route : Plan → List ℕ → Point → Point → Option Why
 why_not_route plan name from to = first_cause (
     when (not (has_outer plan)) Order
-    ∷ why_not_line from to
+    ∷ why_not_segment from to
     ∷ when (list_any (is_route_named name) plan.routes) NameTaken
-    ∷ when (nat_le MOST_ROUTES (length plan.routes)) (Full Routes)
+    ∷ when (nat_le MAX_ROUTES (length plan.routes)) (Full Routes)
     ∷ first_route (routes_overlapped from to plan.routes)
     ∷ [])
 
@@ -169,11 +169,11 @@ refused_at number (Some why) next = Err (number, why)
 
 -- the items from `number` on, each added to the plan of the items before it; where there is no outer polygon behind the
 -- last one, the number after it and Order
-unfoldable pub checked_from : ℕ → Plan → List Item → Result Plan (ℕ × Why)
-checked_from number plan [] = if has_outer plan then Ok plan else Err (number, Order)
-checked_from number plan (item ∷ items) = refused_at number (why_not_item plan item) (checked_from (number + 1) (with_item plan item) items)
+unfoldable pub check_from : ℕ → Plan → List Item → Result Plan (ℕ × Why)
+check_from number plan [] = if has_outer plan then Ok plan else Err (number, Order)
+check_from number plan (item ∷ items) = refused_at number (why_not_item plan item) (check_from (number + 1) (with_item plan item) items)
 
 -- the plan of the items, or the number of the first item that is refused, counted from 0, and its first cause: without
 -- items 0 and Order. Where the first item isn't an outer polygon, it is refused itself, with Order
-abbrev pub checked : List Item → Result Plan (ℕ × Why)
-checked items = checked_from 0 empty_plan items
+abbrev pub check_of : List Item → Result Plan (ℕ × Why)
+check_of items = check_from 0 empty_plan items

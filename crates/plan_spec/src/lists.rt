@@ -1,6 +1,6 @@
 //! The lists that items and plans are made of. Contracts see them as lists.
 
-use crate::kinds::Item;
+use crate::item::Item;
 use plane_spec::Point;
 use text_spec::Sequence;
 

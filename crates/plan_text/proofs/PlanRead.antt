@@ -3,13 +3,13 @@ use Rattle.std.proofs.Common.{◌≡◌, ℕ, ◌+◌, ◌<◌, ◌≤◌, List,
 use Rattle.std.proofs.Common.{is_none, Ok, Err, refl, sym, ap, ◌∙◌, append_assoc, arith}
 use Rattle.std.proofs.lemmas.List.{append-nil, map-append}
 use Rattle.text_spec.specs.Lines.{lines_of}
-use Rattle.plan_spec.specs.declared.kinds.Item.{Item}
-use Rattle.report_spec.specs.declared.readings.TextWhy.TheVariants.{Kind}
-use Rattle.report_spec.specs.PlanText.{PlanReading, item_before, read_next, read_plan_line, read_plan_lines}
-use Rattle.report_spec.specs.PlanText.{read_plan_text, items_read, numbers_read}
-use Rattle.report_spec.specs.declared.plan_line.Version.{Version}
-use Rattle.report_spec.specs.declared.plan_line.PlanLine.{PlanLine}
-use Rattle.report_spec.specs.declared.plan_line.PlanLine.TheVariants.{Blank, Header, Item as OfItem}
+use Rattle.plan_spec.specs.declared.item.Item.{Item}
+use Rattle.grammar_spec.specs.declared.text_why.TextWhy.TheVariants.{Kind}
+use Rattle.grammar_spec.specs.PlanText.{PlanReading, item_before, read_next, read_plan_line, read_plan_lines}
+use Rattle.grammar_spec.specs.PlanText.{read_plan_text, items_read, numbers_read}
+use Rattle.grammar_spec.specs.declared.plan_line.Version.{Version}
+use Rattle.grammar_spec.specs.declared.plan_line.PlanLine.{PlanLine}
+use Rattle.grammar_spec.specs.declared.plan_line.PlanLine.TheVariants.{Blank, Header, Item as OfItem}
 use Rattle.plan_text.specs.declared.plans.PartialPlan.{PartialPlan}
 use Rattle.plan_text.specs.declared.faults.ReadLineFault.{ReadLineFault}
 use Rattle.plan_text.specs.declared.faults.ReadLineFault.TheVariants.{Bad, NoMemory}

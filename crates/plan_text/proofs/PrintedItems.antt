@@ -7,17 +7,17 @@ use Rattle.std.proofs.lemmas.List.Elements.{All-nil, All-cons, All-weaker, All-m
 use Rattle.text_spec.specs.Words.{are_blank}
 use Rattle.text_spec.specs.Names.{is_name}
 use Rattle.plane_spec.specs.declared.Point.{Point}
-use Rattle.plan_spec.specs.declared.kinds.GridSpec.{GridSpec}
-use Rattle.plan_spec.specs.declared.kinds.Item.{Item}
-use Rattle.plan_spec.specs.declared.kinds.Item.TheVariants.{Grid, Outer, Obstacle, Screen, Route}
-use Rattle.report_spec.specs.declared.arguments.Count.{Count}
-use Rattle.report_spec.specs.declared.arguments.Count.TheVariants.{InPairs}
-use Rattle.report_spec.specs.Shapes.{Shape, Fields, is_count, read_fields, read_fields_by, field_words, name_words, points_of, numbers_of_points}
-use Rattle.report_spec.specs.declared.plan_line.Version.{Version}
-use Rattle.report_spec.specs.declared.plan_line.PlanWord.{PlanWord}
-use Rattle.report_spec.specs.declared.plan_line.PlanWord.TheVariants.{Grid as GridWord, Outer as OuterWord, Outerbox as OuterboxWord, Obstacle as ObstacleWord, Box as BoxWord, Screen as ScreenWord, Route as RouteWord}
-use Rattle.report_spec.specs.declared.plan_line.PlanLine.TheVariants.{Item as OfItem}
-use Rattle.report_spec.specs.PlanText.{keyword, has_screens, plan_word, shape_of, item_of, read_plan_words, word_of_item, fields_of_item, item_words, is_screen, is_below, is_short_point, is_short_list, is_number_point, is_printable}
+use Rattle.plan_spec.specs.declared.item.GridSpec.{GridSpec}
+use Rattle.plan_spec.specs.declared.item.Item.{Item}
+use Rattle.plan_spec.specs.declared.item.Item.TheVariants.{Grid, Outer, Obstacle, Screen, Route}
+use Rattle.grammar_spec.specs.declared.arguments.Count.{Count}
+use Rattle.grammar_spec.specs.declared.arguments.Count.TheVariants.{InPairs}
+use Rattle.grammar_spec.specs.Arguments.{Shape, Fields, is_count, read_fields, read_fields_by, field_words, name_words, points_of, numbers_of_points}
+use Rattle.grammar_spec.specs.declared.plan_line.Version.{Version}
+use Rattle.grammar_spec.specs.declared.plan_line.PlanWord.{PlanWord}
+use Rattle.grammar_spec.specs.declared.plan_line.PlanWord.TheVariants.{Grid as GridWord, Outer as OuterWord, Outerbox as OuterboxWord, Obstacle as ObstacleWord, Box as BoxWord, Screen as ScreenWord, Route as RouteWord}
+use Rattle.grammar_spec.specs.declared.plan_line.PlanLine.TheVariants.{Item as OfItem}
+use Rattle.grammar_spec.specs.PlanText.{keyword, has_screens, plan_word, shape_of, item_of, read_plan_words, word_of_item, fields_of_item, item_words, is_screen, is_below, is_short_point, is_short_list, is_number_point, is_printable}
 use Rattle.plan_text.specs.RoundTrip.{has_name}
 use Rattle.plan_text.proofs.PrintedNumbers.{IsNumber, numbers_of_printed}
 use Rattle.plan_text.proofs.PrintedWords.{IsInkWord, number_ink, name_ink}

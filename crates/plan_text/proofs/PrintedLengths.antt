@@ -7,11 +7,11 @@ use Rattle.std.proofs.lemmas.List.{length-append}
 use Rattle.std.proofs.lemmas.List.Elements.{All-head, All-tail}
 use Rattle.std.proofs.lemmas.List.Sums.{sum_by-cons}
 use Rattle.plane_spec.specs.declared.Point.{Point}
-use Rattle.plan_spec.specs.declared.kinds.Item.{Item}
-use Rattle.plan_spec.specs.declared.kinds.Item.TheVariants.{Grid, Outer, Obstacle, Screen, Route}
-use Rattle.report_spec.specs.Shapes.{numbers_of_points}
-use Rattle.report_spec.specs.declared.plan_line.PlanWord.TheVariants.{Grid as GridWord, Outer as OuterWord, Obstacle as ObstacleWord, Screen as ScreenWord, Route as RouteWord}
-use Rattle.report_spec.specs.PlanText.{keyword, ended_line, header_words, item_words, is_printable, is_screen, points_in, plan_text_of, ArePrintable}
+use Rattle.plan_spec.specs.declared.item.Item.{Item}
+use Rattle.plan_spec.specs.declared.item.Item.TheVariants.{Grid, Outer, Obstacle, Screen, Route}
+use Rattle.grammar_spec.specs.Arguments.{numbers_of_points}
+use Rattle.grammar_spec.specs.declared.plan_line.PlanWord.TheVariants.{Grid as GridWord, Outer as OuterWord, Obstacle as ObstacleWord, Screen as ScreenWord, Route as RouteWord}
+use Rattle.grammar_spec.specs.PlanText.{keyword, ended_line, header_words, item_words, is_printable, is_screen, points_in, plan_text_of, ArePrintable}
 use Rattle.plan_text.specs.RoundTrip.{has_name, HaveNames}
 use Rattle.plan_text.proofs.PrintedNumbers.{IsNumber}
 use Rattle.plan_text.proofs.PrintedWords.{name_length}

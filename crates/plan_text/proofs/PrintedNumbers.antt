@@ -9,7 +9,7 @@ use Rattle.std.proofs.lemmas.Str.Parse.{IsNumeralModel, numerals_by_value, tells
 use Rattle.std.proofs.lemmas.Fmt.{digits_decimal, digits_value-decimal, length-decimal-le, decimal_nonempty}
 use Rattle.std.proofs.lemmas.List.Elements.{All-head, All-tail}
 use Rattle.text_spec.specs.Numbers.{number_of, natural_of}
-use Rattle.report_spec.specs.Shapes.{numbers_of}
+use Rattle.grammar_spec.specs.Arguments.{numbers_of}
 
 -- a number of at most nine digits
 abbrev pub IsNumber : ℤ → Type 0

@@ -4,11 +4,11 @@ use Rattle.std.specs.List.{join_with_byte, list_all, list_any}
 use Rattle.std.proofs.lemmas.List.Elements.{All-nil, All-cons}
 use Rattle.text_spec.specs.Lines.{lines_of, is_long}
 use Rattle.text_spec.specs.Words.{are_blank}
-use Rattle.plan_spec.specs.declared.kinds.Item.{Item}
-use Rattle.report_spec.specs.declared.plan_line.Version.{Version}
-use Rattle.report_spec.specs.declared.plan_line.Version.TheVariants.{One, Two}
-use Rattle.report_spec.specs.declared.plan_line.PlanLine.TheVariants.{Header}
-use Rattle.report_spec.specs.PlanText.{has_screens, read_plan_words, read_plan_line, read_plan_lines, read_plan_text, is_screen, is_printable, item_words, header_words, plan_words, plan_text_of, ArePrintable}
+use Rattle.plan_spec.specs.declared.item.Item.{Item}
+use Rattle.grammar_spec.specs.declared.plan_line.Version.{Version}
+use Rattle.grammar_spec.specs.declared.plan_line.Version.TheVariants.{One, Two}
+use Rattle.grammar_spec.specs.declared.plan_line.PlanLine.TheVariants.{Header}
+use Rattle.grammar_spec.specs.PlanText.{has_screens, read_plan_words, read_plan_line, read_plan_lines, read_plan_text, is_screen, is_printable, item_words, header_words, plan_words, plan_text_of, ArePrintable}
 use Rattle.plan_text.specs.RoundTrip.{has_name, HaveNames, numbered, ReadsAgain}
 use Rattle.plan_text.proofs.PrintedWords.{IsInkWord, name_ink, words_of_joined, joined_whole, lines_of_printed}
 use Rattle.plan_text.proofs.PrintedItems.{both, fits, Allows, item_words_ink, item_words_again, item_words_not_blank}

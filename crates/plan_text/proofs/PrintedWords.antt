@@ -9,7 +9,7 @@ use Rattle.std.proofs.lemmas.List.Splits.{slice_split_none, slice_split_at, leng
 use Rattle.text_spec.specs.Lines.{lines_of, without_empty_last, without_return, is_newline}
 use Rattle.text_spec.specs.Words.{words_of, is_space, is_some_bytes}
 use Rattle.text_spec.specs.Names.{is_name, is_allowed}
-use Rattle.report_spec.specs.PlanText.{ended_line}
+use Rattle.grammar_spec.specs.PlanText.{ended_line}
 use Rattle.plan_text.proofs.FirstLine.{not_last, no_lines}
 use Rattle.plan_text.proofs.PrintedNumbers.{IsNumber, own}
 

@@ -10,13 +10,13 @@ use Rattle.std.proofs.lemmas.List.Elements.{All-nil, All-cons, All-head, All-tai
 use Rattle.text_spec.specs.Names.{is_name}
 use Rattle.text_spec.specs.Numbers.{number_of, natural_of}
 use Rattle.plane_spec.specs.Vectors.{IsWithin}
-use Rattle.report_spec.specs.declared.readings.TextWhy.{TextWhy}
-use Rattle.report_spec.specs.declared.script_line.Line.{Line}
-use Rattle.report_spec.specs.declared.arguments.Count.{Count}
-use Rattle.report_spec.specs.Shapes.{is_count, Fields, at, fields_with, number_before, numbers_of, read_fields, read_fields_by}
-use Rattle.report_spec.specs.PlanText.{ok_map}
-use Rattle.report_spec.specs.declared.script_line.ScriptWord.{ScriptWord}
-use Rattle.report_spec.specs.declared.script_line.ScriptWord.TheVariants.{
+use Rattle.grammar_spec.specs.declared.text_why.TextWhy.{TextWhy}
+use Rattle.grammar_spec.specs.declared.script_line.Line.{Line}
+use Rattle.grammar_spec.specs.declared.arguments.Count.{Count}
+use Rattle.grammar_spec.specs.Arguments.{is_count, Fields, at, fields_with, number_before, numbers_of, read_fields, read_fields_by}
+use Rattle.grammar_spec.specs.PlanText.{ok_map}
+use Rattle.grammar_spec.specs.declared.script_line.ScriptWord.{ScriptWord}
+use Rattle.grammar_spec.specs.declared.script_line.ScriptWord.TheVariants.{
   Add as AddWord,
   Addbox as AddboxWord,
   Remove as RemoveWord,
@@ -29,7 +29,7 @@ use Rattle.report_spec.specs.declared.script_line.ScriptWord.TheVariants.{
   Isovist as IsovistWord,
   Turns as TurnsWord,
 }
-use Rattle.report_spec.specs.ScriptText.{script_shape, line_of}
+use Rattle.grammar_spec.specs.ScriptText.{script_shape, line_of}
 use Rattle.plan_text.specs.declared.faults.ReadLineFault.{ReadLineFault}
 use Rattle.plan_text.specs.Readings.{ReadsLine, HasShiftInLine}
 use Rattle.plan_text.proofs.PrintedNumbers.{own, digits_same}

@@ -2,8 +2,8 @@
 use Rattle.std.proofs.Common.{◌≡◌, ℕ, ◌≤◌, true, false, List, length, nat_lt, Err, refl, ap, arith}
 use Rattle.text_spec.specs.Lines.{is_long}
 use Rattle.text_spec.proofs.Returns.{shown_within}
-use Rattle.report_spec.specs.declared.readings.TextWhy.TheVariants.{Long}
-use Rattle.report_spec.specs.ScriptText.{read_line_of_script}
+use Rattle.grammar_spec.specs.declared.text_why.TextWhy.TheVariants.{Long}
+use Rattle.grammar_spec.specs.ScriptText.{read_line_of_script}
 use Rattle.plan_text.specs.Readings.{IsShown, reading_of_shown}
 
 not_long : (shown line : ℕ) → shown ≤ line → nat_lt 20000 line ≡ false → nat_lt 20000 shown ≡ false

@@ -10,17 +10,17 @@ use Rattle.std.proofs.lemmas.List.Folds.{list_all-append, list_all-map}
 use Rattle.std.proofs.lemmas.List.Sums.{list_all-from_AllPass, sum_by-append, sum_by-cons}
 use Rattle.plane_spec.specs.declared.Point.{Point}
 use Rattle.plane_spec.specs.Vectors.{IsWithin, InRange}
-use Rattle.plan_spec.specs.declared.kinds.GridSpec.{GridSpec}
-use Rattle.plan_spec.specs.declared.kinds.Screen.{Screen}
-use Rattle.plan_spec.specs.declared.kinds.Route.{Route}
-use Rattle.plan_spec.specs.declared.kinds.Item.{Item}
-use Rattle.plan_spec.specs.declared.kinds.Item.TheVariants.{Grid, Outer}
+use Rattle.plan_spec.specs.declared.item.GridSpec.{GridSpec}
+use Rattle.plan_spec.specs.declared.item.Screen.{Screen}
+use Rattle.plan_spec.specs.declared.item.Route.{Route}
+use Rattle.plan_spec.specs.declared.item.Item.{Item}
+use Rattle.plan_spec.specs.declared.item.Item.TheVariants.{Grid, Outer}
 use Rattle.plan_spec.specs.Plan.{Plan, Obstacle, corners_of_obstacle_count, grid_items, obstacle_item, screen_item, route_item, items_of}
 use Rattle.plan_spec.specs.Accepted.{is_sound}
-use Rattle.plan_spec.specs.Ranges.{IsPolygonInRange, IsLineInRange, IsFromTo, IsGridInRange, IsWithinLimits}
+use Rattle.plan_spec.specs.Ranges.{IsPolygonInRange, IsProperSegmentInRange, IsFromTo, IsGridInRange, IsWithinLimits}
 use Rattle.plan_laws.proofs.Ranges.{sound_outer, sound_obstacles, sound_screens, sound_routes, sound_limits}
 use Rattle.plan_laws.proofs.Grids.{sound_grid}
-use Rattle.report_spec.specs.PlanText.{is_below, is_short_point, is_short_list, is_number_point, is_printable, points_in, ArePrintable}
+use Rattle.grammar_spec.specs.PlanText.{is_below, is_short_point, is_short_list, is_number_point, is_printable, points_in, ArePrintable}
 
 -- ---- numbers
 
@@ -56,7 +56,7 @@ short_list points h =
     (and_from (nat_le 1 (length points)) (nat_le (length points) 1024) (below_by 1 (length points) (omega (arith, h.at_least))) (below_by (length points) 1024 h.at_most))
     (list_all-from_AllPass is_short_point points (All-weaker InRange (λ p. is_short_point p ≡ true) short_point points h.in_range))
 
-line_points : (from to : Point) → IsLineInRange from to → (is_number_point from && is_number_point to) ≡ true
+line_points : (from to : Point) → IsProperSegmentInRange from to → (is_number_point from && is_number_point to) ≡ true
 line_points from to h = and_from (is_number_point from) (is_number_point to) (number_point from h.from_in) (number_point to h.to_in)
 
 -- ---- items
@@ -95,8 +95,8 @@ each_printable p h =
     (appended obstacles (screens ++ routes)
     (parts_printable (λ o. IsPolygonInRange o.points) obstacle_item p.obstacles (λ o. short_list o.points) (sound_obstacles p h))
     (appended screens routes
-    (parts_printable (λ s. IsLineInRange s.from s.to) screen_item p.screens (λ s. line_points s.from s.to) (sound_screens p h))
-    (parts_printable (λ r. IsLineInRange r.from r.to) route_item p.routes (λ r. line_points r.from r.to) (sound_routes p h)))))
+    (parts_printable (λ s. IsProperSegmentInRange s.from s.to) screen_item p.screens (λ s. line_points s.from s.to) (sound_screens p h))
+    (parts_printable (λ r. IsProperSegmentInRange r.from r.to) route_item p.routes (λ r. line_points r.from r.to) (sound_routes p h)))))
 
 -- ---- how many
 

@@ -1,6 +1,6 @@
 -- What the parts of a line answer.
 use Rattle.std.specs.Prelude.{◌≡◌, ℕ, Result, Ok, Err, IsOk}
-use Rattle.report_spec.specs.declared.readings.TextWhy.{TextWhy}
+use Rattle.grammar_spec.specs.declared.text_why.TextWhy.{TextWhy}
 use Rattle.plan_text.specs.declared.faults.ReadLineFault.{ReadLineFault}
 use Rattle.plan_text.specs.declared.faults.ReadLineFault.TheVariants as line_fault
 use Rattle.plan_text.specs.declared.faults.ReadPlanFault.{ReadPlanFault}

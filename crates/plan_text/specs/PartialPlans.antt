@@ -1,7 +1,7 @@
 -- A plan as far as it is read.
 use Rattle.std.specs.Prelude.{ℕ, [], ◌∷◌, ◌++◌, Some}
-use Rattle.report_spec.specs.declared.plan_line.PlanLine.{PlanLine}
-use Rattle.report_spec.specs.declared.plan_line.PlanLine.TheVariants.{Blank, Header, Item}
+use Rattle.grammar_spec.specs.declared.plan_line.PlanLine.{PlanLine}
+use Rattle.grammar_spec.specs.declared.plan_line.PlanLine.TheVariants.{Blank, Header, Item}
 use Rattle.plan_text.specs.declared.plans.PartialPlan.{PartialPlan}
 
 -- one line more

@@ -1,15 +1,15 @@
 -- What is answered of a plan and of a line of a script.
 use Rattle.std.specs.Prelude.{◌≡◌, ⊤, ℕ, List, Bool, true, false, Result, Ok, Err, if◌then◌else◌}
 use Rattle.text_spec.specs.Lines.{is_long, without_return}
-use Rattle.plan_spec.specs.declared.kinds.Item.{Item}
-use Rattle.plan_spec.specs.declared.changes.Edit.TheVariants.{Add}
+use Rattle.plan_spec.specs.declared.item.Item.{Item}
+use Rattle.plan_spec.specs.declared.edit.Edit.TheVariants.{Add}
 use Rattle.plan_spec.specs.Edits.{HasShift}
-use Rattle.report_spec.specs.declared.script_line.Line.{Line}
-use Rattle.report_spec.specs.declared.script_line.Line.TheVariants.{Blank, Edit, Query}
-use Rattle.report_spec.specs.declared.readings.TextWhy.{TextWhy}
-use Rattle.report_spec.specs.declared.readings.TextWhy.TheVariants.{Long}
-use Rattle.report_spec.specs.ScriptText.{read_script_line}
-use Rattle.report_spec.specs.PlanText.{read_plan_text, items_read, numbers_read}
+use Rattle.grammar_spec.specs.declared.script_line.Line.{Line}
+use Rattle.grammar_spec.specs.declared.script_line.Line.TheVariants.{Blank, Edit, Query}
+use Rattle.grammar_spec.specs.declared.text_why.TextWhy.{TextWhy}
+use Rattle.grammar_spec.specs.declared.text_why.TextWhy.TheVariants.{Long}
+use Rattle.grammar_spec.specs.ScriptText.{read_script_line}
+use Rattle.grammar_spec.specs.PlanText.{read_plan_text, items_read, numbers_read}
 use Rattle.plan_text.specs.declared.faults.ReadLineFault.{ReadLineFault}
 use Rattle.plan_text.specs.declared.faults.ReadLineFault.TheVariants as line_fault
 use Rattle.plan_text.specs.declared.faults.ReadPlanFault.{ReadPlanFault}

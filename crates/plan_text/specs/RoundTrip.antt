@@ -3,10 +3,10 @@ use Rattle.std.specs.Prelude.{◌≡◌, ℕ, ◌+◌, ◌≤◌, List, [], ◌�
 use Rattle.std.specs.List.{list_all, list_any}
 use Rattle.text_spec.specs.Lines.{lines_of, is_long}
 use Rattle.text_spec.specs.Names.{is_name}
-use Rattle.plan_spec.specs.declared.kinds.Item.{Item}
-use Rattle.plan_spec.specs.declared.kinds.Item.TheVariants.{Obstacle, Screen, Route}
-use Rattle.report_spec.specs.declared.limits.TheConstants.{LONGEST_PLAN}
-use Rattle.report_spec.specs.PlanText.{plan_text_of, read_plan_text}
+use Rattle.plan_spec.specs.declared.item.Item.{Item}
+use Rattle.plan_spec.specs.declared.item.Item.TheVariants.{Obstacle, Screen, Route}
+use Rattle.grammar_spec.specs.declared.limits.TheConstants.{MAX_PLAN_BYTES}
+use Rattle.grammar_spec.specs.PlanText.{plan_text_of, read_plan_text}
 
 -- the item's name, where it has one, is a name; that of every item in code is, by its type
 abbrev pub has_name : Item → Bool
@@ -28,4 +28,4 @@ numbered number (item ∷ items) = (number, item) ∷ numbered (number + 1) item
 pub record ReadsAgain (items : List Item) : Type 0 where
   pub read : read_plan_text (plan_text_of items) ≡ Ok (numbered 2 items)
   pub lines : list_any is_long (lines_of (plan_text_of items)) ≡ false
-  pub length : length (plan_text_of items) ≤ LONGEST_PLAN
+  pub length : length (plan_text_of items) ≤ MAX_PLAN_BYTES

@@ -3,8 +3,8 @@
 
 ghost use Rattle.std.specs.Prelude.{◌≡◌, true, false};
 ghost use Rattle.text_spec.specs.Words.{words_of};
-ghost use Rattle.report_spec.specs.Shapes.{shape, read_fields, point_from, points_of};
-ghost use Rattle.report_spec.specs.PlanText.{ok_map, grid_of};
+ghost use Rattle.grammar_spec.specs.Arguments.{shape, read_fields, point_from, points_of};
+ghost use Rattle.grammar_spec.specs.PlanText.{ok_map, grid_of};
 ghost use Rattle.plan_text.specs.Answers.{Answers};
 
 use crate::faults::ReadLineFault;
@@ -12,7 +12,7 @@ use crate::fields::{grid_spec, name_and_numbers, numbers_alone, one_point, two_p
 use crate::polygons::points;
 use plan_spec::{GridSpec, Points};
 use plane_spec::Point;
-use report_spec::{Count, TextWhy};
+use grammar_spec::{Count, TextWhy};
 use std::alloc::Global;
 use text_spec::Name;
 
@@ -49,7 +49,7 @@ pub fn polygon(alloc: Global, words: &[u8]) -> Result<Points, ReadLineFault>
 }
 
 /// `NAME`
-#[tactic(auto, using(std::proofs::lemmas::List::nil_from_length), unfolding(report_spec::specs::Shapes::numbers_of))]
+#[tactic(auto, using(std::proofs::lemmas::List::nil_from_length), unfolding(grammar_spec::specs::Arguments::numbers_of))]
 pub fn named(words: &[u8]) -> Result<Name, TextWhy>
     ensures { result ≡ ok_map (λ f. f.name) (read_fields (shape true (Count.Exactly 0)) (words_of words.now)) }
 {

@@ -1,6 +1,6 @@
 //! Why bytes aren't read.
 
-use report_spec::TextWhy;
+use grammar_spec::TextWhy;
 use text_spec::NoMemory;
 
 /// Why a line of a script isn't read.

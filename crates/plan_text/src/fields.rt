@@ -2,14 +2,14 @@
 
 ghost use Rattle.std.specs.Prelude.{◌≡◌, ◌+◌, ◌<◌, [], Some, None, true, false, length, option_map, IfSome, IfNone, IfOk, IfErr, OnOk, Ok, Err};
 ghost use Rattle.text_spec.specs.Words.{words_of};
-ghost use Rattle.report_spec.specs.Shapes.{is_count, number_before, numbers_of, fields_with, read_fields_by, point_from};
-ghost use Rattle.report_spec.specs.PlanText.{grid_of};
+ghost use Rattle.grammar_spec.specs.Arguments.{is_count, number_before, numbers_of, fields_with, read_fields_by, point_from};
+ghost use Rattle.grammar_spec.specs.PlanText.{grid_of};
 
 use crate::numbers::number;
 use crate::words::{count_words, next_word};
 use plan_spec::GridSpec;
 use plane_spec::Point;
-use report_spec::{Count, TextWhy};
+use grammar_spec::{Count, TextWhy};
 use text_spec::Name;
 
 /// Whether the number of words fits.
@@ -23,7 +23,7 @@ fn is_count(asked: Count, count: usize) -> bool
 }
 
 /// The name and the words of the numbers, where the number of words fits.
-#[tactic(auto, unfolding(report_spec::specs::Shapes::read_fields_by))]
+#[tactic(auto, unfolding(grammar_spec::specs::Arguments::read_fields_by))]
 pub fn name_and_numbers(words: &[u8], asked: Count) -> Result<(Name, &[u8]), TextWhy>
     ensures ok { IfOk result (λ r. read_fields_by true asked (words_of words.now) ≡ fields_with r.0 (numbers_of (words_of r.1.now))) }
     ensures counted { IfOk result (λ r. is_count asked (length (words_of r.1.now)) ≡ true) }
@@ -38,7 +38,7 @@ pub fn name_and_numbers(words: &[u8], asked: Count) -> Result<(Name, &[u8]), Tex
 }
 
 /// Tests the number of words of a line without a name.
-#[tactic(auto, unfolding(report_spec::specs::Shapes::read_fields_by))]
+#[tactic(auto, unfolding(grammar_spec::specs::Arguments::read_fields_by))]
 pub fn numbers_alone(words: &[u8], asked: Count) -> Result<(), TextWhy>
     ensures ok { OnOk result (read_fields_by false asked (words_of words.now) ≡ fields_with [] (numbers_of (words_of words.now))) }
     ensures counted { OnOk result (is_count asked (length (words_of words.now)) ≡ true) }
@@ -51,7 +51,7 @@ pub fn numbers_alone(words: &[u8], asked: Count) -> Result<(), TextWhy>
 }
 
 /// The first number, and the words that follow it.
-#[tactic(auto, unfolding(report_spec::specs::Shapes::numbers_of))]
+#[tactic(auto, unfolding(grammar_spec::specs::Arguments::numbers_of))]
 pub fn next_number(words: &[u8]) -> Option<(i64, &[u8])>
     ensures some { IfSome result (λ r. numbers_of (words_of words.now) ≡ number_before (Some r.0) (numbers_of (words_of r.1.now))) }
     ensures one { IfSome result (λ r. length (words_of words.now) ≡ length (words_of r.1.now) + 1) }
@@ -62,7 +62,7 @@ pub fn next_number(words: &[u8]) -> Option<(i64, &[u8])>
 }
 
 /// The first two numbers as a point, and the words that follow them.
-#[tactic(auto, unfolding(report_spec::specs::Shapes::numbers_of))]
+#[tactic(auto, unfolding(grammar_spec::specs::Arguments::numbers_of))]
 pub fn next_point(words: &[u8]) -> Option<(Point, &[u8])>
     ensures some { IfSome result (λ r. numbers_of (words_of words.now) ≡ number_before (Some r.0.x) (number_before (Some r.0.y) (numbers_of (words_of r.1.now)))) }
     ensures two { IfSome result (λ r. length (words_of words.now) ≡ length (words_of r.1.now) + 2) }
@@ -74,7 +74,7 @@ pub fn next_point(words: &[u8]) -> Option<(Point, &[u8])>
 }
 
 /// Two numbers as a point.
-#[tactic(auto, unfolding(report_spec::specs::Shapes::numbers_of))]
+#[tactic(auto, unfolding(grammar_spec::specs::Arguments::numbers_of))]
 pub fn one_point(words: &[u8]) -> Option<Point>
     requires { length (words_of words.now) ≡ 2 }
     ensures { result ≡ option_map (λ numbers. point_from numbers 0) (numbers_of (words_of words.now)) }
@@ -84,7 +84,7 @@ pub fn one_point(words: &[u8]) -> Option<Point>
 }
 
 /// Four numbers as two points.
-#[tactic(auto, unfolding(report_spec::specs::Shapes::numbers_of))]
+#[tactic(auto, unfolding(grammar_spec::specs::Arguments::numbers_of))]
 pub fn two_points(words: &[u8]) -> Option<(Point, Point)>
     requires { length (words_of words.now) ≡ 4 }
     ensures { result ≡ option_map (λ numbers. (point_from numbers 0, point_from numbers 2)) (numbers_of (words_of words.now)) }
@@ -95,7 +95,7 @@ pub fn two_points(words: &[u8]) -> Option<(Point, Point)>
 }
 
 /// Five numbers as a grid.
-#[tactic(auto, unfolding(report_spec::specs::Shapes::numbers_of))]
+#[tactic(auto, unfolding(grammar_spec::specs::Arguments::numbers_of))]
 pub fn grid_spec(words: &[u8]) -> Option<GridSpec>
     requires { length (words_of words.now) ≡ 5 }
     ensures { result ≡ option_map grid_of (numbers_of (words_of words.now)) }

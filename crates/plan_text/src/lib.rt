@@ -13,7 +13,7 @@
 //! | [`Line`], [`Query`], [`TextWhy`], [`LineNumbers`] | what is read from a line |
 //! | [`Edit`], [`GridSpec`], [`Item`], [`Items`], [`PlanData`], [`Point`], [`Points`], [`Name`] | what plans and edits are made of |
 //! | [`NoMemory`] | what is answered where there is no memory |
-//! | [`LONGEST_PLAN`] | how many bytes the text of a plan may have |
+//! | [`MAX_PLAN_BYTES`] | how many bytes the text of a plan may have |
 //!
 //! The grammar is that of `report_spec`: `specs/Shapes.antt`, `specs/PlanText.antt` and `specs/ScriptText.antt`. Bytes are
 //! cut into lines and words in place: only the points of polygons, items and the printed text take memory.
@@ -35,7 +35,7 @@ pub use plan_spec::{Edit, GridSpec, Item, Items, PlanData, Points};
 pub use plane_spec::Point;
 pub use plans::{PlanText, read_plan};
 pub use printing::{accepted_plans_are_printable, print_plan, prints_and_reads};
-pub use report_spec::{LONGEST_PLAN, Line, LineNumbers, Query, TextWhy};
+pub use grammar_spec::{MAX_PLAN_BYTES, Line, LineNumbers, Query, TextWhy};
 pub use script_lines::{read_line, shown_lines_are_read};
 pub use text_spec::{Name, NoMemory};
 

@@ -3,14 +3,14 @@
 ghost use Rattle.std.specs.Prelude.{◌≡◌, length};
 ghost use Rattle.text_spec.specs.Numbers.{natural_of, number_of};
 
-use text_spec::MOST_DIGITS;
+use text_spec::MAX_DIGITS;
 
 /// 1 to 9 digits as a number.
 #[tactic(auto, unfolding(text_spec::specs::Numbers::natural_of))]
 fn natural(digits: &[u8]) -> Option<u32>
     ensures { result ≡ natural_of digits.now }
 {
-    if digits.is_empty() || digits.len() > MOST_DIGITS {
+    if digits.is_empty() || digits.len() > MAX_DIGITS {
         return None;
     }
     let mut value = 0;

@@ -2,8 +2,8 @@
 
 ghost use Rattle.std.specs.Prelude.{◌≡◌, ◌∷◌};
 ghost use Rattle.text_spec.specs.Words.{words_of};
-ghost use Rattle.report_spec.specs.Shapes.{read_fields};
-ghost use Rattle.report_spec.specs.PlanText.{ok_map, plan_word, has_screens, shape_of, item_of, version_of, read_plan_line};
+ghost use Rattle.grammar_spec.specs.Arguments.{read_fields};
+ghost use Rattle.grammar_spec.specs.PlanText.{ok_map, plan_word, has_screens, shape_of, item_of, version_of, read_plan_line};
 ghost use Rattle.plan_text.specs.Answers.{Answers};
 
 use crate::arguments::{corners, grid, named_corners, named_polygon, polygon};
@@ -11,7 +11,7 @@ use crate::faults::ReadLineFault;
 use crate::polygons::box_points;
 use crate::words::{begins_comment, is_long, is_word, next_word};
 use plan_spec::Item;
-use report_spec::{PlanLine, PlanWord, TextWhy, Version};
+use grammar_spec::{PlanLine, PlanWord, TextWhy, Version};
 use std::alloc::Global;
 use text_spec::without_return;
 
@@ -26,7 +26,7 @@ fn has_screens(version: Version) -> bool
 }
 
 /// The kind of line that a word begins.
-#[tactic(auto, unfolding(report_spec::specs::PlanText::plan_word))]
+#[tactic(auto, unfolding(grammar_spec::specs::PlanText::plan_word))]
 fn kind_of_line(version: Version, word: &[u8]) -> Option<PlanWord>
     ensures { result ≡ plan_word version word.now }
 {
@@ -50,7 +50,7 @@ fn kind_of_line(version: Version, word: &[u8]) -> Option<PlanWord>
 }
 
 /// The item of a line, from the words after its keyword.
-#[tactic(auto, unfolding(report_spec::specs::PlanText::item_of))]
+#[tactic(auto, unfolding(grammar_spec::specs::PlanText::item_of))]
 fn item(alloc: Global, word: PlanWord, words: &[u8]) -> Result<Item, ReadLineFault>
     ensures { Answers (ok_map (item_of word) (read_fields (shape_of word) (words_of words.now))) result }
 {
@@ -101,7 +101,7 @@ fn header_version(first: &[u8], rest: &[u8]) -> Option<Version>
 }
 
 /// A line as it stands before its newline, after a header or before any.
-#[tactic(auto, unfolding(report_spec::specs::PlanText::read_plan_line, text_spec::specs::Words::are_blank))]
+#[tactic(auto, unfolding(grammar_spec::specs::PlanText::read_plan_line, text_spec::specs::Words::are_blank))]
 pub fn read_plan_line(
     alloc: Global,
     header: Option<Version>,

@@ -3,14 +3,14 @@
 ghost use Rattle.std.specs.Prelude.{◌≡◌, ◌≤◌, OnOk, length};
 ghost use Rattle.plan_text.specs.PartialPlans.{with_line};
 ghost use Rattle.plan_text.specs.Answers.{fault_at};
-ghost use Rattle.report_spec.specs.declared.limits.TheConstants.{LONGEST_PLAN};
+ghost use Rattle.grammar_spec.specs.declared.limits.TheConstants.{MAX_PLAN_BYTES};
 ghost use Rattle.plan_text.specs.Readings.{ReadsPlan};
 
 use crate::faults::{ReadLineFault, ReadPlanFault};
 use crate::plan_lines::read_plan_line;
 use crate::words::next_line;
 use plan_spec::{Items, PlanData};
-use report_spec::{LineNumbers, PlanLine, TextWhy, Version};
+use grammar_spec::{LineNumbers, PlanLine, TextWhy, Version};
 use std::alloc::Global;
 use text_spec::NoMemory;
 
@@ -54,13 +54,13 @@ fn fault_at(line: u32, fault: ReadLineFault) -> ReadPlanFault
     }
 }
 
-/// Reads the text of a plan of at most [`LONGEST_PLAN`] bytes: its items, each with the number of its line. `Bad` names the first
+/// Reads the text of a plan of at most [`MAX_PLAN_BYTES`] bytes: its items, each with the number of its line. `Bad` names the first
 /// line that is outside the grammar, and the first cause that holds there; where no line is a header, the line after the
 /// last.
 ///
 /// Cost: one pass over the bytes, each looked at a constant number of times; memory for the items and their points alone.
 pub fn read_plan(alloc: Global, bytes: &[u8]) -> Result<PlanText, ReadPlanFault>
-    requires { length bytes.now ≤ LONGEST_PLAN }
+    requires { length bytes.now ≤ MAX_PLAN_BYTES }
     ensures { ReadsPlan bytes.now result }
 {
     let mut draft = PartialPlan {

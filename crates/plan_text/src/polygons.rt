@@ -3,7 +3,7 @@
 ghost use Rattle.std.specs.Prelude.{◌≡◌, ◌∷◌, [], true, length, is_some, ok_or, option_map, IfOk, if◌then◌else◌};
 ghost use Rattle.text_spec.specs.Words.{words_of};
 ghost use Rattle.plane_spec.specs.Vectors.{point};
-ghost use Rattle.report_spec.specs.Shapes.{is_count, numbers_of, points_of};
+ghost use Rattle.grammar_spec.specs.Arguments.{is_count, numbers_of, points_of};
 ghost use Rattle.plan_text.specs.Answers.{Answers};
 
 use crate::faults::ReadLineFault;
@@ -12,13 +12,13 @@ use crate::numbers::number;
 use crate::words::next_word;
 use plan_spec::Points;
 use plane_spec::Point;
-use report_spec::{Count, TextWhy};
+use grammar_spec::{Count, TextWhy};
 use std::alloc::Global;
 use text_spec::NoMemory;
 
 /// What is answered where a list found no memory and these words are left: a word that is no number is told all the
 /// same.
-#[tactic(auto, unfolding(report_spec::specs::Shapes::numbers_of))]
+#[tactic(auto, unfolding(grammar_spec::specs::Arguments::numbers_of))]
 fn fault_without_memory(words: &[u8]) -> ReadLineFault
     ensures { result ≡ (if is_some (numbers_of (words_of words.now)) then ReadLineFault.NoMemory else ReadLineFault.Bad TextWhy.Number) }
 {
@@ -33,7 +33,7 @@ fn fault_without_memory(words: &[u8]) -> ReadLineFault
 }
 
 /// The words two by two as points.
-#[tactic(auto, unfolding(report_spec::specs::Shapes::numbers_of, report_spec::specs::Shapes::points_of))]
+#[tactic(auto, unfolding(grammar_spec::specs::Arguments::numbers_of, grammar_spec::specs::Arguments::points_of))]
 pub fn points(alloc: Global, words: &[u8]) -> Result<Points, ReadLineFault>
     requires { is_count Count.InPairs (length (words_of words.now)) ≡ true }
     ensures { Answers (ok_or (option_map points_of (numbers_of (words_of words.now))) TextWhy.Number) result }

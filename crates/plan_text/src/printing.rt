@@ -6,8 +6,8 @@ ghost use Rattle.std.specs.List.{list_any};
 ghost use Rattle.text_spec.specs.Names.{IsName};
 ghost use Rattle.plan_spec.specs.Plan.{Plan, items_of};
 ghost use Rattle.plan_spec.specs.Accepted.{is_sound};
-ghost use Rattle.report_spec.specs.Shapes.{numbers_of_points, field_words};
-ghost use Rattle.report_spec.specs.PlanText.{keyword, word_of_item, shape_of, fields_of_item, is_screen, item_words, header_words, ended_line, plan_text_of, ArePrintable};
+ghost use Rattle.grammar_spec.specs.Arguments.{numbers_of_points, field_words};
+ghost use Rattle.grammar_spec.specs.PlanText.{keyword, word_of_item, shape_of, fields_of_item, is_screen, item_words, header_words, ended_line, plan_text_of, ArePrintable};
 ghost use Rattle.plan_text.specs.RoundTrip.{has_name, HaveNames, ReadsAgain};
 ghost use Rattle.plan_text.specs.Printing.{spaced};
 
@@ -53,7 +53,7 @@ fn put_numbers(text: &mut Vec<u8>, numbers: &[i64]) -> Result<(), NoMemory>
 }
 
 /// Appends the numbers of points, each after a space.
-#[tactic(auto, using(crate::proofs::Printed::spaced_more), unfolding(crate::specs::Printing::spaced, report_spec::specs::Shapes::numbers_of_points))]
+#[tactic(auto, using(crate::proofs::Printed::spaced_more), unfolding(crate::specs::Printing::spaced, grammar_spec::specs::Arguments::numbers_of_points))]
 fn put_points(text: &mut Vec<u8>, points: &[Point]) -> Result<(), NoMemory>
     ensures { OnOk result (text.new.items ≡ text.old.items ++ spaced (map signed_decimal (numbers_of_points points.now))) }
 {
@@ -149,7 +149,7 @@ fn header(items: &[Item]) -> &'static [u8]
 /// items keep the limits of printing, it is read again, with these items and no others.
 ///
 /// Cost: one pass over the items, and memory for the text alone.
-#[tactic(auto, unfolding(report_spec::specs::PlanText::plan_text_of))]
+#[tactic(auto, unfolding(grammar_spec::specs::PlanText::plan_text_of))]
 pub fn print_plan(alloc: Global, plan: &PlanData) -> Result<Vec<u8>, NoMemory>
     ensures text { IfOk result (λ text. text.items ≡ plan_text_of plan.now.items) }
     ensures again { OnOk result (ArePrintable plan.now.items → ReadsAgain plan.now.items) }

@@ -3,9 +3,9 @@
 ghost use Rattle.std.specs.Prelude.{◌≡◌, ℕ, List, true, IfOk};
 ghost use Rattle.text_spec.specs.Lines.{is_long};
 ghost use Rattle.text_spec.specs.Words.{words_of};
-ghost use Rattle.report_spec.specs.Shapes.{read_fields};
-ghost use Rattle.report_spec.specs.PlanText.{ok_map};
-ghost use Rattle.report_spec.specs.ScriptText.{script_word, script_shape, line_of, shown, read_show, read_line_of_script};
+ghost use Rattle.grammar_spec.specs.Arguments.{read_fields};
+ghost use Rattle.grammar_spec.specs.PlanText.{ok_map};
+ghost use Rattle.grammar_spec.specs.ScriptText.{script_word, script_shape, line_of, shown, read_show, read_line_of_script};
 ghost use Rattle.plan_text.specs.Readings.{IsShown, reading_of_shown, ReadsLine, HasShiftInLine};
 
 use crate::arguments::{named, named_corners, named_place, named_polygon, place};
@@ -13,11 +13,11 @@ use crate::faults::ReadLineFault;
 use crate::polygons::box_points;
 use crate::words::{begins_comment, is_long, is_word, next_word};
 use plan_spec::Edit;
-use report_spec::{Line, Query, ScriptWord, TextWhy};
+use grammar_spec::{Line, Query, ScriptWord, TextWhy};
 use std::alloc::Global;
 
 /// The kind of line that a word begins.
-#[tactic(auto, unfolding(report_spec::specs::ScriptText::script_word))]
+#[tactic(auto, unfolding(grammar_spec::specs::ScriptText::script_word))]
 fn kind_of_line(word: &[u8]) -> Option<ScriptWord>
     ensures { result ≡ script_word word.now }
 {
@@ -49,7 +49,7 @@ fn kind_of_line(word: &[u8]) -> Option<ScriptWord>
 }
 
 /// The edit or the question of a line, from the words after its keyword.
-#[tactic(auto, unfolding(report_spec::specs::ScriptText::line_of))]
+#[tactic(auto, unfolding(grammar_spec::specs::ScriptText::line_of))]
 fn line(alloc: Global, word: ScriptWord, words: &[u8]) -> Result<Line, ReadLineFault>
     ensures { ReadsLine (ok_map (line_of word) (read_fields (script_shape word) (words_of words.now))) result }
 {
@@ -84,7 +84,7 @@ fn line(alloc: Global, word: ScriptWord, words: &[u8]) -> Result<Line, ReadLineF
 }
 
 /// The table that a word after `show` names.
-#[tactic(auto, unfolding(report_spec::specs::ScriptText::shown))]
+#[tactic(auto, unfolding(grammar_spec::specs::ScriptText::shown))]
 fn table(word: &[u8]) -> Option<Query>
     ensures { result ≡ shown word.now }
 {
@@ -125,7 +125,7 @@ fn shown_table(words: &[u8]) -> Result<Line, TextWhy>
 /// That the answer is the grammar's of the line as it stands in the script is the law [`shown_lines_are_read`].
 ///
 /// Cost: one pass over the bytes, each looked at a constant number of times.
-#[tactic(auto, unfolding(report_spec::specs::ScriptText::read_script_line, text_spec::specs::Words::are_blank))]
+#[tactic(auto, unfolding(grammar_spec::specs::ScriptText::read_script_line, text_spec::specs::Words::are_blank))]
 pub fn read_line(alloc: Global, bytes: &[u8]) -> Result<Line, ReadLineFault>
     ensures reads { ReadsLine (reading_of_shown bytes.now) result }
     ensures shift { IfOk result HasShiftInLine }

@@ -113,7 +113,7 @@ fn texts_of_plans(rt: HostRuntime) {
         ("plan 1\ngrid 1 2 3 4 5\nroute R 1 1 2 2\n", (4, "plan")),
     ];
     for (text, wanted) in cases {
-        assert!(rt; text.len() <= LONGEST_PLAN);
+        assert!(rt; text.len() <= MAX_PLAN_BYTES);
         assert_eq!(rt;
             told_of_plan(read_plan(rt.alloc(), text.as_bytes())),
             wanted,
@@ -139,7 +139,7 @@ fn plans_are_printed(rt: HostRuntime) {
         ),
     ];
     for (text, wanted) in cases {
-        assert!(rt; text.len() <= LONGEST_PLAN);
+        assert!(rt; text.len() <= MAX_PLAN_BYTES);
         let printed = match read_plan(rt.alloc(), text.as_bytes()) {
             Ok(read) => print_plan(rt.alloc(), &read.plan),
             Err(_) => Err(NoMemory),

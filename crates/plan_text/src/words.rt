@@ -5,7 +5,7 @@ ghost use Rattle.std.specs.List.{position, position_or_len};
 ghost use Rattle.text_spec.specs.Lines.{is_long, is_newline, lines_of};
 ghost use Rattle.text_spec.specs.Words.{begins_comment, is_space, words_of};
 
-use text_spec::LONGEST_LINE;
+use text_spec::MAX_LINE_BYTES;
 
 fn is_space(byte: u8) -> bool
     ensures { result ≡ is_space byte }
@@ -95,7 +95,7 @@ pub fn next_line(bytes: &[u8]) -> Option<(&[u8], &[u8])>
 pub fn is_long(line: &[u8]) -> bool
     ensures { result ≡ is_long line.now }
 {
-    line.len() > LONGEST_LINE
+    line.len() > MAX_LINE_BYTES
 }
 
 /// Whether the word begins with `#`.

@@ -4,10 +4,10 @@ use Rattle.std.specs.declared.cmp.Ordering.TheVariants.{Less, Equal, Greater}
 use Rattle.plane_spec.specs.declared.Point.{Point}
 use Rattle.plane_spec.specs.Vectors.{point, turns_before, turn_order_of}
 use Rattle.plane_spec.specs.Segments.{is_on_segment, cross_properly, do_touch}
-use Rattle.plane_spec.specs.Polygons.{edges_to, passes_right, is_inside, is_counterclockwise, may_stand, crosses_nowhere, is_simple}
+use Rattle.plane_spec.specs.Polygons.{edges_to, passes_right, is_inside, is_counterclockwise, may_be_edges, crosses_nowhere, is_simple}
 use Rattle.plane_spec.specs.Cones.{corner, is_in_cone}
 use Rattle.plane_spec.specs.Fractions.{fraction, whole, common_divisor, reduced, floor_of, ceil_of, value_order_of, along}
-use Rattle.plane_spec.specs.Boxes.{is_left_of, does_meet_box, does_extent_meet_box}
+use Rattle.plane_spec.specs.Boxes.{is_box_left_of_line, does_meet_box, does_extent_meet_box}
 
 abbrev at : ℤ → ℤ → Point
 at x y = point x y
@@ -61,23 +61,23 @@ unfolding is_counterclockwise edges_to
 the_box_goes_round_counterclockwise = refl
 
 a_box_is_simple : is_simple box ≡ true
-unfolding crosses_nowhere may_stand edges_to do_touch cross_properly is_on_segment
+unfolding crosses_nowhere may_be_edges edges_to do_touch cross_properly is_on_segment
 a_box_is_simple = refl
 
 a_triangle_with_a_straight_corner_is_simple : is_simple (at (pos 0) (pos 0) ∷ at (pos 2) (pos 0) ∷ at (pos 4) (pos 0) ∷ at (pos 2) (pos 3) ∷ []) ≡ true
-unfolding crosses_nowhere may_stand edges_to do_touch cross_properly is_on_segment
+unfolding crosses_nowhere may_be_edges edges_to do_touch cross_properly is_on_segment
 a_triangle_with_a_straight_corner_is_simple = refl
 
 a_bow_tie_is_not_simple : is_simple (at (pos 2) (pos 2) ∷ at (pos 6) (pos 6) ∷ at (pos 6) (pos 2) ∷ at (pos 2) (pos 6) ∷ []) ≡ false
-unfolding crosses_nowhere may_stand edges_to do_touch cross_properly is_on_segment
+unfolding crosses_nowhere may_be_edges edges_to do_touch cross_properly is_on_segment
 a_bow_tie_is_not_simple = refl
 
 a_flat_triangle_is_not_simple : is_simple (at (pos 2) (pos 2) ∷ at (pos 6) (pos 2) ∷ at (pos 4) (pos 2) ∷ []) ≡ false
-unfolding crosses_nowhere may_stand edges_to do_touch cross_properly is_on_segment
+unfolding crosses_nowhere may_be_edges edges_to do_touch cross_properly is_on_segment
 a_flat_triangle_is_not_simple = refl
 
 a_repeated_point_is_not_simple : is_simple (at (pos 2) (pos 2) ∷ at (pos 4) (pos 2) ∷ at (pos 4) (pos 2) ∷ at (pos 3) (pos 4) ∷ []) ≡ false
-unfolding crosses_nowhere may_stand edges_to do_touch cross_properly is_on_segment
+unfolding crosses_nowhere may_be_edges edges_to do_touch cross_properly is_on_segment
 a_repeated_point_is_not_simple = refl
 
 -- ---- cones: the lower left corner of a box that stands counterclockwise, so that the box is left of its walls
@@ -147,17 +147,17 @@ a_point_along_a_ray_is_in_lowest_terms = refl
 -- ---- boxes: the box from (4,4) to (6,6)
 
 a_segment_below_the_box_misses_it : does_meet_box (at (pos 0) (pos 0)) (at (pos 10) (pos 5)) (record { low = at (pos 4) (pos 4); high = at (pos 6) (pos 6) }) ≡ false
-unfolding does_meet_box is_left_of
+unfolding does_meet_box is_box_left_of_line
 a_segment_below_the_box_misses_it = refl
 
 a_diagonal_meets_the_box : does_meet_box (at (pos 0) (pos 0)) (at (pos 10) (pos 10)) (record { low = at (pos 4) (pos 4); high = at (pos 6) (pos 6) }) ≡ true
-unfolding does_meet_box is_left_of
+unfolding does_meet_box is_box_left_of_line
 a_diagonal_meets_the_box = refl
 
 a_segment_along_the_border_meets_the_box : does_meet_box (at (pos 0) (pos 4)) (at (pos 4) (pos 4)) (record { low = at (pos 4) (pos 4); high = at (pos 6) (pos 6) }) ≡ true
-unfolding does_meet_box is_left_of
+unfolding does_meet_box is_box_left_of_line
 a_segment_along_the_border_meets_the_box = refl
 
 an_extent_ends_before_the_box : does_extent_meet_box (at (pos 0) (pos 0)) (at (pos 1) (pos 1)) (along (at (pos 0) (pos 0)) (at (pos 1) (pos 1)) (whole (pos 0))) (along (at (pos 0) (pos 0)) (at (pos 1) (pos 1)) (fraction (pos 7) (pos 2))) (record { low = at (pos 4) (pos 4); high = at (pos 6) (pos 6) }) ≡ false
-unfolding does_extent_meet_box is_left_of along reduced common_divisor
+unfolding does_extent_meet_box is_box_left_of_line along reduced common_divisor
 an_extent_ends_before_the_box = refl

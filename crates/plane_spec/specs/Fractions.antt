@@ -79,22 +79,22 @@ pub record IsReduced (f : Fraction) : Type 0 where
 -- ---- points
 
 -- a point whose coordinates are fractions
-pub record Place : Type 0 where
+pub record RPoint : Type 0 where
   pub x : Fraction
   pub y : Fraction
 
 -- the whole point as such a point
-abbrev pub at_point : Point → Place
-at_point p = record { x = whole p.x; y = whole p.y }
+abbrev pub whole_point : Point → RPoint
+whole_point p = record { x = whole p.x; y = whole p.y }
 
 -- the coordinate z + t d
 abbrev pub shifted : ℤ → ℤ → Fraction → Fraction
 shifted z d t = reduced (record { num = z *ℤ t.den +ℤ t.num *ℤ d; den = t.den })
 
 -- the point p + t d
-unfoldable pub along : Point → Point → Fraction → Place
+unfoldable pub along : Point → Point → Fraction → RPoint
 along p d t = record { x = shifted p.x d.x t; y = shifted p.y d.y t }
 
 -- the same point
-abbrev pub same_place : Place → Place → Bool
-same_place p q = same_value p.x q.x && same_value p.y q.y
+abbrev pub same_rpoint : RPoint → RPoint → Bool
+same_rpoint p q = same_value p.x q.x && same_value p.y q.y

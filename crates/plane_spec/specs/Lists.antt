@@ -15,26 +15,26 @@ abbrev pub numbered_pairs : {X : Type 0} → List X → List ((ℕ × X) × (ℕ
 numbered_pairs xs = pairs (enumerate_from 0 xs)
 
 -- the elements that are like none of those before them, nor like one of `before`
-abbrev pub firsts_after : {X : Type 0} → (X → X → Bool) → List X → List X → List X
-firsts_after alike before [] = []
-firsts_after alike before (x ∷ xs) =
-    if list_any (alike x) before then firsts_after alike (x ∷ before) xs else (x ∷ firsts_after alike (x ∷ before) xs)
+abbrev pub distinct_after : {X : Type 0} → (X → X → Bool) → List X → List X → List X
+distinct_after alike before [] = []
+distinct_after alike before (x ∷ xs) =
+    if list_any (alike x) before then distinct_after alike (x ∷ before) xs else (x ∷ distinct_after alike (x ∷ before) xs)
 
 -- the elements that are like none of those before them
-abbrev pub firsts : {X : Type 0} → (X → X → Bool) → List X → List X
-firsts alike xs = firsts_after alike [] xs
+abbrev pub distinct_by : {X : Type 0} → (X → X → Bool) → List X → List X
+distinct_by alike xs = distinct_after alike [] xs
 
 -- the first element that none comes before
-abbrev pub least : {X : Type 0} → (X → X → Bool) → List X → Option X
-least comes_before [] = None
-least comes_before (x ∷ xs) = Some (best_of comes_before x xs)
+abbrev pub min_by : {X : Type 0} → (X → X → Bool) → List X → Option X
+min_by comes_before [] = None
+min_by comes_before (x ∷ xs) = Some (best_of comes_before x xs)
 
 -- the element before the first that it doesn't come after
-abbrev pub placed : {X : Type 0} → (X → X → Bool) → X → List X → List X
-placed comes_before x [] = x ∷ []
-placed comes_before x (y ∷ ys) = if comes_before y x then y ∷ placed comes_before x ys else x ∷ y ∷ ys
+abbrev pub inserted_by : {X : Type 0} → (X → X → Bool) → X → List X → List X
+inserted_by comes_before x [] = x ∷ []
+inserted_by comes_before x (y ∷ ys) = if comes_before y x then y ∷ inserted_by comes_before x ys else x ∷ y ∷ ys
 
 -- the elements in order, equal ones as they stood
 abbrev pub in_order : {X : Type 0} → (X → X → Bool) → List X → List X
 in_order comes_before [] = []
-in_order comes_before (x ∷ xs) = placed comes_before x (in_order comes_before xs)
+in_order comes_before (x ∷ xs) = inserted_by comes_before x (in_order comes_before xs)

@@ -2,7 +2,7 @@
 use Rattle.std.specs.Prelude.{ℤ, pos, ◌-ℤ◌, ◌*ℤ◌, Bool, ◌&&◌, ◌||◌, not}
 use Rattle.std.specs.Ordering.{int_eq}
 use Rattle.plane_spec.specs.Segments.{are_opposite}
-use Rattle.plane_spec.specs.Fractions.{Fraction, Place, is_before, is_at_least, is_at_most}
+use Rattle.plane_spec.specs.Fractions.{Fraction, RPoint, is_before, is_at_least, is_at_most}
 
 -- ---- fractions
 
@@ -26,21 +26,21 @@ fractions_overlap m n low high = (is_at_least m low || is_at_least n low) && (is
 -- ---- points
 
 -- positive where c lies left of the line from a to b, and 0 where it lies on it
-abbrev pub orient_of_places : Place → Place → Place → ℤ
-orient_of_places a b c = (minus (times (minus b.x a.x) (minus c.y a.y)) (times (minus b.y a.y) (minus c.x a.x))).num
+abbrev pub orient_of_rpoints : RPoint → RPoint → RPoint → ℤ
+orient_of_rpoints a b c = (minus (times (minus b.x a.x) (minus c.y a.y)) (times (minus b.y a.y) (minus c.x a.x))).num
 
 -- x lies on the closed segment from a to b: in line with it, and in its extents
-abbrev pub is_place_on : Place → Place → Place → Bool
-is_place_on x a b =
-    int_eq (orient_of_places a b x) (pos 0) && (is_between_fractions x.x a.x b.x && is_between_fractions x.y a.y b.y)
+abbrev pub is_rpoint_on_segment : RPoint → RPoint → RPoint → Bool
+is_rpoint_on_segment x a b =
+    int_eq (orient_of_rpoints a b x) (pos 0) && (is_between_fractions x.x a.x b.x && is_between_fractions x.y a.y b.y)
 
 -- the ends of each segment lie strictly on different sides of the other
-abbrev pub places_cross : Place → Place → Place → Place → Bool
-places_cross a b c d =
-    are_opposite (orient_of_places a b c) (orient_of_places a b d)
-    && are_opposite (orient_of_places c d a) (orient_of_places c d b)
+abbrev pub do_rpoints_cross : RPoint → RPoint → RPoint → RPoint → Bool
+do_rpoints_cross a b c d =
+    are_opposite (orient_of_rpoints a b c) (orient_of_rpoints a b d)
+    && are_opposite (orient_of_rpoints c d a) (orient_of_rpoints c d b)
 
 -- two closed segments share a point: they cross properly, or an end of one lies on the other
-unfoldable pub do_places_touch : Place → Place → Place → Place → Bool
-do_places_touch a b c d =
-    places_cross a b c d || ((is_place_on a c d || is_place_on b c d) || (is_place_on c a b || is_place_on d a b))
+unfoldable pub do_rsegments_touch : RPoint → RPoint → RPoint → RPoint → Bool
+do_rsegments_touch a b c d =
+    do_rpoints_cross a b c d || ((is_rpoint_on_segment a c d || is_rpoint_on_segment b c d) || (is_rpoint_on_segment c a b || is_rpoint_on_segment d a b))

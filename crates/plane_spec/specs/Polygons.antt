@@ -73,14 +73,14 @@ abbrev pub folds_back : Segment → Segment → Bool
 folds_back e f = is_on_edge e.a f || is_on_edge f.b e
 
 -- two edges of a polygon of so many edges, each with its number, the smaller first: neighbours share only their common corner, others don't touch
-unfoldable pub may_stand : ℕ → (ℕ × Segment) × (ℕ × Segment) → Bool
-may_stand count e =
+unfoldable pub may_be_edges : ℕ → (ℕ × Segment) × (ℕ × Segment) → Bool
+may_be_edges count e =
     if e.1.0 == e.0.0 + 1 then not (folds_back e.0.1 e.1.1)
     else (if (e.0.0 == 0) && (e.1.0 + 1 == count) then not (folds_back e.1.1 e.0.1) else not (edges_touch e.0.1 e.1.1))
 
 -- neighbouring edges share only their common corner, and no other two edges touch
 unfoldable pub crosses_nowhere : List Point → Bool
-crosses_nowhere points = list_all (may_stand (length points)) (numbered_pairs (edges_of points))
+crosses_nowhere points = list_all (may_be_edges (length points)) (numbered_pairs (edges_of points))
 
 -- at least three points, neighbouring points differ, neighbouring edges share only their common corner, and no other two edges touch
 abbrev pub is_simple : List Point → Bool

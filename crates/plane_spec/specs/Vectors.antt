@@ -31,12 +31,12 @@ abbrev pub same_point : Point → Point → Bool
 same_point p q = int_eq p.x q.x && int_eq p.y q.y
 
 -- e is strictly left of d
-abbrev pub is_left : Point → Point → Bool
-is_left d e = int_lt (pos 0) (cross_of d e)
+abbrev pub turns_left : Point → Point → Bool
+turns_left d e = int_lt (pos 0) (cross_of d e)
 
 -- c lies strictly left of the line from a to b
-abbrev pub lies_left : Point → Point → Point → Bool
-lies_left a b c = int_lt (pos 0) (orient_of a b c)
+abbrev pub is_left_of_line : Point → Point → Point → Bool
+is_left_of_line a b c = int_lt (pos 0) (orient_of a b c)
 
 -- ---- ranges
 
@@ -79,7 +79,7 @@ turns_by upper upper_too left = if upper then (if upper_too then left else true)
 
 -- d comes before e, counterclockwise from (1,0): by the half turn, and within one by which is left of the other
 unfoldable pub turns_before : Point → Point → Bool
-turns_before d e = turns_by (is_upper d) (is_upper e) (is_left d e)
+turns_before d e = turns_by (is_upper d) (is_upper e) (turns_left d e)
 
 -- the order of directions counterclockwise from (1,0); equal are those that point the same way
 unfoldable pub turn_order_of : Point → Point → Ordering

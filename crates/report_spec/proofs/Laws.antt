@@ -1,17 +1,17 @@
 -- What the definitions mean, where it is short to show.
 use Rattle.std.specs.Prelude.{◌≡◌, refl, ℕ, List, [], true, Option, Some, None, Result, Ok, Err}
-use Rattle.plan_spec.specs.declared.changes.Edit.{Edit}
-use Rattle.plan_spec.specs.declared.refusals.Why.{Why}
+use Rattle.plan_spec.specs.declared.edit.Edit.{Edit}
+use Rattle.plan_spec.specs.declared.why.Why.{Why}
 use Rattle.plan_spec.specs.Plan.{Plan}
 use Rattle.plan_spec.specs.Edits.{why_not_edit}
-use Rattle.report_spec.specs.declared.readings.TextWhy.{TextWhy}
-use Rattle.report_spec.specs.declared.script_line.Line.{Line}
-use Rattle.report_spec.specs.declared.script_line.Line.TheVariants.{Blank, Edit as OfEdit, Query as OfQuery}
-use Rattle.report_spec.specs.declared.replies.Form.{Form}
-use Rattle.report_spec.specs.ScriptText.{read_line_of_script}
+use Rattle.grammar_spec.specs.declared.text_why.TextWhy.{TextWhy}
+use Rattle.grammar_spec.specs.declared.script_line.Line.{Line}
+use Rattle.grammar_spec.specs.declared.script_line.Line.TheVariants.{Blank, Edit as OfEdit, Query as OfQuery}
+use Rattle.options_spec.specs.declared.options.Form.{Form}
+use Rattle.grammar_spec.specs.ScriptText.{read_line_of_script}
 use Rattle.report_spec.specs.Records.{records_bytes}
 use Rattle.report_spec.specs.Replies.{Answer, answer, edit_step, query_step, step_by, step, replies, plan_after}
-use Rattle.report_spec.specs.declared.replies.Mode.{Mode}
+use Rattle.options_spec.specs.declared.options.Mode.{Mode}
 use Rattle.report_spec.specs.Output.{mode_records, reply_bytes, output_of}
 
 edit_keeps : (plan : Plan) (number : ℕ) (edit : Edit) (why : Option Why) → (edit_step plan number edit why).refused ≡ true → (edit_step plan number edit why).plan ≡ plan

@@ -1,5 +1,3 @@
-mod PlanExamples
-mod ScriptExamples
 mod TableExamples
 mod OutputExamples
 pub mod Laws

@@ -4,31 +4,32 @@ use Rattle.std.specs.Fmt.{digits}
 use Rattle.plane_spec.specs.declared.Point.{Point}
 use Rattle.plane_spec.specs.Vectors.{point}
 use Rattle.plane_spec.specs.Segments.{is_on_segment, cross_properly, do_touch}
-use Rattle.plane_spec.specs.Polygons.{edges_to, passes_right, is_inside, is_counterclockwise, may_stand, crosses_nowhere}
+use Rattle.plane_spec.specs.Polygons.{edges_to, passes_right, is_inside, is_counterclockwise, may_be_edges, crosses_nowhere}
 use Rattle.plane_spec.specs.Cones.{is_in_cone}
 use Rattle.plane_spec.specs.Fractions.{fraction, common_divisor, reduced}
 use Rattle.text_spec.specs.Lines.{without_return}
 use Rattle.text_spec.specs.Words.{are_blank}
 use Rattle.text_spec.specs.Numbers.{natural_of, number_of}
-use Rattle.plan_spec.specs.declared.kinds.Item.TheVariants.{Obstacle}
+use Rattle.plan_spec.specs.declared.item.Item.TheVariants.{Obstacle}
 use Rattle.plan_spec.specs.Plan.{Plan, empty_plan, with_outer, with_grid, with_item, items_of}
-use Rattle.plan_spec.specs.Accepted.{lies_within, polygons_meet, line_meets_polygon}
+use Rattle.plan_spec.specs.Accepted.{lies_within, polygons_meet, segment_meets_polygon}
 use Rattle.plan_spec.specs.Refusals.{why_not_polygon, why_not_polygon_in, why_not_obstacle}
-use Rattle.plan_spec.specs.Edits.{why_not_edit, edited}
-use Rattle.plan_spec.specs.Scene.{walls_round, corners_round}
-use Rattle.plan_spec.specs.Sight.{leaves_wall, corner_stops, is_blocked, are_in_sight, is_open}
-use Rattle.plan_spec.specs.Grid.{grid_points, visibility_edges}
-use Rattle.plan_spec.specs.Graphs.{depth_of, measures_of}
-use Rattle.report_spec.specs.declared.replies.Form.TheVariants.{Text, Csv}
-use Rattle.report_spec.specs.Shapes.{numbers_of, read_fields_by, numbers_of_points}
-use Rattle.report_spec.specs.ScriptText.{script_word, line_of, shown, read_script_line, read_line_of_script}
+use Rattle.plan_spec.specs.Edits.{why_not_edit, plan_after_edit}
+use Rattle.sight_spec.specs.Scene.{oriented_walls, oriented_corners}
+use Rattle.sight_spec.specs.Sight.{starts_into_wall, corner_stops, is_blocked, are_in_sight, is_open}
+use Rattle.plan_spec.specs.Grid.{grid_points}
+use Rattle.sight_spec.specs.Visibility.{visibility_edges}
+use Rattle.graph_spec.specs.Graphs.{depth_of, measures_of}
+use Rattle.options_spec.specs.declared.options.Form.TheVariants.{Text, Csv}
+use Rattle.grammar_spec.specs.Arguments.{numbers_of, read_fields_by, numbers_of_points}
+use Rattle.grammar_spec.specs.ScriptText.{script_word, line_of, shown, read_script_line, read_line_of_script}
 use Rattle.report_spec.specs.Records.{fraction_field, records_bytes}
 use Rattle.report_spec.specs.Tables.{points_table, plan_table}
 use Rattle.report_spec.specs.Replies.{answer, step, replies, plan_after, has_refusal}
 use Rattle.report_spec.specs.Trial.{trial_box, root_above}
-use Rattle.report_spec.specs.declared.replies.Mode.TheVariants.{Vga, Check}
-use Rattle.report_spec.specs.declared.options.Job.TheVariants.{Analyse, Trial}
-use Rattle.report_spec.specs.Options.{options_of}
+use Rattle.options_spec.specs.declared.options.Mode.TheVariants.{Vga, Check}
+use Rattle.options_spec.specs.declared.options.Job.TheVariants.{Analyse, Trial}
+use Rattle.options_spec.specs.Options.{options_of}
 use Rattle.report_spec.specs.Output.{mode_records, reply_bytes, output_of, output_is_refused, trial_output, output_by, is_refused_by}
 
 abbrev at : ℕ → ℕ → Point
@@ -54,7 +55,7 @@ a_script_is_answered_line_by_line :
     ∷ codes "table plan" ∷ codes "plan 1" ∷ codes "outer 0 0 10 0 10 10 0 10" ∷ codes "obstacle A 1 1 3 1 3 3 1 3" ∷ codes "end 3"
     ∷ codes "ok 6"
     ∷ codes "table plan" ∷ codes "plan 1" ∷ codes "outer 0 0 10 0 10 10 0 10" ∷ codes "end 2" ∷ [])
-unfolding output_of reply_bytes replies plan_after mode_records plan_table items_of numbers_of_points digits step answer read_line_of_script without_return read_script_line are_blank script_word shown line_of read_fields_by numbers_of number_of natural_of why_not_edit why_not_obstacle why_not_polygon why_not_polygon_in crosses_nowhere may_stand edges_to lies_within polygons_meet line_meets_polygon is_inside passes_right do_touch cross_properly is_on_segment edited with_item
+unfolding output_of reply_bytes replies plan_after mode_records plan_table items_of numbers_of_points digits step answer read_line_of_script without_return read_script_line are_blank script_word shown line_of read_fields_by numbers_of number_of natural_of why_not_edit why_not_obstacle why_not_polygon why_not_polygon_in crosses_nowhere may_be_edges edges_to lies_within polygons_meet segment_meets_polygon is_inside passes_right do_touch cross_properly is_on_segment plan_after_edit with_item
 a_script_is_answered_line_by_line = refl
 
 a_refused_line_is_told_by_the_status : output_is_refused Check room (codes "paint" ∷ []) ≡ true
@@ -66,7 +67,7 @@ the_tables_of_an_empty_room :
     ≡ ended (
     codes "table edges" ∷ codes "0 1" ∷ codes "0 2" ∷ codes "0 3" ∷ codes "1 2" ∷ codes "1 3" ∷ codes "2 3" ∷ codes "end 6"
     ∷ codes "table points" ∷ codes "0 0 0 3 4 3 1/1 0/1" ∷ codes "1 10 0 3 4 3 1/1 0/1" ∷ codes "2 0 10 3 4 3 1/1 0/1" ∷ codes "3 10 10 3 4 3 1/1 0/1" ∷ codes "end 4" ∷ [])
-unfolding output_of reply_bytes replies plan_after mode_records points_table measures_of depth_of reduced common_divisor digits visibility_edges grid_points is_open is_inside passes_right are_in_sight is_blocked leaves_wall corner_stops is_in_cone walls_round corners_round is_counterclockwise edges_to is_on_segment cross_properly
+unfolding output_of reply_bytes replies plan_after mode_records points_table measures_of depth_of reduced common_divisor digits visibility_edges grid_points is_open is_inside passes_right are_in_sight is_blocked starts_into_wall corner_stops is_in_cone oriented_walls oriented_corners is_counterclockwise edges_to is_on_segment cross_properly
 the_tables_of_an_empty_room = refl
 
 csv_joins_by_commas : records_bytes Csv ((codes "ok" ∷ codes "1" ∷ []) ∷ []) ≡ codes "ok,1" ++ 10 ∷ []

@@ -6,18 +6,19 @@ use Rattle.plane_spec.specs.Segments.{is_on_segment, cross_properly, do_touch}
 use Rattle.plane_spec.specs.Polygons.{edges_to, passes_right, is_inside, is_counterclockwise}
 use Rattle.plane_spec.specs.Cones.{is_in_cone}
 use Rattle.plane_spec.specs.Fractions.{common_divisor, reduced, along}
-use Rattle.plane_spec.specs.Places.{do_places_touch}
+use Rattle.plane_spec.specs.Places.{do_rsegments_touch}
 use Rattle.plan_spec.specs.Plan.{Obstacle, Plan, obstacle, screen, route, empty_plan, with_outer, with_obstacles, with_screens, with_routes}
-use Rattle.plan_spec.specs.Scene.{walls_round, corners_round, scene_of}
-use Rattle.plan_spec.specs.Sight.{leaves_wall, corner_stops, is_blocked, are_in_sight, is_open}
-use Rattle.plan_spec.specs.Stops.{line_hit, corner_hit, start_hit, stop_of, near_wall_of}
-use Rattle.plan_spec.specs.Isovist.{corner_directions, wall_between, runs_of, triangle_of, isovist_in}
-use Rattle.plan_spec.specs.Grid.{grid_points, visibility_edges}
-use Rattle.plan_spec.specs.Graphs.{depth_of, measures_of}
-use Rattle.plan_spec.specs.Axial.{axial_lines, crossing_graph}
-use Rattle.plan_spec.specs.Routes.{cuts_of, pieces_of, turn_of, costs_within, turn_depths_of}
+use Rattle.sight_spec.specs.Scene.{oriented_walls, oriented_corners, scene_of}
+use Rattle.sight_spec.specs.Sight.{starts_into_wall, corner_stops, is_blocked, are_in_sight, is_open}
+use Rattle.sight_spec.specs.Stops.{blocker_hit, corner_hit, start_hit, stop_of, near_wall_of}
+use Rattle.sight_spec.specs.Isovist.{corner_directions, wall_between, runs_of, triangle_of, isovist_in}
+use Rattle.plan_spec.specs.Grid.{grid_points}
+use Rattle.sight_spec.specs.Visibility.{visibility_edges}
+use Rattle.graph_spec.specs.Graphs.{depth_of, measures_of}
+use Rattle.sight_spec.specs.Axial.{axial_lines, crossing_graph}
+use Rattle.route_spec.specs.Routes.{cuts_of, pieces_of, turn_of, costs_within, turn_depths_of}
 use Rattle.plan_spec.proofs.Figures.{at, box, room, room_with, middle, grid, with_this_grid}
-use Rattle.report_spec.specs.declared.replies.Form.TheVariants.{Text}
+use Rattle.options_spec.specs.declared.options.Form.TheVariants.{Text}
 use Rattle.report_spec.specs.Records.{records_bytes}
 use Rattle.report_spec.specs.Tables.{points_table, depth_table, isovist_table, axial_table, lines_table, segments_table, turns_table, edges_table_of, points_table_of, depth_table_of, isovist_table_of, axial_table_of, lines_table_of, segments_table_of, turns_table_of}
 
@@ -36,7 +37,7 @@ a_point_on_the_lower_wall_sees_past_a_box :
     ≡ ended (
     codes "table isovist" ∷ codes "10/1 0/1 10/1 10/1 50/1" ∷ codes "10/1 10/1 15/2 10/1 25/1" ∷ codes "6/1 4/1 4/1 4/1 8/1"
     ∷ codes "5/2 10/1 0/1 10/1 25/1" ∷ codes "0/1 10/1 0/1 0/1 50/1" ∷ codes "total 158 158" ∷ codes "end 5" ∷ [])
-unfolding points_table isovist_table axial_table lines_table segments_table turns_table depth_table measures_of depth_of reduced common_divisor digits visibility_edges grid_points is_open is_inside passes_right are_in_sight is_blocked leaves_wall corner_stops is_in_cone walls_round corners_round is_counterclockwise edges_to is_on_segment cross_properly isovist_in corner_directions wall_between runs_of triangle_of turns_before near_wall_of stop_of line_hit corner_hit start_hit along axial_lines do_places_touch crossing_graph cuts_of pieces_of turn_of costs_within turn_depths_of do_touch
+unfolding points_table isovist_table axial_table lines_table segments_table turns_table depth_table measures_of depth_of reduced common_divisor digits visibility_edges grid_points is_open is_inside passes_right are_in_sight is_blocked starts_into_wall corner_stops is_in_cone oriented_walls oriented_corners is_counterclockwise edges_to is_on_segment cross_properly isovist_in corner_directions wall_between runs_of triangle_of turns_before near_wall_of stop_of blocker_hit corner_hit start_hit along axial_lines do_rsegments_touch crossing_graph cuts_of pieces_of turn_of costs_within turn_depths_of do_touch
 a_point_on_the_lower_wall_sees_past_a_box = refl
 
 floors_and_ceilings_bound_fractions :
@@ -44,7 +45,7 @@ floors_and_ceilings_bound_fractions :
     ≡ ended (
     codes "table isovist" ∷ codes "10/1 0/1 10/1 28/3 196/3" ∷ codes "6/1 4/1 4/1 4/1 8/1" ∷ codes "4/1 4/1 4/1 6/1 2/1"
     ∷ codes "14/3 10/1 0/1 10/1 140/3" ∷ codes "0/1 10/1 0/1 0/1 30/1" ∷ codes "total 151 153" ∷ codes "end 5" ∷ [])
-unfolding points_table isovist_table axial_table lines_table segments_table turns_table depth_table measures_of depth_of reduced common_divisor digits visibility_edges grid_points is_open is_inside passes_right are_in_sight is_blocked leaves_wall corner_stops is_in_cone walls_round corners_round is_counterclockwise edges_to is_on_segment cross_properly isovist_in corner_directions wall_between runs_of triangle_of turns_before near_wall_of stop_of line_hit corner_hit start_hit along axial_lines do_places_touch crossing_graph cuts_of pieces_of turn_of costs_within turn_depths_of do_touch
+unfolding points_table isovist_table axial_table lines_table segments_table turns_table depth_table measures_of depth_of reduced common_divisor digits visibility_edges grid_points is_open is_inside passes_right are_in_sight is_blocked starts_into_wall corner_stops is_in_cone oriented_walls oriented_corners is_counterclockwise edges_to is_on_segment cross_properly isovist_in corner_directions wall_between runs_of triangle_of turns_before near_wall_of stop_of blocker_hit corner_hit start_hit along axial_lines do_rsegments_touch crossing_graph cuts_of pieces_of turn_of costs_within turn_depths_of do_touch
 floors_and_ceilings_bound_fractions = refl
 
 -- a number below 0
@@ -63,7 +64,7 @@ fractions_stay_exact_at_the_limits :
     ≡ ended (
     codes "table isovist" ∷ codes "100000/1 -100000/1 100000/1 100000/1 40000000000/1" ∷ codes "100000/1 100000/1 -9999700000/99999 100000/1 3999920000000000/99999" ∷ codes "-99998/1 99998/1 -99999/1 99998/1 199998/1"
     ∷ codes "-99999/1 99998/1 -99999/1 99999/1 1/1" ∷ codes "-19999700000/199999 100000/1 -100000/1 100000/1 40000000000/199999" ∷ codes "total 79999999995 79999999997" ∷ codes "end 5" ∷ [])
-unfolding points_table isovist_table axial_table lines_table segments_table turns_table depth_table measures_of depth_of reduced common_divisor digits visibility_edges grid_points is_open is_inside passes_right are_in_sight is_blocked leaves_wall corner_stops is_in_cone walls_round corners_round is_counterclockwise edges_to is_on_segment cross_properly isovist_in corner_directions wall_between runs_of triangle_of turns_before near_wall_of stop_of line_hit corner_hit start_hit along axial_lines do_places_touch crossing_graph cuts_of pieces_of turn_of costs_within turn_depths_of do_touch
+unfolding points_table isovist_table axial_table lines_table segments_table turns_table depth_table measures_of depth_of reduced common_divisor digits visibility_edges grid_points is_open is_inside passes_right are_in_sight is_blocked starts_into_wall corner_stops is_in_cone oriented_walls oriented_corners is_counterclockwise edges_to is_on_segment cross_properly isovist_in corner_directions wall_between runs_of triangle_of turns_before near_wall_of stop_of blocker_hit corner_hit start_hit along axial_lines do_rsegments_touch crossing_graph cuts_of pieces_of turn_of costs_within turn_depths_of do_touch
 fractions_stay_exact_at_the_limits = refl
 
 -- the room with a screen in its middle
@@ -75,7 +76,7 @@ a_screen_hides_what_is_behind_it :
     ≡ ended (
     codes "table isovist" ∷ codes "5/1 15/2 5/1 8/1 5/2" ∷ codes "25/3 10/1 0/1 10/1 125/3" ∷ codes "0/1 0/1 25/3 0/1 125/3"
     ∷ codes "5/1 2/1 5/1 15/2 55/2" ∷ codes "total 111 115" ∷ codes "end 4" ∷ [])
-unfolding points_table isovist_table axial_table lines_table segments_table turns_table depth_table measures_of depth_of reduced common_divisor digits visibility_edges grid_points is_open is_inside passes_right are_in_sight is_blocked leaves_wall corner_stops is_in_cone walls_round corners_round is_counterclockwise edges_to is_on_segment cross_properly isovist_in corner_directions wall_between runs_of triangle_of turns_before near_wall_of stop_of line_hit corner_hit start_hit along axial_lines do_places_touch crossing_graph cuts_of pieces_of turn_of costs_within turn_depths_of do_touch
+unfolding points_table isovist_table axial_table lines_table segments_table turns_table depth_table measures_of depth_of reduced common_divisor digits visibility_edges grid_points is_open is_inside passes_right are_in_sight is_blocked starts_into_wall corner_stops is_in_cone oriented_walls oriented_corners is_counterclockwise edges_to is_on_segment cross_properly isovist_in corner_directions wall_between runs_of triangle_of turns_before near_wall_of stop_of blocker_hit corner_hit start_hit along axial_lines do_rsegments_touch crossing_graph cuts_of pieces_of turn_of costs_within turn_depths_of do_touch
 a_screen_hides_what_is_behind_it = refl
 
 a_point_on_a_screen_sees_both_sides :
@@ -83,7 +84,7 @@ a_point_on_a_screen_sees_both_sides :
     ≡ ended (
     codes "table isovist" ∷ codes "10/1 10/1 0/1 10/1 50/1" ∷ codes "0/1 10/1 0/1 0/1 50/1" ∷ codes "0/1 0/1 10/1 0/1 50/1"
     ∷ codes "10/1 0/1 10/1 10/1 50/1" ∷ codes "total 200 200" ∷ codes "end 4" ∷ [])
-unfolding points_table isovist_table axial_table lines_table segments_table turns_table depth_table measures_of depth_of reduced common_divisor digits visibility_edges grid_points is_open is_inside passes_right are_in_sight is_blocked leaves_wall corner_stops is_in_cone walls_round corners_round is_counterclockwise edges_to is_on_segment cross_properly isovist_in corner_directions wall_between runs_of triangle_of turns_before near_wall_of stop_of line_hit corner_hit start_hit along axial_lines do_places_touch crossing_graph cuts_of pieces_of turn_of costs_within turn_depths_of do_touch
+unfolding points_table isovist_table axial_table lines_table segments_table turns_table depth_table measures_of depth_of reduced common_divisor digits visibility_edges grid_points is_open is_inside passes_right are_in_sight is_blocked starts_into_wall corner_stops is_in_cone oriented_walls oriented_corners is_counterclockwise edges_to is_on_segment cross_properly isovist_in corner_directions wall_between runs_of triangle_of turns_before near_wall_of stop_of blocker_hit corner_hit start_hit along axial_lines do_rsegments_touch crossing_graph cuts_of pieces_of turn_of costs_within turn_depths_of do_touch
 a_point_on_a_screen_sees_both_sides = refl
 
 -- ---- edges, points, depths
@@ -98,7 +99,7 @@ a_box_in_the_middle_closes_a_point_and_hides_four_pairs :
     ∷ codes "3 6" ∷ codes "3 7" ∷ codes "3 8" ∷ codes "5 6"
     ∷ codes "5 7" ∷ codes "5 8" ∷ codes "6 7" ∷ codes "6 8"
     ∷ codes "7 8" ∷ codes "end 24" ∷ [])
-unfolding points_table isovist_table axial_table lines_table segments_table turns_table depth_table measures_of depth_of reduced common_divisor digits visibility_edges grid_points is_open is_inside passes_right are_in_sight is_blocked leaves_wall corner_stops is_in_cone walls_round corners_round is_counterclockwise edges_to is_on_segment cross_properly isovist_in corner_directions wall_between runs_of triangle_of turns_before near_wall_of stop_of line_hit corner_hit start_hit along axial_lines do_places_touch crossing_graph cuts_of pieces_of turn_of costs_within turn_depths_of do_touch
+unfolding points_table isovist_table axial_table lines_table segments_table turns_table depth_table measures_of depth_of reduced common_divisor digits visibility_edges grid_points is_open is_inside passes_right are_in_sight is_blocked starts_into_wall corner_stops is_in_cone oriented_walls oriented_corners is_counterclockwise edges_to is_on_segment cross_properly isovist_in corner_directions wall_between runs_of triangle_of turns_before near_wall_of stop_of blocker_hit corner_hit start_hit along axial_lines do_rsegments_touch crossing_graph cuts_of pieces_of turn_of costs_within turn_depths_of do_touch
 a_box_in_the_middle_closes_a_point_and_hides_four_pairs = refl
 
 a_screen_hides_seven_pairs :
@@ -112,7 +113,7 @@ a_screen_hides_seven_pairs :
     ∷ codes "3 7" ∷ codes "4 5" ∷ codes "4 6" ∷ codes "4 7"
     ∷ codes "4 8" ∷ codes "5 7" ∷ codes "5 8" ∷ codes "6 7"
     ∷ codes "6 8" ∷ codes "7 8" ∷ codes "end 29" ∷ [])
-unfolding points_table isovist_table axial_table lines_table segments_table turns_table depth_table measures_of depth_of reduced common_divisor digits visibility_edges grid_points is_open is_inside passes_right are_in_sight is_blocked leaves_wall corner_stops is_in_cone walls_round corners_round is_counterclockwise edges_to is_on_segment cross_properly isovist_in corner_directions wall_between runs_of triangle_of turns_before near_wall_of stop_of line_hit corner_hit start_hit along axial_lines do_places_touch crossing_graph cuts_of pieces_of turn_of costs_within turn_depths_of do_touch
+unfolding points_table isovist_table axial_table lines_table segments_table turns_table depth_table measures_of depth_of reduced common_divisor digits visibility_edges grid_points is_open is_inside passes_right are_in_sight is_blocked starts_into_wall corner_stops is_in_cone oriented_walls oriented_corners is_counterclockwise edges_to is_on_segment cross_properly isovist_in corner_directions wall_between runs_of triangle_of turns_before near_wall_of stop_of blocker_hit corner_hit start_hit along axial_lines do_rsegments_touch crossing_graph cuts_of pieces_of turn_of costs_within turn_depths_of do_touch
 a_screen_hides_seven_pairs = refl
 
 -- three boxes beside the diagonal
@@ -124,7 +125,7 @@ a_diagonal_that_grazes_three_boxes_is_free :
     ≡ ended (
     codes "table edges" ∷ codes "0 1" ∷ codes "0 2" ∷ codes "0 3"
     ∷ codes "1 3" ∷ codes "2 3" ∷ codes "end 5" ∷ [])
-unfolding points_table isovist_table axial_table lines_table segments_table turns_table depth_table measures_of depth_of reduced common_divisor digits visibility_edges grid_points is_open is_inside passes_right are_in_sight is_blocked leaves_wall corner_stops is_in_cone walls_round corners_round is_counterclockwise edges_to is_on_segment cross_properly isovist_in corner_directions wall_between runs_of triangle_of turns_before near_wall_of stop_of line_hit corner_hit start_hit along axial_lines do_places_touch crossing_graph cuts_of pieces_of turn_of costs_within turn_depths_of do_touch
+unfolding points_table isovist_table axial_table lines_table segments_table turns_table depth_table measures_of depth_of reduced common_divisor digits visibility_edges grid_points is_open is_inside passes_right are_in_sight is_blocked starts_into_wall corner_stops is_in_cone oriented_walls oriented_corners is_counterclockwise edges_to is_on_segment cross_properly isovist_in corner_directions wall_between runs_of triangle_of turns_before near_wall_of stop_of blocker_hit corner_hit start_hit along axial_lines do_rsegments_touch crossing_graph cuts_of pieces_of turn_of costs_within turn_depths_of do_touch
 a_diagonal_that_grazes_three_boxes_is_free = refl
 
 a_diagonal_into_a_fourth_box_is_blocked :
@@ -132,7 +133,7 @@ a_diagonal_into_a_fourth_box_is_blocked :
     ≡ ended (
     codes "table edges" ∷ codes "0 1" ∷ codes "0 2" ∷ codes "1 3"
     ∷ codes "2 3" ∷ codes "end 4" ∷ [])
-unfolding points_table isovist_table axial_table lines_table segments_table turns_table depth_table measures_of depth_of reduced common_divisor digits visibility_edges grid_points is_open is_inside passes_right are_in_sight is_blocked leaves_wall corner_stops is_in_cone walls_round corners_round is_counterclockwise edges_to is_on_segment cross_properly isovist_in corner_directions wall_between runs_of triangle_of turns_before near_wall_of stop_of line_hit corner_hit start_hit along axial_lines do_places_touch crossing_graph cuts_of pieces_of turn_of costs_within turn_depths_of do_touch
+unfolding points_table isovist_table axial_table lines_table segments_table turns_table depth_table measures_of depth_of reduced common_divisor digits visibility_edges grid_points is_open is_inside passes_right are_in_sight is_blocked starts_into_wall corner_stops is_in_cone oriented_walls oriented_corners is_counterclockwise edges_to is_on_segment cross_properly isovist_in corner_directions wall_between runs_of triangle_of turns_before near_wall_of stop_of blocker_hit corner_hit start_hit along axial_lines do_rsegments_touch crossing_graph cuts_of pieces_of turn_of costs_within turn_depths_of do_touch
 a_diagonal_into_a_fourth_box_is_blocked = refl
 
 -- a flat of two rooms with a column
@@ -150,7 +151,7 @@ a_flat_of_two_rooms :
     codes "table edges" ∷ codes "0 1" ∷ codes "1 3" ∷ codes "end 2"
     ∷ codes "table points" ∷ codes "0 250 50 1 3 3 3/2 1/1" ∷ codes "1 750 50 2 3 2 1/1 0/1" ∷ codes "2 250 550 0 1 0 - -"
     ∷ codes "3 750 550 1 3 3 3/2 1/1" ∷ codes "end 4" ∷ [])
-unfolding points_table isovist_table axial_table lines_table segments_table turns_table depth_table measures_of depth_of reduced common_divisor digits visibility_edges grid_points is_open is_inside passes_right are_in_sight is_blocked leaves_wall corner_stops is_in_cone walls_round corners_round is_counterclockwise edges_to is_on_segment cross_properly isovist_in corner_directions wall_between runs_of triangle_of turns_before near_wall_of stop_of line_hit corner_hit start_hit along axial_lines do_places_touch crossing_graph cuts_of pieces_of turn_of costs_within turn_depths_of do_touch
+unfolding points_table isovist_table axial_table lines_table segments_table turns_table depth_table measures_of depth_of reduced common_divisor digits visibility_edges grid_points is_open is_inside passes_right are_in_sight is_blocked starts_into_wall corner_stops is_in_cone oriented_walls oriented_corners is_counterclockwise edges_to is_on_segment cross_properly isovist_in corner_directions wall_between runs_of triangle_of turns_before near_wall_of stop_of blocker_hit corner_hit start_hit along axial_lines do_rsegments_touch crossing_graph cuts_of pieces_of turn_of costs_within turn_depths_of do_touch
 a_flat_of_two_rooms = refl
 
 a_point_that_nothing_sees_reaches_itself :
@@ -158,7 +159,7 @@ a_point_that_nothing_sees_reaches_itself :
     ≡ ended (
     codes "table depth" ∷ codes "0 -" ∷ codes "1 -" ∷ codes "2 0"
     ∷ codes "3 -" ∷ codes "end 4" ∷ [])
-unfolding points_table isovist_table axial_table lines_table segments_table turns_table depth_table measures_of depth_of reduced common_divisor digits visibility_edges grid_points is_open is_inside passes_right are_in_sight is_blocked leaves_wall corner_stops is_in_cone walls_round corners_round is_counterclockwise edges_to is_on_segment cross_properly isovist_in corner_directions wall_between runs_of triangle_of turns_before near_wall_of stop_of line_hit corner_hit start_hit along axial_lines do_places_touch crossing_graph cuts_of pieces_of turn_of costs_within turn_depths_of do_touch
+unfolding points_table isovist_table axial_table lines_table segments_table turns_table depth_table measures_of depth_of reduced common_divisor digits visibility_edges grid_points is_open is_inside passes_right are_in_sight is_blocked starts_into_wall corner_stops is_in_cone oriented_walls oriented_corners is_counterclockwise edges_to is_on_segment cross_properly isovist_in corner_directions wall_between runs_of triangle_of turns_before near_wall_of stop_of blocker_hit corner_hit start_hit along axial_lines do_rsegments_touch crossing_graph cuts_of pieces_of turn_of costs_within turn_depths_of do_touch
 a_point_that_nothing_sees_reaches_itself = refl
 
 -- ---- axial lines
@@ -170,11 +171,11 @@ the_lines_of_an_empty_room_and_their_crossings :
     ∷ codes "3 1 2 10/1 0/1 10/1 10/1" ∷ codes "4 1 3 10/1 0/1 0/1 10/1" ∷ codes "5 2 3 10/1 10/1 0/1 10/1" ∷ codes "end 6"
     ∷ codes "table lines" ∷ codes "0 4 6 6 6/5 1/10" ∷ codes "1 5 6 5 1/1 0/1" ∷ codes "2 4 6 6 6/5 1/10"
     ∷ codes "3 4 6 6 6/5 1/10" ∷ codes "4 5 6 5 1/1 0/1" ∷ codes "5 4 6 6 6/5 1/10" ∷ codes "end 6" ∷ [])
-unfolding points_table isovist_table axial_table lines_table segments_table turns_table depth_table measures_of depth_of reduced common_divisor digits visibility_edges grid_points is_open is_inside passes_right are_in_sight is_blocked leaves_wall corner_stops is_in_cone walls_round corners_round is_counterclockwise edges_to is_on_segment cross_properly isovist_in corner_directions wall_between runs_of triangle_of turns_before near_wall_of stop_of line_hit corner_hit start_hit along axial_lines do_places_touch crossing_graph cuts_of pieces_of turn_of costs_within turn_depths_of do_touch
+unfolding points_table isovist_table axial_table lines_table segments_table turns_table depth_table measures_of depth_of reduced common_divisor digits visibility_edges grid_points is_open is_inside passes_right are_in_sight is_blocked starts_into_wall corner_stops is_in_cone oriented_walls oriented_corners is_counterclockwise edges_to is_on_segment cross_properly isovist_in corner_directions wall_between runs_of triangle_of turns_before near_wall_of stop_of blocker_hit corner_hit start_hit along axial_lines do_rsegments_touch crossing_graph cuts_of pieces_of turn_of costs_within turn_depths_of do_touch
 the_lines_of_an_empty_room_and_their_crossings = refl
 
 a_box_in_the_middle_leaves_twenty_lines : length (axial_lines (scene_of (room_with middle))) ≡ 20
-unfolding points_table isovist_table axial_table lines_table segments_table turns_table depth_table measures_of depth_of reduced common_divisor digits visibility_edges grid_points is_open is_inside passes_right are_in_sight is_blocked leaves_wall corner_stops is_in_cone walls_round corners_round is_counterclockwise edges_to is_on_segment cross_properly isovist_in corner_directions wall_between runs_of triangle_of turns_before near_wall_of stop_of line_hit corner_hit start_hit along axial_lines do_places_touch crossing_graph cuts_of pieces_of turn_of costs_within turn_depths_of do_touch
+unfolding points_table isovist_table axial_table lines_table segments_table turns_table depth_table measures_of depth_of reduced common_divisor digits visibility_edges grid_points is_open is_inside passes_right are_in_sight is_blocked starts_into_wall corner_stops is_in_cone oriented_walls oriented_corners is_counterclockwise edges_to is_on_segment cross_properly isovist_in corner_directions wall_between runs_of triangle_of turns_before near_wall_of stop_of blocker_hit corner_hit start_hit along axial_lines do_rsegments_touch crossing_graph cuts_of pieces_of turn_of costs_within turn_depths_of do_touch
 a_box_in_the_middle_leaves_twenty_lines = refl
 
 -- ---- routes
@@ -190,7 +191,7 @@ turns_and_pieces_of_two_routes_that_cross :
     ∷ codes "3 8" ∷ codes "total 4 16 16/3" ∷ codes "end 4" ∷ codes "table segments"
     ∷ codes "0 A 0/1 0/1 5/1 0/1 3" ∷ codes "1 A 5/1 0/1 10/1 0/1 3" ∷ codes "2 B 5/1 -5/1 5/1 0/1 3" ∷ codes "3 B 5/1 0/1 5/1 5/1 3"
     ∷ codes "end 4" ∷ [])
-unfolding points_table isovist_table axial_table lines_table segments_table turns_table depth_table measures_of depth_of reduced common_divisor digits visibility_edges grid_points is_open is_inside passes_right are_in_sight is_blocked leaves_wall corner_stops is_in_cone walls_round corners_round is_counterclockwise edges_to is_on_segment cross_properly isovist_in corner_directions wall_between runs_of triangle_of turns_before near_wall_of stop_of line_hit corner_hit start_hit along axial_lines do_places_touch crossing_graph cuts_of pieces_of turn_of costs_within turn_depths_of do_touch
+unfolding points_table isovist_table axial_table lines_table segments_table turns_table depth_table measures_of depth_of reduced common_divisor digits visibility_edges grid_points is_open is_inside passes_right are_in_sight is_blocked starts_into_wall corner_stops is_in_cone oriented_walls oriented_corners is_counterclockwise edges_to is_on_segment cross_properly isovist_in corner_directions wall_between runs_of triangle_of turns_before near_wall_of stop_of blocker_hit corner_hit start_hit along axial_lines do_rsegments_touch crossing_graph cuts_of pieces_of turn_of costs_within turn_depths_of do_touch
 turns_and_pieces_of_two_routes_that_cross = refl
 
 -- two routes that share an end
@@ -202,5 +203,5 @@ a_shared_end_is_turned_at :
     ≡ ended (
     codes "table turns" ∷ codes "0 0" ∷ codes "1 8" ∷ codes "total 2 8 8/1"
     ∷ codes "end 2" ∷ [])
-unfolding points_table isovist_table axial_table lines_table segments_table turns_table depth_table measures_of depth_of reduced common_divisor digits visibility_edges grid_points is_open is_inside passes_right are_in_sight is_blocked leaves_wall corner_stops is_in_cone walls_round corners_round is_counterclockwise edges_to is_on_segment cross_properly isovist_in corner_directions wall_between runs_of triangle_of turns_before near_wall_of stop_of line_hit corner_hit start_hit along axial_lines do_places_touch crossing_graph cuts_of pieces_of turn_of costs_within turn_depths_of do_touch
+unfolding points_table isovist_table axial_table lines_table segments_table turns_table depth_table measures_of depth_of reduced common_divisor digits visibility_edges grid_points is_open is_inside passes_right are_in_sight is_blocked starts_into_wall corner_stops is_in_cone oriented_walls oriented_corners is_counterclockwise edges_to is_on_segment cross_properly isovist_in corner_directions wall_between runs_of triangle_of turns_before near_wall_of stop_of blocker_hit corner_hit start_hit along axial_lines do_rsegments_touch crossing_graph cuts_of pieces_of turn_of costs_within turn_depths_of do_touch
 a_shared_end_is_turned_at = refl

@@ -1,11 +1,7 @@
-pub mod Shapes
-pub mod PlanText
-pub mod ScriptText
 pub mod Records
 pub mod Tables
 pub mod Replies
 pub mod Trial
 pub mod PlanFile
-pub mod Options
 pub mod Output
 pub mod Messages

@@ -1,14 +1,14 @@
 -- The whole output: of a plan by its mode, of a trial, and by the options.
 use Rattle.std.specs.Prelude.{ℕ, Bool, false, ◌||◌, List, [], ◌∷◌, ◌++◌, Option, Some, None, if◌then◌else◌}
 use Rattle.plan_spec.specs.Plan.{Plan}
-use Rattle.plan_spec.specs.Scene.{scene_of}
-use Rattle.report_spec.specs.declared.replies.Form.{Form}
-use Rattle.report_spec.specs.declared.replies.Mode.{Mode}
-use Rattle.report_spec.specs.declared.replies.Mode.TheVariants.{Vga, Isovists, AxialMap, Segments, Check}
-use Rattle.report_spec.specs.declared.replies.Reason.TheVariants.{Lines as LinesReason}
-use Rattle.report_spec.specs.declared.options.Job.{Job}
-use Rattle.report_spec.specs.declared.options.Job.TheVariants.{Analyse, Trial}
-use Rattle.report_spec.specs.declared.options.Options.{Options}
+use Rattle.sight_spec.specs.Scene.{scene_of}
+use Rattle.options_spec.specs.declared.options.Form.{Form}
+use Rattle.options_spec.specs.declared.options.Mode.{Mode}
+use Rattle.options_spec.specs.declared.options.Mode.TheVariants.{Vga, Isovists, AxialMap, Segments, Check}
+use Rattle.report_spec.specs.declared.reason.Reason.TheVariants.{Lines as LinesReason}
+use Rattle.options_spec.specs.declared.options.Job.{Job}
+use Rattle.options_spec.specs.declared.options.Job.TheVariants.{Analyse, Trial}
+use Rattle.options_spec.specs.declared.options.Options.{Options}
 use Rattle.report_spec.specs.Records.{records_bytes}
 use Rattle.report_spec.specs.Tables.{edges_table_of, points_table_of, isovists_table_of, axial_table_of, lines_table_of}
 use Rattle.report_spec.specs.Tables.{segments_table_of, plan_table_of}

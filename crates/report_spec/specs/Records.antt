@@ -2,9 +2,9 @@
 use Rattle.std.specs.Prelude.{ℕ, List, [], ◌∷◌, ◌++◌, length, flat_map, codes, Option, Some, None}
 use Rattle.std.specs.Fmt.{decimal, signed_decimal}
 use Rattle.std.specs.List.{join_with_byte}
-use Rattle.plane_spec.specs.Fractions.{Fraction, Place}
-use Rattle.report_spec.specs.declared.replies.Form.{Form}
-use Rattle.report_spec.specs.declared.replies.Form.TheVariants.{Text, Csv}
+use Rattle.plane_spec.specs.Fractions.{Fraction, RPoint}
+use Rattle.options_spec.specs.declared.options.Form.{Form}
+use Rattle.options_spec.specs.declared.options.Form.TheVariants.{Text, Csv}
 
 -- ---- fields
 
@@ -23,8 +23,8 @@ fraction_or_dash None = codes "-"
 fraction_or_dash (Some f) = fraction_field f
 
 -- the two coordinates of a point with fractions
-abbrev pub place_fields : Place → List (List ℕ)
-place_fields p = fraction_field p.x ∷ fraction_field p.y ∷ []
+abbrev pub rpoint_fields : RPoint → List (List ℕ)
+rpoint_fields p = fraction_field p.x ∷ fraction_field p.y ∷ []
 
 -- ---- records
 

@@ -4,27 +4,27 @@ use Rattle.std.specs.Fmt.{decimal}
 use Rattle.std.specs.List.{position}
 use Rattle.plane_spec.specs.declared.Point.{Point}
 use Rattle.plane_spec.specs.Vectors.{is_in_range}
-use Rattle.plan_spec.specs.declared.changes.Edit.{Edit}
-use Rattle.plan_spec.specs.declared.refusals.Why.{Why}
-use Rattle.plan_spec.specs.declared.refusals.Why.TheVariants.{Order, Count, Range, Repeat, Cross, Outside, Touch, Screen, NameTaken, Missing, Full, Overlap}
-use Rattle.plan_spec.specs.declared.refusals.Limit.{Limit}
-use Rattle.plan_spec.specs.declared.refusals.Limit.TheVariants.{Obstacles, Corners, Screens, Routes, Points as GridPoints}
+use Rattle.plan_spec.specs.declared.edit.Edit.{Edit}
+use Rattle.plan_spec.specs.declared.why.Why.{Why}
+use Rattle.plan_spec.specs.declared.why.Why.TheVariants.{Order, Count, Range, Repeat, Cross, Outside, Touch, Screen, NameTaken, Missing, Full, Overlap}
+use Rattle.plan_spec.specs.declared.why.Limit.{Limit}
+use Rattle.plan_spec.specs.declared.why.Limit.TheVariants.{Obstacles, Corners, Screens, Routes, Points as GridPoints}
 use Rattle.plan_spec.specs.Plan.{Plan, is_route_named}
-use Rattle.plan_spec.specs.Edits.{why_not_edit, edited}
-use Rattle.plan_spec.specs.Scene.{Scene, scene_of}
-use Rattle.plan_spec.specs.Sight.{is_open}
+use Rattle.plan_spec.specs.Edits.{why_not_edit, plan_after_edit}
+use Rattle.sight_spec.specs.Scene.{Scene, scene_of}
+use Rattle.sight_spec.specs.Sight.{is_open}
 use Rattle.plan_spec.specs.Grid.{number_of_point}
-use Rattle.plan_spec.specs.Axial.{axial_lines}
-use Rattle.plan_spec.specs.Routes.{pieces_of}
-use Rattle.report_spec.specs.declared.readings.TextWhy.{TextWhy}
-use Rattle.report_spec.specs.declared.readings.TextWhy.TheVariants.{Long, Kind, Words, Name, Number}
-use Rattle.report_spec.specs.declared.script_line.Query.{Query}
-use Rattle.report_spec.specs.declared.script_line.Query.TheVariants.{Edges, Points, Axial, Lines, Segments, Plan as PlanQuery, Depth, Isovist, Turns}
-use Rattle.report_spec.specs.declared.script_line.Line.{Line}
-use Rattle.report_spec.specs.declared.script_line.Line.TheVariants.{Blank, Edit as OfEdit, Query as OfQuery}
-use Rattle.report_spec.specs.declared.replies.Reason.{Reason}
-use Rattle.report_spec.specs.declared.replies.Reason.TheVariants.{Text as TextReason, Edit as EditReason, NoPoint, Closed, Lines as LinesReason}
-use Rattle.report_spec.specs.ScriptText.{read_line_of_script}
+use Rattle.sight_spec.specs.Axial.{axial_lines}
+use Rattle.route_spec.specs.Routes.{pieces_of}
+use Rattle.grammar_spec.specs.declared.text_why.TextWhy.{TextWhy}
+use Rattle.grammar_spec.specs.declared.text_why.TextWhy.TheVariants.{Long, Kind, Words, Name, Number}
+use Rattle.grammar_spec.specs.declared.script_line.Query.{Query}
+use Rattle.grammar_spec.specs.declared.script_line.Query.TheVariants.{Edges, Points, Axial, Lines, Segments, Plan as PlanQuery, Depth, Isovist, Turns}
+use Rattle.grammar_spec.specs.declared.script_line.Line.{Line}
+use Rattle.grammar_spec.specs.declared.script_line.Line.TheVariants.{Blank, Edit as OfEdit, Query as OfQuery}
+use Rattle.report_spec.specs.declared.reason.Reason.{Reason}
+use Rattle.report_spec.specs.declared.reason.Reason.TheVariants.{Text as TextReason, Edit as EditReason, NoPoint, Closed, Lines as LinesReason}
+use Rattle.grammar_spec.specs.ScriptText.{read_line_of_script}
 use Rattle.report_spec.specs.Tables.{edges_table_of, points_table_of, depth_table_of, isovist_table_of, axial_table_of, lines_table_of, segments_table_of, turns_table_of, plan_table_of}
 
 -- ---- causes as they are printed
@@ -137,7 +137,7 @@ refusal plan number reason = record { plan = plan; records = refused_record numb
 
 -- what a line with an edit does: where nothing refuses the edit, the plan is changed, and the reply is `ok`
 abbrev pub edit_step : Plan → ℕ → Edit → Option Why → Step
-edit_step plan number edit None = record { plan = edited plan edit; records = ok_record number ∷ []; refused = false }
+edit_step plan number edit None = record { plan = plan_after_edit plan edit; records = ok_record number ∷ []; refused = false }
 edit_step plan number edit (Some why) = refusal plan number (EditReason why)
 
 -- what a line with a question does: the plan stays, and the reply is `ok` and the table, or the refusal

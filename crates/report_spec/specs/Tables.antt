@@ -3,17 +3,17 @@ use Rattle.std.specs.Prelude.{ℕ, ◌-◌, nat_le, List, [], ◌∷◌, ◌++�
 use Rattle.std.specs.Fmt.{decimal, signed_decimal}
 use Rattle.std.specs.List.{enumerate_from}
 use Rattle.plane_spec.specs.declared.Point.{Point}
-use Rattle.plan_spec.specs.declared.kinds.Item.{Item}
-use Rattle.plan_spec.specs.declared.kinds.Route.{Route}
+use Rattle.plan_spec.specs.declared.item.Item.{Item}
+use Rattle.plan_spec.specs.declared.item.Route.{Route}
 use Rattle.plan_spec.specs.Plan.{Plan, items_of}
-use Rattle.plan_spec.specs.Scene.{scene_of}
-use Rattle.plan_spec.specs.Grid.{open_points, visibility_edges, visibility_graph}
-use Rattle.plan_spec.specs.Isovist.{Isovist, Triangle, isovist_in}
-use Rattle.plan_spec.specs.Graphs.{Measures, depths_of, measures_of_nodes, mean_depth, no_measures, total_depth}
-use Rattle.plan_spec.specs.Axial.{AxialLine, axial_lines, crossing_graph}
-use Rattle.plan_spec.specs.Routes.{Piece, pieces_of, neighbour_counts, turn_depths_of}
-use Rattle.report_spec.specs.Records.{fraction_field, number_or_dash, fraction_or_dash, place_fields, table, table_with_total}
-use Rattle.report_spec.specs.PlanText.{plan_words}
+use Rattle.sight_spec.specs.Scene.{scene_of}
+use Rattle.sight_spec.specs.Visibility.{open_points, visibility_edges, visibility_graph}
+use Rattle.sight_spec.specs.Isovist.{Isovist, Triangle, isovist_in}
+use Rattle.graph_spec.specs.Graphs.{Measures, depths_of, measures_of_nodes, mean_depth, no_measures, total_depth}
+use Rattle.sight_spec.specs.Axial.{AxialLine, axial_lines, crossing_graph}
+use Rattle.route_spec.specs.Routes.{Piece, pieces_of, neighbour_counts, turn_depths_of}
+use Rattle.report_spec.specs.Records.{fraction_field, number_or_dash, fraction_or_dash, rpoint_fields, table, table_with_total}
+use Rattle.grammar_spec.specs.PlanText.{plan_words}
 
 -- ---- the visibility graph
 
@@ -52,7 +52,7 @@ depth_table points depths = table (codes "depth") (map (depth_row depths) points
 
 -- from x, from y, to x, to y, doubled area
 abbrev pub triangle_row : Triangle → List (List ℕ)
-triangle_row t = place_fields t.from ++ (place_fields t.to ++ fraction_field t.doubled_area ∷ [])
+triangle_row t = rpoint_fields t.from ++ (rpoint_fields t.to ++ fraction_field t.doubled_area ∷ [])
 
 -- the triangles; then the sums of the floors and of the ceilings of their doubled areas
 unfoldable pub isovist_table : Isovist → List (List (List ℕ))
@@ -74,7 +74,7 @@ isovists_table isovists = table (codes "isovists") (map isovist_row isovists)
 -- number, first corner, second corner, from x, from y, to x, to y
 abbrev pub axial_row : ℕ × AxialLine → List (List ℕ)
 axial_row e =
-    decimal e.0 ∷ decimal e.1.first ∷ decimal e.1.second ∷ (place_fields e.1.from ++ place_fields e.1.to)
+    decimal e.0 ∷ decimal e.1.first ∷ decimal e.1.second ∷ (rpoint_fields e.1.from ++ rpoint_fields e.1.to)
 
 -- the lines by their numbers: number, first corner, second corner, from x, from y, to x, to y
 unfoldable pub axial_table : List AxialLine → List (List (List ℕ))
@@ -99,7 +99,7 @@ route_name (r ∷ routes) k = if nat_le 1 k then route_name routes (k - 1) else 
 abbrev pub segment_row : List Route → List ℕ → ℕ × Piece → List (List ℕ)
 segment_row routes neighbours e =
     decimal e.0 ∷ route_name routes e.1.route
-    ∷ (place_fields e.1.from ++ (place_fields e.1.to ++ decimal (get_or neighbours e.0 0) ∷ []))
+    ∷ (rpoint_fields e.1.from ++ (rpoint_fields e.1.to ++ decimal (get_or neighbours e.0 0) ∷ []))
 
 -- the pieces of routes, by how many neighbours each has: number, route name, from x, from y, to x, to y, neighbours
 unfoldable pub segments_table : List Route → List Piece → List ℕ → List (List (List ℕ))

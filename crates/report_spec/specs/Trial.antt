@@ -4,11 +4,12 @@ use Rattle.std.specs.Fmt.{decimal}
 use Rattle.std.specs.List.{range_with_len, sum_by}
 use Rattle.plane_spec.specs.declared.Point.{Point}
 use Rattle.plane_spec.specs.Vectors.{point}
-use Rattle.plan_spec.specs.declared.kinds.Item.{Item}
-use Rattle.plan_spec.specs.declared.kinds.Item.TheVariants.{Grid, Outer, Obstacle}
+use Rattle.plan_spec.specs.declared.item.Item.{Item}
+use Rattle.plan_spec.specs.declared.item.Item.TheVariants.{Grid, Outer, Obstacle}
 use Rattle.plan_spec.specs.Plan.{Plan, empty_plan, with_items}
-use Rattle.plan_spec.specs.Grid.{grid_points, open_points, visibility_edges, visibility_graph}
-use Rattle.plan_spec.specs.Graphs.{Graph, depths_of, total_depth}
+use Rattle.plan_spec.specs.Grid.{grid_points}
+use Rattle.sight_spec.specs.Visibility.{open_points, visibility_edges, visibility_graph}
+use Rattle.graph_spec.specs.Graphs.{Graph, depths_of, total_depth}
 
 -- the least number from `root` on, of so many, whose square is at least n
 abbrev pub root_from : ℕ → ℕ → ℕ → ℕ

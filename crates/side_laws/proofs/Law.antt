@@ -16,7 +16,7 @@ use Rattle.side_laws.proofs.Rights.{in_the_middle, two_up, turned_sound}
 use Rattle.side_laws.proofs.Scaled.{scaled_sound}
 use Rattle.side_laws.proofs.Sides.{side_middle}
 use Rattle.side_laws.proofs.Simple.{IsSimple, sound}
-use Rattle.plan_spec.specs.Scene.{turned_edge}
+use Rattle.sight_spec.specs.Scene.{turned_edge}
 
 doubled_left : (a b d : Point) → pos 0 <ℤ cross_of (vector a b) d
     → pos 0 <ℤ cross_of (vector (scaled (pos 2) (pos 2) a) (scaled (pos 2) (pos 2) b)) d
@@ -31,8 +31,8 @@ doubled_left a b d h = by_parts a.x a.y b.x b.y d.x d.y h
         let second = ap (λ t. t *ℤ dx) z ∙ sum_times (by -ℤ ay) (by -ℤ ay) dx in
         omega (arith, ints, h, first, second)
 
-pub goes_round : (edges : List Segment) (k : ℤ) → IsSound edges k → GoesRoundOnLeft edges k
-goes_round edges k s e d there left =
+pub has_orientation : (edges : List Segment) (k : ℤ) → IsSound edges k → GoesRoundOnLeft edges k
+has_orientation edges k s e d there left =
     let e_there = from_contains edges e there in
     let twice = scaled_sound (pos 2) (pos 2) edges k two_up two_up s in
     let e2 = scaled_wall (pos 2) (pos 2) e in
@@ -66,4 +66,4 @@ sides_of_simple [] h = cc
 sides_of_simple (start ∷ points) h =
     let s = sound start points (simple_from start points h) in
     let edges = edges_of (start ∷ points) in
-    (s.0, goes_round edges s.0 s.1, goes_round (map turned_edge edges) (pos 1 -ℤ s.0) (turned_sound edges s.0 s.1))
+    (s.0, has_orientation edges s.0 s.1, has_orientation (map turned_edge edges) (pos 1 -ℤ s.0) (turned_sound edges s.0 s.1))

@@ -37,7 +37,7 @@ use Rattle.side_laws.proofs.Corners.{clears_before, clears_later, clears_other, 
 use Rattle.side_laws.proofs.Sound.{Distinct, IsSound, on_one, SidesOf}
 use Rattle.side_laws.proofs.Turned.{back, back_way, turned_along, alone_turned, corner_turned, distinct_turned}
 use Rattle.side_laws.proofs.Scaled.{alone_scaled, corner_scaled, scaled_sound}
-use Rattle.plan_spec.specs.Scene.{turned_edge}
+use Rattle.sight_spec.specs.Scene.{turned_edge}
 use Rattle.side_laws.specs.Sides.{middle_of}
 
 -- ---- from the middle of a wall back to its corner

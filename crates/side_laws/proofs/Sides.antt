@@ -16,7 +16,7 @@ use Rattle.int_laws.proofs.Ring.{times_sum, times_zero, cross_across, cross_of_t
 use Rattle.int_laws.proofs.Signs.{zero_factor, tested_not_positive, tested_positive}
 use Rattle.plane_spec.specs.declared.Point.{Point}
 use Rattle.plane_spec.specs.declared.Segment.{Segment}
-use Rattle.plane_spec.specs.Vectors.{cross_of, dot_of, orient_of, same_point, vector, point, is_left, lies_left}
+use Rattle.plane_spec.specs.Vectors.{cross_of, dot_of, orient_of, same_point, vector, point, turns_left, is_left_of_line}
 use Rattle.plane_spec.specs.Segments.{is_on_segment, do_touch}
 use Rattle.plane_spec.specs.Cones.{corner, is_in_cone}
 use Rattle.exact_geom.proofs.Orientation.{orient_of_cycled}
@@ -302,17 +302,17 @@ left_of_either edges u v z e k closed c side turn either =
 pub side_cone : (edges : List Segment) (u v z e : Point) (k : ℤ) → AreClosed edges → IsCornerOf edges u v z
     → SideAt edges u v z k → is_in_cone (corner u v z) e ≡ true → GoesRoundOff edges v e k
 unfolding is_in_cone
-side_cone edges u v z e k closed c side h = by_turn (lies_left u v z) refl h
+side_cone edges u v z e k closed c side h = by_turn (is_left_of_line u v z) refl h
   where
-    by_turn : (t : Bool) → lies_left u v z ≡ t
-        → (if t then (is_left (vector u v) e && is_left (vector v z) e)
-        else (is_left (vector u v) e || is_left (vector v z) e)) ≡ true → GoesRoundOff edges v e k
+    by_turn : (t : Bool) → is_left_of_line u v z ≡ t
+        → (if t then (turns_left (vector u v) e && turns_left (vector v z) e)
+        else (turns_left (vector u v) e || turns_left (vector v z) e)) ≡ true → GoesRoundOff edges v e k
     by_turn true turn k =
-        let parts = and_parts (is_left (vector u v) e) (is_left (vector v z) e) k in
+        let parts = and_parts (turns_left (vector u v) e) (turns_left (vector v z) e) k in
         side e (tested_positive (cross_of (vector u v) e) parts.0) (tested_positive (cross_of (vector v z) e) parts.1)
     by_turn false turn i =
         left_of_either edges u v z e k closed c side (tested_not_positive (orient_of u v z) turn)
-        (elim (or_cases (is_left (vector u v) e) (is_left (vector v z) e) i) [
+        (elim (or_cases (turns_left (vector u v) e) (turns_left (vector v z) e) i) [
           | inl j ↦ inl (tested_positive (cross_of (vector u v) e) j)
           | inr j ↦ inr (tested_positive (cross_of (vector v z) e) j)
         ])

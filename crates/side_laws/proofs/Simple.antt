@@ -9,7 +9,7 @@ use Rattle.std.proofs.lemmas.Int.{by_lt_z, ints}
 use Rattle.plane_spec.specs.declared.Segment.{Segment}
 use Rattle.plane_spec.specs.declared.Point.{Point}
 use Rattle.plane_spec.specs.Segments.{cross_properly, do_touch, is_on_segment}
-use Rattle.plane_spec.specs.Polygons.{edges_touch, edges_to, crosses_nowhere, has_repeat, edges_of, may_stand}
+use Rattle.plane_spec.specs.Polygons.{edges_touch, edges_to, crosses_nowhere, has_repeat, edges_of, may_be_edges}
 use Rattle.plane_spec.specs.Polygons.{folds_back, is_nothing}
 use Rattle.plane_spec.specs.Lists.{numbered_pairs, pairs, with_each}
 use Rattle.plane_spec.specs.Vectors.{same_point}
@@ -62,10 +62,10 @@ pub record IsSimple (start : Point) (points : List Point) : Type 0 where
 
 stands : (start : Point) (points : List Point) → IsSimple start points → (i j : ℕ) (e f : Segment)
     → IsNumbered start points i e → IsNumbered start points j f → i < j
-    → may_stand (length (start ∷ points)) ((i, e), (j, f)) ≡ true
+    → may_be_edges (length (start ∷ points)) ((i, e), (j, f)) ≡ true
 unfolding crosses_nowhere
 stands start points simple i j e f h k less =
-    each_passes (may_stand (length (start ∷ points))) (numbered_pairs (edges_of (start ∷ points)))
+    each_passes (may_be_edges (length (start ∷ points))) (numbered_pairs (edges_of (start ∷ points)))
     ((i, e), (j, f)) simple.stand (two_edges 0 (edges_of (start ∷ points)) i j e f h k less)
 
 -- the edge of number j stands before that of number i
@@ -252,8 +252,8 @@ pub true_if_not : (t : Bool) → (t ≡ false → ⊥) → t ≡ true
 true_if_not true never = refl
 true_if_not false never = absurd (never refl)
 
-not_itself : (count : ℕ) (i j : ℕ) (e f : Segment) → may_stand count ((i, e), (j, f)) ≡ true → e ≡ f → ⊥
-unfolding may_stand
+not_itself : (count : ℕ) (i j : ℕ) (e f : Segment) → may_be_edges count ((i, e), (j, f)) ≡ true → e ≡ f → ⊥
+unfolding may_be_edges
 not_itself count i j e f h same =
     by_tests (j == i + 1) ((i == 0) && (j + 1 == count)) (folds_back e f) (folds_back f e) (edges_touch e f) h
     (folded e f same) (folded f e (sym same)) (touched e f same)
@@ -284,7 +284,7 @@ unfolding crosses_nowhere
 distinct start points simple =
     distinct_from 0 (edges_of (start ∷ points))
     (λ e there same. not_itself (length (start ∷ points)) e.0.0 e.1.0 e.0.1 e.1.1
-    (each_passes (may_stand (length (start ∷ points)))
+    (each_passes (may_be_edges (length (start ∷ points)))
     (numbered_pairs (edges_of (start ∷ points))) e simple.stand there) same)
 
 -- from the first edge on, each has the same winding on its left

@@ -22,7 +22,7 @@ use Rattle.plane_laws.proofs.Segments.Shared.{none_shared}
 use Rattle.winding_laws.proofs.Closed.{AreClosed}
 use Rattle.side_laws.proofs.Sides.{IsCornerOf, KeepsApart, SideAt, wall, Inward}
 use Rattle.side_laws.proofs.Corners.{way_positive}
-use Rattle.plan_spec.specs.Scene.{turned_edge}
+use Rattle.sight_spec.specs.Scene.{turned_edge}
 
 -- no element of the list occurs twice
 abbrev pub Distinct : List Segment → Type 0

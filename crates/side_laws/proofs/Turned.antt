@@ -13,7 +13,7 @@ use Rattle.plane_laws.proofs.Lists.Members.{source, IsIn}
 use Rattle.plane_laws.proofs.Points.Between.{IsAlong}
 use Rattle.side_laws.proofs.Sides.{IsCornerOf, wall, KeepsApart}
 use Rattle.side_laws.proofs.Sound.{Distinct}
-use Rattle.plan_spec.specs.Scene.{turned_edge}
+use Rattle.sight_spec.specs.Scene.{turned_edge}
 
 -- ---- edges turned round
 

@@ -27,7 +27,7 @@
 ghost use Rattle.std.specs.Prelude.{List, map, pos, true, ℤ, ◌-ℤ◌, ◌≡◌};
 ghost use Rattle.plane_spec.specs.declared.Point.{Point};
 ghost use Rattle.plane_spec.specs.Polygons.{edges_of, is_simple};
-ghost use Rattle.plan_spec.specs.Scene.{turned_edge};
+ghost use Rattle.sight_spec.specs.Scene.{turned_edge};
 ghost use Rattle.side_laws.specs.Sides.{GoesRoundOnLeft};
 
 /// Of a simple polygon there is one number k: close to the middle of each edge, the edges go round k times on its

@@ -10,7 +10,7 @@ use Rattle.plane_spec.specs.declared.Orientation.{Orientation}
 use Rattle.plane_spec.specs.Vectors.{cross_of}
 use Rattle.plane_spec.specs.Polygons.{edges_of, doubled_area, is_counterclockwise}
 use Rattle.exact_geom.proofs.Edges.{edges_of-end, length-edges_of}
-use Rattle.plan_spec.specs.Scene.{goes_round, walls_round, corners_after, last_edge, corners_along, corners_round}
+use Rattle.sight_spec.specs.Scene.{has_orientation, oriented_walls, corners_after, last_edge, corners_along, oriented_corners}
 use Rattle.sight_core.specs.Turned.{directed_edges, directed_corners}
 
 -- past the last edge the sum so far is the whole
@@ -38,26 +38,26 @@ no_corners true = refl
 no_corners false = refl
 
 -- past the last edge all walls are there
-pub walls_all : (way : Orientation) (keep : Bool) (points : List Point) (k : ℕ) (old walls : List Segment) → keep ≡ goes_round way points → length points ≤ k
-    → walls ++ directed_edges keep (drop k (edges_of points)) ≡ old ++ directed_edges keep (edges_of points) → walls ≡ old ++ walls_round way points
-unfolding walls_round
+pub walls_all : (way : Orientation) (keep : Bool) (points : List Point) (k : ℕ) (old walls : List Segment) → keep ≡ has_orientation way points → length points ≤ k
+    → walls ++ directed_edges keep (drop k (edges_of points)) ≡ old ++ directed_edges keep (edges_of points) → walls ≡ old ++ oriented_walls way points
+unfolding oriented_walls
 walls_all way keep points k old walls way_is h e =
     let none = ap (λ t. walls ++ directed_edges keep t) (edges_of-end points k h) ∙ ap (λ t. walls ++ t) (no_edges keep) ∙ append-nil walls in
     sym none ∙ e ∙ ap (λ t. old ++ directed_edges t (edges_of points)) way_is
 
 -- past the last edge all corners are there
-pub corners_all : (way : Orientation) (keep : Bool) (points : List Point) (k : ℕ) (before : Segment) (old corners : List Corner) → keep ≡ goes_round way points → length points ≤ k
+pub corners_all : (way : Orientation) (keep : Bool) (points : List Point) (k : ℕ) (before : Segment) (old corners : List Corner) → keep ≡ has_orientation way points → length points ≤ k
     → corners ++ directed_corners keep (corners_after before (drop k (edges_of points))) ≡ old ++ directed_corners keep (corners_along (edges_of points))
-    → corners ≡ old ++ corners_round way points
-unfolding corners_round
+    → corners ≡ old ++ oriented_corners way points
+unfolding oriented_corners
 corners_all way keep points k before old corners way_is h e =
     let none = ap (λ t. corners ++ directed_corners keep (corners_after before t)) (edges_of-end points k h) ∙ ap (λ t. corners ++ t) (no_corners keep) ∙ append-nil corners in
     sym none ∙ e ∙ ap (λ t. old ++ directed_corners t (corners_along (edges_of points))) way_is
 
 -- a polygon without points has no corners
-pub no_points : (way : Orientation) (points : List Point) (old : List Corner) → length points ≡ 0 → old ≡ old ++ corners_round way points
-unfolding corners_round
-no_points way [] old h = elim (goes_round way []) as (λ b. old ≡ old ++ directed_corners b []) [ true ↦ sym (append-nil old) | false ↦ sym (append-nil old) ]
+pub no_points : (way : Orientation) (points : List Point) (old : List Corner) → length points ≡ 0 → old ≡ old ++ oriented_corners way points
+unfolding oriented_corners
+no_points way [] old h = elim (has_orientation way []) as (λ b. old ≡ old ++ directed_corners b []) [ true ↦ sym (append-nil old) | false ↦ sym (append-nil old) ]
 no_points way (p ∷ points) old h = absurd (omega arith)
 
 last_of : (e x : Segment) (edges : List Segment) (k : ℕ) → drop k (e ∷ edges) ≡ x ∷ [] → last_edge e edges ≡ x

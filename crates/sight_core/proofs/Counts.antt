@@ -10,19 +10,19 @@ use Rattle.plane_spec.specs.declared.Orientation.{Orientation}
 use Rattle.plane_spec.specs.declared.Orientation.TheVariants.{Counterclockwise, Clockwise}
 use Rattle.plane_spec.specs.Polygons.{edges_of}
 use Rattle.exact_geom.proofs.Edges.{length-edges_of}
-use Rattle.plan_spec.specs.declared.kinds.Screen.{Screen}
+use Rattle.plan_spec.specs.declared.item.Screen.{Screen}
 use Rattle.plan_spec.specs.Plan.{Plan, corner_count, corners_of_obstacle_count}
 use Rattle.plan_spec.specs.Accepted.{is_sound}
-use Rattle.plan_spec.specs.Scene.{Scene, turned_edge, goes_round, walls_round, walls_of_obstacle, walls_of, segment_of_screen, screens_of, corners_after, last_edge, corners_along, turned_corner, corners_round, corners_of_obstacle, ends_of_screen, corners_of}
+use Rattle.sight_spec.specs.Scene.{Scene, turned_edge, has_orientation, oriented_walls, walls_of_obstacle, walls_of, segment_of_screen, screens_of, corners_after, last_edge, corners_along, turned_corner, oriented_corners, corners_of_obstacle, ends_of_screen, corners_of}
 use Rattle.plan_laws.proofs.Ranges.{sound_limits}
 use Rattle.sight_core.specs.Scenes.{IsOfSoundPlan}
 
 -- ---- one polygon: as many walls and corners as points
 
-length-walls_round : (way : Orientation) (points : List Point) → length (walls_round way points) ≡ length points
-unfolding walls_round
-length-walls_round way points =
-    elim (goes_round way points) as (λ keep. length (if keep then edges_of points else map turned_edge (edges_of points)) ≡ length points) [
+length-oriented_walls : (way : Orientation) (points : List Point) → length (oriented_walls way points) ≡ length points
+unfolding oriented_walls
+length-oriented_walls way points =
+    elim (has_orientation way points) as (λ keep. length (if keep then edges_of points else map turned_edge (edges_of points)) ≡ length points) [
       | true ↦ length-edges_of points
       | false ↦ length-map (edges_of points) turned_edge ∙ length-edges_of points
     ]
@@ -35,11 +35,11 @@ length-corners_along : (edges : List Segment) → length (corners_along edges) �
 length-corners_along [] = refl
 length-corners_along (e ∷ edges) = length-corners_after (last_edge e edges) (e ∷ edges)
 
-length-corners_round : (way : Orientation) (points : List Point) → length (corners_round way points) ≡ length points
-unfolding corners_round
-length-corners_round way points =
+length-oriented_corners : (way : Orientation) (points : List Point) → length (oriented_corners way points) ≡ length points
+unfolding oriented_corners
+length-oriented_corners way points =
     let all = length-corners_along (edges_of points) ∙ length-edges_of points in
-    elim (goes_round way points) as (λ keep. length (if keep then corners_along (edges_of points) else map turned_corner (corners_along (edges_of points))) ≡ length points) [
+    elim (has_orientation way points) as (λ keep. length (if keep then corners_along (edges_of points) else map turned_corner (corners_along (edges_of points))) ≡ length points) [
       | true ↦ all
       | false ↦ length-map (corners_along (edges_of points)) turned_corner ∙ all
     ]
@@ -64,18 +64,18 @@ length-ends (s ∷ screens) = let rest = length-ends screens in omega (arith, re
 -- the walls and the ends of the screens are as many as the corners that are counted
 walls_counted : (plan : Plan) → length (walls_of plan) + 2 * length plan.screens ≡ corner_count plan
 walls_counted plan =
-    let parts = length-append (walls_round Clockwise plan.outer) (flat_map walls_of_obstacle plan.obstacles) in
-    let outer = length-walls_round Clockwise plan.outer in
-    let obstacles = length-of_each walls_of_obstacle corners_of_obstacle_count (λ o. length-walls_round Counterclockwise o.points) plan.obstacles in
+    let parts = length-append (oriented_walls Clockwise plan.outer) (flat_map walls_of_obstacle plan.obstacles) in
+    let outer = length-oriented_walls Clockwise plan.outer in
+    let obstacles = length-of_each walls_of_obstacle corners_of_obstacle_count (λ o. length-oriented_walls Counterclockwise o.points) plan.obstacles in
     omega (arith, parts, outer, obstacles)
 
 -- so are the corners
 corners_counted : (plan : Plan) → length (corners_of plan) ≡ corner_count plan
 corners_counted plan =
-    let parts = length-append (corners_round Clockwise plan.outer) (flat_map corners_of_obstacle plan.obstacles ++ flat_map ends_of_screen plan.screens) in
+    let parts = length-append (oriented_corners Clockwise plan.outer) (flat_map corners_of_obstacle plan.obstacles ++ flat_map ends_of_screen plan.screens) in
     let more = length-append (flat_map corners_of_obstacle plan.obstacles) (flat_map ends_of_screen plan.screens) in
-    let outer = length-corners_round Clockwise plan.outer in
-    let obstacles = length-of_each corners_of_obstacle corners_of_obstacle_count (λ o. length-corners_round Counterclockwise o.points) plan.obstacles in
+    let outer = length-oriented_corners Clockwise plan.outer in
+    let obstacles = length-of_each corners_of_obstacle corners_of_obstacle_count (λ o. length-oriented_corners Counterclockwise o.points) plan.obstacles in
     let ends = length-ends plan.screens in
     omega (arith, parts, more, outer, obstacles, ends)
 

@@ -16,13 +16,13 @@ use Rattle.std.proofs.lemmas.List.Elements.{All-head, All-tail, All-nil}
 use Rattle.std.proofs.lemmas.List.Quantifiers.{position-Some}
 use Rattle.plane_spec.specs.declared.Point.{Point}
 use Rattle.plane_spec.specs.declared.Segment.{Segment}
-use Rattle.plane_spec.specs.Lists.{least}
+use Rattle.plane_spec.specs.Lists.{min_by}
 use Rattle.plane_spec.specs.Vectors.{cross_of, vector}
 use Rattle.plane_spec.specs.Fractions.{Fraction, fraction, is_before}
 use Rattle.exact_geom.proofs.Lowest.{fraction_is_positive}
 use Rattle.exact_geom.proofs.PlaceOrder.{before_transitive, before_follows}
-use Rattle.plan_spec.specs.Scene.{Scene, lines_of_scene}
-use Rattle.plan_spec.specs.Stops.{is_across, meeting, line_hit, is_nearest, near_wall_of}
+use Rattle.sight_spec.specs.Scene.{Scene, blockers_of_scene}
+use Rattle.sight_spec.specs.Stops.{is_across, wall_parameter, blocker_hit, is_nearest, near_wall_of}
 use Rattle.sight_core.specs.Hits.{is_no_later, is_hit_by, nearest_line_of}
 use Rattle.sight_core.proofs.Widths.{across_apart}
 use Rattle.sight_core.proofs.StopBounds.{passed, All-filter_map}
@@ -32,11 +32,11 @@ use Rattle.sight_core.proofs.StopBounds.{passed, All-filter_map}
 pub record IsOver (f : Fraction) : Type 0 where
   pub den : pos 1 ≤ℤ f.den
 
-line_is_over : (p d : Point) (w : Segment) (t : Fraction) → line_hit p d w ≡ Some t → IsOver t
-unfolding line_hit
+line_is_over : (p d : Point) (w : Segment) (t : Fraction) → blocker_hit p d w ≡ Some t → IsOver t
+unfolding blocker_hit
 line_is_over p d w t e =
-    let hit = passed (is_across p d w && int_lt (pos 0) (meeting p d w).num) (meeting p d w) t e in
-    let across = (and_parts (is_across p d w) (int_lt (pos 0) (meeting p d w).num) hit.0).0 in
+    let hit = passed (is_across p d w && int_lt (pos 0) (wall_parameter p d w).num) (wall_parameter p d w) t e in
+    let across = (and_parts (is_across p d w) (int_lt (pos 0) (wall_parameter p d w).num) hit.0).0 in
     rw (sym hit.1)
     (record {
       den =
@@ -44,8 +44,8 @@ line_is_over p d w t e =
           (across_apart p d w across);
     })
 
-pub hits_are_over : (p d : Point) (lines : List Segment) → All IsOver (filter_map (line_hit p d) lines)
-hits_are_over p d lines = All-filter_map (λ w. ⊤) IsOver (line_hit p d) (λ w _ t e. line_is_over p d w t e) lines (λ k x h. tt)
+pub hits_are_over : (p d : Point) (lines : List Segment) → All IsOver (filter_map (blocker_hit p d) lines)
+hits_are_over p d lines = All-filter_map (λ w. ⊤) IsOver (blocker_hit p d) (λ w _ t e. line_is_over p d w t e) lines (λ k x h. tt)
 
 -- ---- some hit comes before h exactly where the least does
 
@@ -91,7 +91,7 @@ any_before_best h x (y ∷ ys) h_up x_up up =
     by_test true e from_y from_x = better x y h x_up (All-head IsOver y ys up) h_up e rest ∙ from_y
     by_test false e from_y from_x = no_worse x y h x_up (All-head IsOver y ys up) h_up e rest ∙ from_x
 
-any_before : (h m : Fraction) (hits : List Fraction) → IsOver h → All IsOver hits → least is_before hits ≡ Some m
+any_before : (h m : Fraction) (hits : List Fraction) → IsOver h → All IsOver hits → min_by is_before hits ≡ Some m
     → list_any (λ other. is_before other h) hits ≡ is_before m h
 any_before h m [] h_up up e = cc
 any_before h m (x ∷ xs) h_up up e =
@@ -101,15 +101,15 @@ any_before h m (x ∷ xs) h_up up e =
 -- ---- so a wall is nearest where it isn't hit after the least
 
 pub nearest_is : (p d : Point) (lines : List Segment) (m : Fraction)
-    → least is_before (filter_map (line_hit p d) lines) ≡ Some m
+    → min_by is_before (filter_map (blocker_hit p d) lines) ≡ Some m
     → (w : Segment) → is_nearest p d lines w ≡ is_hit_by p d m w
-nearest_is p d lines m e w = by_hit (line_hit p d w) refl
+nearest_is p d lines m e w = by_hit (blocker_hit p d w) refl
   where
-    by_hit : (hit : Option Fraction) → line_hit p d w ≡ hit → is_nearest p d lines w ≡ is_hit_by p d m w
+    by_hit : (hit : Option Fraction) → blocker_hit p d w ≡ hit → is_nearest p d lines w ≡ is_hit_by p d m w
     by_hit None none = rw none refl
     by_hit (Some h) h_is =
         rw h_is
-        (ap not (any_before h m (filter_map (line_hit p d) lines) (line_is_over p d w h h_is) (hits_are_over p d lines) e))
+        (ap not (any_before h m (filter_map (blocker_hit p d) lines) (line_is_over p d w h h_is) (hits_are_over p d lines) e))
 
 -- ---- the first of two lists
 
@@ -172,9 +172,9 @@ number_by : (scene : Scene) (p d : Point) (m : Fraction) → nearest_line_of sce
     → near_wall_of scene p d ≡ position_from (is_hit_by p d m) 0 (scene.walls ++ scene.screens)
 unfolding near_wall_of
 number_by scene p d m e =
-    position_from-zero (is_nearest p d (lines_of_scene scene)) (lines_of_scene scene)
-    ∙ first_agree (is_nearest p d (lines_of_scene scene)) (is_hit_by p d m) (nearest_is p d (lines_of_scene scene) m e) 0
-    (lines_of_scene scene)
+    position_from-zero (is_nearest p d (blockers_of_scene scene)) (blockers_of_scene scene)
+    ∙ first_agree (is_nearest p d (blockers_of_scene scene)) (is_hit_by p d m) (nearest_is p d (blockers_of_scene scene) m e) 0
+    (blockers_of_scene scene)
 
 pub number_in_walls : (scene : Scene) (p d : Point) (m : Fraction) (k : ℕ)
     → nearest_line_of scene p d ≡ Some m
@@ -209,17 +209,17 @@ number_in_neither scene p d m e h g =
     ∙ none_counted_on (is_hit_by p d m) 0 (length scene.walls + 0) scene.screens
     (sym (position_from-zero (is_hit_by p d m) scene.screens) ∙ g)
 
-no_least : (hits : List Fraction) → least is_before hits ≡ None → hits ≡ []
+no_least : (hits : List Fraction) → min_by is_before hits ≡ None → hits ≡ []
 no_least [] h = refl
 no_least (x ∷ xs) h = cc
 
-none_hit : (p d : Point) (all xs : List Segment) (i : ℕ) → filter_map (line_hit p d) xs ≡ []
+none_hit : (p d : Point) (all xs : List Segment) (i : ℕ) → filter_map (blocker_hit p d) xs ≡ []
     → position_from (is_nearest p d all) i xs ≡ None
 none_hit p d all [] i h = refl
-none_hit p d all (x ∷ xs) i h = by_hit (line_hit p d x) refl h (λ e. none_hit p d all xs (i + 1) e)
+none_hit p d all (x ∷ xs) i h = by_hit (blocker_hit p d x) refl h (λ e. none_hit p d all xs (i + 1) e)
   where
-    by_hit : (hit : Option Fraction) → line_hit p d x ≡ hit → cons_option hit (filter_map (line_hit p d) xs) ≡ []
-        → (filter_map (line_hit p d) xs ≡ [] → position_from (is_nearest p d all) (i + 1) xs ≡ None)
+    by_hit : (hit : Option Fraction) → blocker_hit p d x ≡ hit → cons_option hit (filter_map (blocker_hit p d) xs) ≡ []
+        → (filter_map (blocker_hit p d) xs ≡ [] → position_from (is_nearest p d all) (i + 1) xs ≡ None)
         → position_from (is_nearest p d all) i (x ∷ xs) ≡ None
     by_hit (Some hit) e h later = cc
     by_hit None none h later = rw none (later h)
@@ -229,8 +229,8 @@ pub number_of_none : (scene : Scene) (p d : Point) → nearest_line_of scene p d
     → near_wall_of scene p d ≡ None
 unfolding near_wall_of
 number_of_none scene p d e =
-    position_from-zero (is_nearest p d (lines_of_scene scene)) (lines_of_scene scene)
-    ∙ none_hit p d (lines_of_scene scene) (lines_of_scene scene) 0 (no_least _ e)
+    position_from-zero (is_nearest p d (blockers_of_scene scene)) (blockers_of_scene scene)
+    ∙ none_hit p d (blockers_of_scene scene) (blockers_of_scene scene) 0 (no_least _ e)
 
 -- its number is below the number of walls and screens
 pub number_is_below : (scene : Scene) (p d : Point) (k : ℕ) → near_wall_of scene p d ≡ Some k
@@ -238,6 +238,6 @@ pub number_is_below : (scene : Scene) (p d : Point) (k : ℕ) → near_wall_of s
 unfolding near_wall_of
 number_is_below scene p d k e =
     let nothing : Segment = record { a = p; b = p } in
-    let below = (position-Some (is_nearest p d (lines_of_scene scene)) (lines_of_scene scene) k nothing e).0 in
+    let below = (position-Some (is_nearest p d (blockers_of_scene scene)) (blockers_of_scene scene) k nothing e).0 in
     let all = length-append scene.walls scene.screens in
     omega (arith, below, all)

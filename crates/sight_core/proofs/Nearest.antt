@@ -6,14 +6,14 @@ use Rattle.std.proofs.lemmas.List.{drop_all}
 use Rattle.std.proofs.Math.Seq.{drop-cons}
 use Rattle.std.proofs.lemmas.List.Elements.{filter_map-append}
 use Rattle.plane_spec.specs.declared.Point.{Point}
-use Rattle.plane_spec.specs.Lists.{least}
+use Rattle.plane_spec.specs.Lists.{min_by}
 use Rattle.plane_spec.specs.Fractions.{Fraction, is_before}
-use Rattle.plan_spec.specs.Scene.{Scene, lines_of_scene}
-use Rattle.plan_spec.specs.Stops.{line_hit, corner_hit, start_hit, hits_of}
+use Rattle.sight_spec.specs.Scene.{Scene, blockers_of_scene}
+use Rattle.sight_spec.specs.Stops.{blocker_hit, corner_hit, start_hit, hits_of}
 use Rattle.sight_core.specs.Hits.{nearer, least_from, nearest_line_of, nearest_of}
 
 -- with none before
-from_none : (hits : List Fraction) → least_from None hits ≡ least is_before hits
+from_none : (hits : List Fraction) → least_from None hits ≡ min_by is_before hits
 unfolding least_from
 from_none hits = refl
 
@@ -60,22 +60,22 @@ least_from-append best (x ∷ xs) ys =
 
 -- the walls and then the screens
 pub nearest_line_of_parts : (scene : Scene) (p d : Point) → nearest_line_of scene p d
-    ≡ least_from (least_from None (filter_map (line_hit p d) scene.walls)) (filter_map (line_hit p d) scene.screens)
+    ≡ least_from (least_from None (filter_map (blocker_hit p d) scene.walls)) (filter_map (blocker_hit p d) scene.screens)
 nearest_line_of_parts scene p d =
-    sym (from_none (filter_map (line_hit p d) (lines_of_scene scene)))
-    ∙ ap (λ t. least_from None t) (filter_map-append (line_hit p d) scene.walls scene.screens)
-    ∙ least_from-append None (filter_map (line_hit p d) scene.walls) (filter_map (line_hit p d) scene.screens)
+    sym (from_none (filter_map (blocker_hit p d) (blockers_of_scene scene)))
+    ∙ ap (λ t. least_from None t) (filter_map-append (blocker_hit p d) scene.walls scene.screens)
+    ∙ least_from-append None (filter_map (blocker_hit p d) scene.walls) (filter_map (blocker_hit p d) scene.screens)
 
 -- the walls, the screens, the corners, and the walls again
 pub nearest_of_parts : (scene : Scene) (p d : Point) → nearest_of scene p d
-    ≡ least_from (least_from (least_from (least_from None (filter_map (line_hit p d) scene.walls)) (filter_map (line_hit p d) scene.screens))
+    ≡ least_from (least_from (least_from (least_from None (filter_map (blocker_hit p d) scene.walls)) (filter_map (blocker_hit p d) scene.screens))
     (filter_map (corner_hit p d) scene.corners)) (filter_map (start_hit p d) scene.walls)
 nearest_of_parts scene p d =
-    let lines = filter_map-append (line_hit p d) scene.walls scene.screens in
+    let lines = filter_map-append (blocker_hit p d) scene.walls scene.screens in
     let corners = filter_map (corner_hit p d) scene.corners in
     let starts = filter_map (start_hit p d) scene.walls in
     sym (from_none (hits_of scene p d))
-    ∙ least_from-append None (filter_map (line_hit p d) (scene.walls ++ scene.screens)) (corners ++ starts)
-    ∙ least_from-append (least_from None (filter_map (line_hit p d) (scene.walls ++ scene.screens))) corners starts
+    ∙ least_from-append None (filter_map (blocker_hit p d) (scene.walls ++ scene.screens)) (corners ++ starts)
+    ∙ least_from-append (least_from None (filter_map (blocker_hit p d) (scene.walls ++ scene.screens))) corners starts
     ∙ ap (λ t. least_from (least_from (least_from None t) corners) starts) lines
-    ∙ ap (λ t. least_from (least_from t corners) starts) (least_from-append None (filter_map (line_hit p d) scene.walls) (filter_map (line_hit p d) scene.screens))
+    ∙ ap (λ t. least_from (least_from t corners) starts) (least_from-append None (filter_map (blocker_hit p d) scene.walls) (filter_map (blocker_hit p d) scene.screens))

@@ -17,16 +17,16 @@ use Rattle.int_laws.proofs.Tests.{agree, tested_less, less_tested, tested_equal,
 use Rattle.plane_spec.specs.declared.Point.{Point}
 use Rattle.plane_spec.specs.declared.Segment.{Segment}
 use Rattle.plane_spec.specs.declared.Corner.{Corner}
-use Rattle.plane_spec.specs.Lists.{least}
-use Rattle.plane_spec.specs.Vectors.{IsDirected, vector, cross_of, dot_of, is_left, same_point, point}
+use Rattle.plane_spec.specs.Lists.{min_by}
+use Rattle.plane_spec.specs.Vectors.{IsDirected, vector, cross_of, dot_of, turns_left, same_point, point}
 use Rattle.plane_spec.specs.Cones.{is_in_cone}
 use Rattle.plane_spec.specs.Fractions.{Fraction, whole, is_before, reduced, same_value}
 use Rattle.exact_geom.proofs.Circle.{dot_itself}
 use Rattle.exact_geom.proofs.Lowest.{reduced_is_reduced}
 use Rattle.exact_geom.proofs.Values.{reduced_keeps_value, same_reduced}
-use Rattle.plan_spec.specs.Scene.{Scene, lines_of_scene}
-use Rattle.plan_spec.specs.Sight.{crosses, enters_wall, corner_blocks, is_on_middle, is_blocked, are_in_sight}
-use Rattle.plan_spec.specs.Stops.{runs_into, line_hit, corner_hit, start_hit, hits_of, stop_of}
+use Rattle.sight_spec.specs.Scene.{Scene, blockers_of_scene}
+use Rattle.sight_spec.specs.Sight.{crosses, starts_or_ends_in_wall, corner_blocks, is_in_interior, is_blocked, are_in_sight}
+use Rattle.sight_spec.specs.Stops.{runs_into, blocker_hit, corner_hit, start_hit, hits_of, stop_of}
 use Rattle.sight_core.specs.Hits.{one_less}
 use Rattle.sight_core.proofs.Ways.{any-or, any-append}
 use Rattle.sight_core.proofs.StopBounds.{passed, All-filter_map, best_is}
@@ -86,25 +86,25 @@ regrouped false false false true = refl
 regrouped false false false false = refl
 
 all_parts : (test : Fraction → Bool) (scene : Scene) (x d : Point) → list_any test (hits_of scene x d)
-    ≡ ((list_any test (filter_map (line_hit x d) scene.walls) || list_any test (filter_map (start_hit x d) scene.walls))
-    || (list_any test (filter_map (line_hit x d) scene.screens) || list_any test (filter_map (corner_hit x d) scene.corners)))
+    ≡ ((list_any test (filter_map (blocker_hit x d) scene.walls) || list_any test (filter_map (start_hit x d) scene.walls))
+    || (list_any test (filter_map (blocker_hit x d) scene.screens) || list_any test (filter_map (corner_hit x d) scene.corners)))
 all_parts test scene x d =
-    let lines = filter_map (line_hit x d) (lines_of_scene scene) in
+    let lines = filter_map (blocker_hit x d) (blockers_of_scene scene) in
     let corners = filter_map (corner_hit x d) scene.corners in
     let starts = filter_map (start_hit x d) scene.walls in
     any-append test lines (corners ++ starts)
     ∙ ap (λ t. list_any test lines || t) (any-append test corners starts)
-    ∙ ap (λ t. list_any test t || (list_any test corners || list_any test starts)) (filter_map-append (line_hit x d) scene.walls scene.screens)
+    ∙ ap (λ t. list_any test t || (list_any test corners || list_any test starts)) (filter_map-append (blocker_hit x d) scene.walls scene.screens)
     ∙ ap (λ t. t || (list_any test corners || list_any test starts))
-    (any-append test (filter_map (line_hit x d) scene.walls) (filter_map (line_hit x d) scene.screens))
-    ∙ regrouped (list_any test (filter_map (line_hit x d) scene.walls)) (list_any test (filter_map (line_hit x d) scene.screens))
+    (any-append test (filter_map (blocker_hit x d) scene.walls) (filter_map (blocker_hit x d) scene.screens))
+    ∙ regrouped (list_any test (filter_map (blocker_hit x d) scene.walls)) (list_any test (filter_map (blocker_hit x d) scene.screens))
     (list_any test corners) (list_any test starts)
 
 -- what sight says of the parts of a scene
 record IsClear (scene : Scene) (p q : Point) : Type 0 where
   different : same_point p q ≡ false
-  walls : list_any (λ w. crosses p q w || enters_wall p q w) scene.walls ≡ false
-  screens : list_any (λ w. crosses p q w || is_on_middle q w) scene.screens ≡ false
+  walls : list_any (λ w. crosses p q w || starts_or_ends_in_wall p q w) scene.walls ≡ false
+  screens : list_any (λ w. crosses p q w || is_in_interior q w) scene.screens ≡ false
   corners : list_any (corner_blocks p q) scene.corners ≡ false
 
 of_not : (x : Bool) → not x ≡ true → x ≡ false
@@ -112,19 +112,19 @@ of_not true h = cc
 of_not false h = refl
 
 is_clear : (scene : Scene) (p q : Point) → are_in_sight scene p q ≡ true
-    → list_any (is_on_middle q) scene.screens ≡ false → IsClear scene p q
+    → list_any (is_in_interior q) scene.screens ≡ false → IsClear scene p q
 unfolding are_in_sight is_blocked
 is_clear scene p q sees beside =
     let parts = and_parts (not (same_point p q)) (not (is_blocked scene p q)) sees in
-    let free = or_parts (list_any (crosses p q) (lines_of_scene scene))
-    (list_any (enters_wall p q) scene.walls || list_any (corner_blocks p q) scene.corners) (of_not (is_blocked scene p q) parts.1) in
-    let rest = or_parts (list_any (enters_wall p q) scene.walls) (list_any (corner_blocks p q) scene.corners) free.1 in
+    let free = or_parts (list_any (crosses p q) (blockers_of_scene scene))
+    (list_any (starts_or_ends_in_wall p q) scene.walls || list_any (corner_blocks p q) scene.corners) (of_not (is_blocked scene p q) parts.1) in
+    let rest = or_parts (list_any (starts_or_ends_in_wall p q) scene.walls) (list_any (corner_blocks p q) scene.corners) free.1 in
     let lines = or_parts (list_any (crosses p q) scene.walls) (list_any (crosses p q) scene.screens)
     (sym (any-append (crosses p q) scene.walls scene.screens) ∙ free.0) in
     record {
       different = of_not (same_point p q) parts.0;
-      walls = sym (any-or (crosses p q) (enters_wall p q) scene.walls) ∙ rw (lines.0, rest.0) refl;
-      screens = sym (any-or (crosses p q) (is_on_middle q) scene.screens) ∙ rw (lines.1, beside) refl;
+      walls = sym (any-or (crosses p q) (starts_or_ends_in_wall p q) scene.walls) ∙ rw (lines.0, rest.0) refl;
+      screens = sym (any-or (crosses p q) (is_in_interior q) scene.screens) ∙ rw (lines.1, beside) refl;
       corners = rest.1;
     }
 
@@ -149,36 +149,36 @@ hits_onward : (scene : Scene) (p q : Point) (f : Fraction) → IsClear scene p q
 hits_onward scene p q f clear =
     let d = vector p q in
     let walls =
-    agree_beside (λ w. crosses p q w || enters_wall p q w)
-    (λ w. is_earlier f (line_hit q d w) || is_earlier f (start_hit q d w))
-    (λ w. is_step_earlier f (line_hit p d w) || is_step_earlier f (start_hit p d w))
-    (λ w h. let parts = or_parts (crosses p q w) (enters_wall p q w) h in wall_onward p q w f parts.0 parts.1)
+    agree_beside (λ w. crosses p q w || starts_or_ends_in_wall p q w)
+    (λ w. is_earlier f (blocker_hit q d w) || is_earlier f (start_hit q d w))
+    (λ w. is_step_earlier f (blocker_hit p d w) || is_step_earlier f (start_hit p d w))
+    (λ w h. let parts = or_parts (crosses p q w) (starts_or_ends_in_wall p q w) h in wall_onward p q w f parts.0 parts.1)
     scene.walls clear.walls in
     let screens =
-    agree_beside (λ w. crosses p q w || is_on_middle q w) (λ w. is_earlier f (line_hit q d w)) (λ w. is_step_earlier f (line_hit p d w))
-    (λ w h. let parts = or_parts (crosses p q w) (is_on_middle q w) h in screen_onward p q w f parts.0 parts.1)
+    agree_beside (λ w. crosses p q w || is_in_interior q w) (λ w. is_earlier f (blocker_hit q d w)) (λ w. is_step_earlier f (blocker_hit p d w))
+    (λ w h. let parts = or_parts (crosses p q w) (is_in_interior q w) h in screen_onward p q w f parts.0 parts.1)
     scene.screens clear.screens in
     let corners =
     agree_beside (corner_blocks p q) (λ c. is_earlier f (corner_hit q d c)) (λ c. is_step_earlier f (corner_hit p d c))
     (λ c h. corner_onward p q c f (dot_up p q clear.different) h) scene.corners clear.corners in
     all_parts (λ h. is_before h f) scene q d
     ∙ rw (
-      any_earlier f (line_hit q d) scene.walls,
+      any_earlier f (blocker_hit q d) scene.walls,
       any_earlier f (start_hit q d) scene.walls,
-      any_earlier f (line_hit q d) scene.screens,
+      any_earlier f (blocker_hit q d) scene.screens,
       any_earlier f (corner_hit q d) scene.corners,
-      any-or (λ w. is_earlier f (line_hit q d w)) (λ w. is_earlier f (start_hit q d w)) scene.walls,
+      any-or (λ w. is_earlier f (blocker_hit q d w)) (λ w. is_earlier f (start_hit q d w)) scene.walls,
       walls,
       screens,
       corners,
     )
     (sym (rw (
       all_parts (λ h. is_before (one_less h) f) scene p d,
-      any_step_earlier f (line_hit p d) scene.walls,
+      any_step_earlier f (blocker_hit p d) scene.walls,
       any_step_earlier f (start_hit p d) scene.walls,
-      any_step_earlier f (line_hit p d) scene.screens,
+      any_step_earlier f (blocker_hit p d) scene.screens,
       any_step_earlier f (corner_hit p d) scene.corners,
-      any-or (λ w. is_step_earlier f (line_hit p d w)) (λ w. is_step_earlier f (start_hit p d w)) scene.walls,
+      any-or (λ w. is_step_earlier f (blocker_hit p d w)) (λ w. is_step_earlier f (start_hit p d w)) scene.walls,
     ) refl))
 
 -- ---- the least of two lists
@@ -223,7 +223,7 @@ less_alike f up =
 
 least_onward : (hp hq : List Fraction) → All IsOver hp → All IsOver hq
     → ((f : Fraction) → list_any (λ h. is_before h f) hq ≡ list_any (λ h. is_before (one_less h) f) hp)
-    → option_map reduced (least is_before hq) ≡ option_map (λ t. reduced (one_less t)) (option_map reduced (least is_before hp))
+    → option_map reduced (min_by is_before hq) ≡ option_map (λ t. reduced (one_less t)) (option_map reduced (min_by is_before hp))
 least_onward [] [] p_up q_up same = refl
 least_onward (x ∷ xs) [] p_up q_up same =
     let m = best_of is_before x xs in
@@ -231,7 +231,7 @@ least_onward (x ∷ xs) [] p_up q_up same =
     let moved = any_alike (λ h. is_before (one_less h) m) (λ h. is_before h (one_more m)) (λ h. step_moved h m) (x ∷ xs) in
     let over : IsOver (one_more m) = record { den = up.den } in
     let best = any_before_best (one_more m) x xs over (All-head IsOver x xs p_up) (All-tail IsOver x xs p_up) in
-    let some = before_more m up.den in
+    let nonzero = before_more m up.den in
     let none = same m in
     cc
 least_onward [] (y ∷ ys) p_up q_up same =
@@ -239,7 +239,7 @@ least_onward [] (y ∷ ys) p_up q_up same =
     let up = best_is IsOver is_before y ys (All-head IsOver y ys q_up) (All-tail IsOver y ys q_up) in
     let over : IsOver (one_more m) = record { den = up.den } in
     let best = any_before_best (one_more m) y ys over (All-head IsOver y ys q_up) (All-tail IsOver y ys q_up) in
-    let some = before_more m up.den in
+    let nonzero = before_more m up.den in
     let none = same (one_more m) in
     cc
 least_onward (x ∷ xs) (y ∷ ys) p_up q_up same =
@@ -273,20 +273,20 @@ corner_is_over p d up c t e =
 start_is_over : (p d : Point) (w : Segment) (t : Fraction) → start_hit p d w ≡ Some t → IsOver t
 unfolding start_hit
 start_is_over p d w t e =
-    let hit = passed (is_on_middle p w && is_left (vector w.a w.b) d) (whole (pos 0)) t e in
+    let hit = passed (is_in_interior p w && turns_left (vector w.a w.b) d) (whole (pos 0)) t e in
     rw (sym hit.1) (record { den = omega (arith, ints) })
 
 all_over : (scene : Scene) (p d : Point) → pos 1 ≤ℤ dot_of d d → All IsOver (hits_of scene p d)
 all_over scene p d up =
-    let lines = hits_are_over p d (lines_of_scene scene) in
+    let lines = hits_are_over p d (blockers_of_scene scene) in
     let corners = All-filter_map (λ c. ⊤) IsOver (corner_hit p d) (λ c _ t e. corner_is_over p d up c t e) scene.corners (λ k x h. tt) in
     let starts = All-filter_map (λ w. ⊤) IsOver (start_hit p d) (λ w _ t e. start_is_over p d w t e) scene.walls (λ k x h. tt) in
-    All-append IsOver (filter_map (line_hit p d) (lines_of_scene scene)) (filter_map (corner_hit p d) scene.corners ++ filter_map (start_hit p d) scene.walls) lines
+    All-append IsOver (filter_map (blocker_hit p d) (blockers_of_scene scene)) (filter_map (corner_hit p d) scene.corners ++ filter_map (start_hit p d) scene.walls) lines
     (All-append IsOver (filter_map (corner_hit p d) scene.corners) (filter_map (start_hit p d) scene.walls) corners starts)
 
 -- the stop from q is the stop from p, less one step
 pub stop_onward : (scene : Scene) (p q : Point) → are_in_sight scene p q ≡ true
-    → list_any (is_on_middle q) scene.screens ≡ false
+    → list_any (is_in_interior q) scene.screens ≡ false
     → stop_of scene q (vector p q) ≡ option_map (λ t. reduced (one_less t)) (stop_of scene p (vector p q))
 unfolding stop_of
 stop_onward scene p q sees beside =

@@ -13,12 +13,12 @@ use Rattle.int_laws.proofs.Signs.{negative_product, not_negative_product, opposi
 use Rattle.int_laws.proofs.Tests.{tested_equal, equal_tested, same_test}
 use Rattle.plane_spec.specs.declared.Point.{Point}
 use Rattle.plane_spec.specs.declared.Corner.{Corner}
-use Rattle.plane_spec.specs.Vectors.{vector, cross_of, dot_of, orient_of, is_left, same_point}
+use Rattle.plane_spec.specs.Vectors.{vector, cross_of, dot_of, orient_of, turns_left, same_point}
 use Rattle.plane_spec.specs.Segments.{is_between, is_on_segment}
 use Rattle.plane_spec.specs.Cones.{is_in_cone}
 use Rattle.plane_spec.specs.Fractions.{Fraction, is_before}
-use Rattle.plan_spec.specs.Sight.{corner_stops, corner_blocks}
-use Rattle.plan_spec.specs.Stops.{corner_hit}
+use Rattle.sight_spec.specs.Sight.{corner_stops, corner_blocks}
+use Rattle.sight_spec.specs.Stops.{corner_hit}
 use Rattle.sight_core.specs.Hits.{one_less}
 use Rattle.sight_core.proofs.OnwardWalls.{is_earlier, is_step_earlier, left_of_later}
 
@@ -109,7 +109,7 @@ y_scaled v d line =
 
 -- directions of which positive multiples agree have the same ones to their right
 left_alike : (e w d : Point) (k t : ℤ) → pos 1 ≤ℤ k → pos 1 ≤ℤ t → w.x *ℤ k ≡ d.x *ℤ t → w.y *ℤ k ≡ d.y *ℤ t
-    → is_left e w ≡ is_left e d
+    → turns_left e w ≡ turns_left e d
 left_alike e w d k t k_up t_up x y =
     let crossed : cross_of e w *ℤ k ≡ cross_of e d *ℤ t =
     minus_times (e.x *ℤ w.y) (e.y *ℤ w.x) k

@@ -14,13 +14,13 @@ use Rattle.int_laws.proofs.Signs.{positive_product, negative_product, not_negati
 use Rattle.int_laws.proofs.Tests.{tested_equal, equal_tested, same_test}
 use Rattle.plane_spec.specs.declared.Point.{Point}
 use Rattle.plane_spec.specs.declared.Segment.{Segment}
-use Rattle.plane_spec.specs.Vectors.{vector, cross_of, orient_of, is_left, lies_left, same_point}
+use Rattle.plane_spec.specs.Vectors.{vector, cross_of, orient_of, turns_left, is_left_of_line, same_point}
 use Rattle.plane_spec.specs.Segments.{are_opposite, cross_properly, is_between, is_on_segment}
 use Rattle.plane_spec.specs.Fractions.{Fraction, fraction, whole, is_before}
 use Rattle.exact_geom.proofs.Orientation.{orient_of_cycled, orient_of_first_exchanged, orient_of_last_exchanged}
 use Rattle.exact_geom.proofs.Lowest.{fraction_is_positive}
-use Rattle.plan_spec.specs.Sight.{crosses, is_on_middle, leaves_wall, enters_wall}
-use Rattle.plan_spec.specs.Stops.{is_across, meeting, line_hit, start_hit}
+use Rattle.sight_spec.specs.Sight.{crosses, is_in_interior, starts_into_wall, starts_or_ends_in_wall}
+use Rattle.sight_spec.specs.Stops.{is_across, wall_parameter, blocker_hit, start_hit}
 use Rattle.sight_core.specs.Hits.{one_less}
 use Rattle.sight_core.proofs.Sides.{parallel_x, parallel_y, flat_at, not_left_of_both, not_right_of_both}
 use Rattle.sight_core.proofs.Widths.{width_is, across_apart}
@@ -54,8 +54,8 @@ left_of_later p q x =
     let twelve = product_swapped p.x p.y in
     omega (arith, ints, one, two, three, four, five, six, seven, eight, nine, ten, eleven, twelve)
 
-width : Point → Point → Segment → ℤ
-width p q w = cross_of (vector p q) (vector p w.b) -ℤ cross_of (vector p q) (vector p w.a)
+wall_parameter_denominator : Point → Point → Segment → ℤ
+wall_parameter_denominator p q w = cross_of (vector p q) (vector p w.b) -ℤ cross_of (vector p q) (vector p w.a)
 
 spread_is : (p : Point) (w : Segment) → cross_of (vector p w.a) (vector p w.b) ≡ orient_of w.a w.b p
 spread_is p w = sym (orient_of_cycled p w.a w.b)
@@ -89,18 +89,18 @@ fraction_less n m w e = by_test (int_lt (pos 0) w)
 across_later : (p q : Point) (w : Segment) → is_across q (vector p q) w ≡ is_across p (vector p q) w
 across_later p q w = rw (left_of_later p q w.a, left_of_later p q w.b) refl
 
-meeting_later : (p q : Point) (w : Segment) → meeting q (vector p q) w ≡ one_less (meeting p (vector p q) w)
+meeting_later : (p q : Point) (w : Segment) → wall_parameter q (vector p q) w ≡ one_less (wall_parameter p (vector p q) w)
 meeting_later p q w =
     let n = cross_of (vector p w.a) (vector p w.b) in
     let m = cross_of (vector q w.a) (vector q w.b) in
-    let spread = spread_later p q w in
+    let wall_parameter_numerator = spread_later p q w in
     let here = spread_is p w in
     let there = spread_is q w in
     let wide = width_is p (vector p q) w in
     ap (λ t. fraction m (t -ℤ cross_of (vector p q) (vector q w.a))) (left_of_later p q w.b)
     ∙ ap (λ t. fraction m (cross_of (vector p q) (vector p w.b) -ℤ t)) (left_of_later p q w.a)
     ∙ fraction_less n m (cross_of (vector p q) (vector p w.b) -ℤ cross_of (vector p q) (vector p w.a))
-    (omega (arith, ints, spread, here, there, wide))
+    (omega (arith, ints, wall_parameter_numerator, here, there, wide))
 
 -- ---- q on the middle of a wall
 
@@ -176,11 +176,11 @@ opposite_some : (s r : ℤ) → are_opposite s r ≡ true → (s ≢ pos 0) × (
 opposite_some s r h = (λ e. grind (arith, ints), λ e. grind (arith, ints))
 
 -- so q is on its middle
-on_middle : (q d : Point) (w : Segment) → is_across q d w ≡ true → orient_of w.a w.b q ≡ pos 0 → is_on_middle q w ≡ true
+on_middle : (q d : Point) (w : Segment) → is_across q d w ≡ true → orient_of w.a w.b q ≡ pos 0 → is_in_interior q w ≡ true
 on_middle q d w across straight =
-    let some = opposite_some (cross_of d (vector q w.a)) (cross_of d (vector q w.b)) across in
-    let a = false_from_ne_true (same_point q w.a) (λ e. some.0 (none_left_of_itself d q w.a e)) in
-    let b = false_from_ne_true (same_point q w.b) (λ e. some.1 (none_left_of_itself d q w.b e)) in
+    let nonzero = opposite_some (cross_of d (vector q w.a)) (cross_of d (vector q w.b)) across in
+    let a = false_from_ne_true (same_point q w.a) (λ e. nonzero.0 (none_left_of_itself d q w.a e)) in
+    let b = false_from_ne_true (same_point q w.b) (λ e. nonzero.1 (none_left_of_itself d q w.b e)) in
     rw (on_wall q d w across straight, a, b) refl
 
 -- ---- what a wall's own direction says
@@ -193,7 +193,7 @@ turn_is p q w =
     let two = product_swapped (w.b.y -ℤ w.a.y) (q.x -ℤ p.x) in
     omega (arith, ints, later, one, two)
 
-middle_is_straight : (q : Point) (w : Segment) → is_on_middle q w ≡ true → orient_of w.a w.b q ≡ pos 0
+middle_is_straight : (q : Point) (w : Segment) → is_in_interior q w ≡ true → orient_of w.a w.b q ≡ pos 0
 unfolding is_on_segment
 middle_is_straight q w h =
     let on = (and_parts (is_on_segment q w.a w.b) (not (same_point q w.a) && not (same_point q w.b)) h).0 in
@@ -201,17 +201,17 @@ middle_is_straight q w h =
     (and_parts (int_eq (orient_of w.a w.b q) (pos 0)) (is_between q.x w.a.x w.b.x && is_between q.y w.a.y w.b.y) on).0
 
 -- p doesn't begin on the wall with the ray to its left, since q isn't left of it then
-no_start : (p q : Point) (w : Segment) → leaves_wall p q w ≡ false
-    → (is_on_middle p w && is_left (vector w.a w.b) (vector p q)) ≡ false
-unfolding leaves_wall
+no_start : (p q : Point) (w : Segment) → starts_into_wall p q w ≡ false
+    → (is_in_interior p w && turns_left (vector w.a w.b) (vector p q)) ≡ false
+unfolding starts_into_wall
 no_start p q w h =
-    false_from_ne_true (is_on_middle p w && is_left (vector w.a w.b) (vector p q)) (λ e.
-    let parts = and_parts (is_on_middle p w) (is_left (vector w.a w.b) (vector p q)) e in
+    false_from_ne_true (is_in_interior p w && turns_left (vector w.a w.b) (vector p q)) (λ e.
+    let parts = and_parts (is_in_interior p w) (turns_left (vector w.a w.b) (vector p q)) e in
     let straight = middle_is_straight p w parts.0 in
     let turn = turn_is p q w in
     let up = tested_positive (cross_of (vector w.a w.b) (vector p q)) parts.1 in
-    let left : lies_left w.a w.b q ≡ true = positive_tested (orient_of w.a w.b q) (omega (arith, ints, up, straight, turn)) in
-    let both : (is_on_middle p w && lies_left w.a w.b q) ≡ true = rw (parts.0, left) refl in
+    let left : is_left_of_line w.a w.b q ≡ true = positive_tested (orient_of w.a w.b q) (omega (arith, ints, up, straight, turn)) in
+    let both : (is_in_interior p w && is_left_of_line w.a w.b q) ≡ true = rw (parts.0, left) refl in
     cc)
 
 -- ---- hits of the line
@@ -219,15 +219,15 @@ no_start p q w h =
 abbrev hit_by : Bool → Fraction → Option Fraction
 hit_by across m = if across && int_lt (pos 0) m.num then Some m else None
 
-hit_is : (p d : Point) (w : Segment) → line_hit p d w ≡ hit_by (is_across p d w) (meeting p d w)
-unfolding line_hit
+hit_is : (p d : Point) (w : Segment) → blocker_hit p d w ≡ hit_by (is_across p d w) (wall_parameter p d w)
+unfolding blocker_hit
 hit_is p d w = refl
 
 hit_later : (p q : Point) (w : Segment)
-    → line_hit q (vector p q) w ≡ hit_by (is_across p (vector p q) w) (one_less (meeting p (vector p q) w))
+    → blocker_hit q (vector p q) w ≡ hit_by (is_across p (vector p q) w) (one_less (wall_parameter p (vector p q) w))
 hit_later p q w =
     hit_is q (vector p q) w
-    ∙ ap (λ t. hit_by t (meeting q (vector p q) w)) (across_later p q w)
+    ∙ ap (λ t. hit_by t (wall_parameter q (vector p q) w)) (across_later p q w)
     ∙ ap (λ t. hit_by (is_across p (vector p q) w) t) (meeting_later p q w)
 
 same_order : (m f : Fraction) → pos 1 ≤ℤ m.den → (pos 0 <ℤ m.num → m.den <ℤ m.num)
@@ -247,7 +247,7 @@ signed b n w = if b then record { num = n; den = w } else record { num = neg_ℤ
 
 not_within : (n w : ℤ) → w ≢ pos 0 → are_opposite n (n -ℤ w) ≡ false → pos 0 <ℤ (fraction n w).num
     → (fraction n w).den ≤ℤ (fraction n w).num
-not_within n w some apart = by_test (int_lt (pos 0) w) refl
+not_within n w nonzero apart = by_test (int_lt (pos 0) w) refl
   where
     by_test : (b : Bool) → int_lt (pos 0) w ≡ b → pos 0 <ℤ (signed b n w).num → (signed b n w).den ≤ℤ (signed b n w).num
     by_test true e up = by_lt_z n w (λ less. absurd (grind (arith, ints))) (λ k. k)
@@ -286,7 +286,7 @@ first_false false y h k = refl
 
 -- a line that isn't crossed properly, and is across, is met after the first step, or at its end
 met_later : (p q : Point) (w : Segment) → crosses p q w ≡ false → is_across p (vector p q) w ≡ true
-    → pos 0 <ℤ (meeting p (vector p q) w).num → (meeting p (vector p q) w).den ≤ℤ (meeting p (vector p q) w).num
+    → pos 0 <ℤ (wall_parameter p (vector p q) w).num → (wall_parameter p (vector p q) w).den ≤ℤ (wall_parameter p (vector p q) w).num
 unfolding cross_properly
 met_later p q w uncrossed across ahead =
     let n = cross_of (vector p w.a) (vector p w.b) in
@@ -298,7 +298,7 @@ met_later p q w uncrossed across ahead =
     not_within n (wide p q w) (across_apart p (vector p q) w across) apart ahead
 
 -- where it is met at the end of the first step, q is on its line
-straight_at_end : (p q : Point) (w : Segment) → (meeting p (vector p q) w).num ≡ (meeting p (vector p q) w).den
+straight_at_end : (p q : Point) (w : Segment) → (wall_parameter p (vector p q) w).num ≡ (wall_parameter p (vector p q) w).den
     → orient_of w.a w.b q ≡ pos 0
 straight_at_end p q w e =
     let same = met_at_end (cross_of (vector p w.a) (vector p w.b)) (wide p q w) e in
@@ -308,11 +308,11 @@ straight_at_end p q w e =
 -- a line on whose middle q isn't is met alike from both
 pub line_onward : (p q : Point) (w : Segment) (f : Fraction) → crosses p q w ≡ false
     → (is_across p (vector p q) w ≡ true → orient_of w.a w.b q ≡ pos 0 → ⊥)
-    → is_earlier f (line_hit q (vector p q) w) ≡ is_step_earlier f (line_hit p (vector p q) w)
+    → is_earlier f (blocker_hit q (vector p q) w) ≡ is_step_earlier f (blocker_hit p (vector p q) w)
 line_onward p q w f uncrossed off = rw (hit_later p q w, hit_is p (vector p q) w) (by_across (is_across p (vector p q) w) refl)
   where
     m : Fraction
-    m = meeting p (vector p q) w
+    m = wall_parameter p (vector p q) w
 
     by_across : (b : Bool) → is_across p (vector p q) w ≡ b
         → is_earlier f (hit_by b (one_less m)) ≡ is_step_earlier f (hit_by b m)
@@ -324,8 +324,8 @@ line_onward p q w f uncrossed off = rw (hit_later p q w, hit_is p (vector p q) w
         absurd (off e (straight_at_end p q w (omega (arith, ints, k, least))))))
 
 -- a screen
-pub screen_onward : (p q : Point) (w : Segment) (f : Fraction) → crosses p q w ≡ false → is_on_middle q w ≡ false
-    → is_earlier f (line_hit q (vector p q) w) ≡ is_step_earlier f (line_hit p (vector p q) w)
+pub screen_onward : (p q : Point) (w : Segment) (f : Fraction) → crosses p q w ≡ false → is_in_interior q w ≡ false
+    → is_earlier f (blocker_hit q (vector p q) w) ≡ is_step_earlier f (blocker_hit p (vector p q) w)
 screen_onward p q w f uncrossed off =
     line_onward p q w f uncrossed (λ across straight.
     let on = on_middle q (vector p q) w (across_later p q w ∙ across) straight in cc)
@@ -335,7 +335,7 @@ screen_onward p q w f uncrossed off =
 abbrev start_by : Bool → Option Fraction
 start_by b = if b then Some (whole (pos 0)) else None
 
-start_is : (p d : Point) (w : Segment) → start_hit p d w ≡ start_by (is_on_middle p w && is_left (vector w.a w.b) d)
+start_is : (p d : Point) (w : Segment) → start_hit p d w ≡ start_by (is_in_interior p w && turns_left (vector w.a w.b) d)
 unfolding start_hit
 start_is p d w = refl
 
@@ -347,7 +347,7 @@ opposite_from : (s r : ℤ) → pos 0 <ℤ s → r <ℤ pos 0 → are_opposite s
 opposite_from s r h k = grind (arith, ints)
 
 -- a ray that begins on the middle of a wall and leads to its left has the wall's ends on both sides
-start_is_across : (q d : Point) (w : Segment) → is_on_middle q w ≡ true → is_left (vector w.a w.b) d ≡ true
+start_is_across : (q d : Point) (w : Segment) → is_in_interior q w ≡ true → turns_left (vector w.a w.b) d ≡ true
     → is_across q d w ≡ true
 start_is_across q d w middle left =
     by_lt_z (pos 0) s
@@ -431,7 +431,7 @@ zero_order g f e up =
     ∙ ap (λ t. int_lt t (f.num *ℤ g.den)) (zero_times g.den ∙ sym (zero_times f.den) ∙ ap (λ t. t *ℤ f.den) (sym e))
 
 -- the ray from p doesn't begin on the wall
-start_of_p : (p q : Point) (w : Segment) (f : Fraction) → leaves_wall p q w ≡ false
+start_of_p : (p q : Point) (w : Segment) (f : Fraction) → starts_into_wall p q w ≡ false
     → is_step_earlier f (start_hit p (vector p q) w) ≡ false
 start_of_p p q w f h = ap (is_step_earlier f) (start_is p (vector p q) w ∙ ap start_by (no_start p q w h))
 
@@ -440,51 +440,51 @@ no_start_of_q : (p q : Point) (w : Segment) (f : Fraction)
     → (is_across p (vector p q) w ≡ true → orient_of w.a w.b q ≡ pos 0 → ⊥)
     → is_earlier f (start_hit q (vector p q) w) ≡ false
 no_start_of_q p q w f off =
-    let none : (is_on_middle q w && is_left (vector w.a w.b) (vector p q)) ≡ false =
-    false_from_ne_true (is_on_middle q w && is_left (vector w.a w.b) (vector p q)) (λ e.
-    let parts = and_parts (is_on_middle q w) (is_left (vector w.a w.b) (vector p q)) e in
+    let none : (is_in_interior q w && turns_left (vector w.a w.b) (vector p q)) ≡ false =
+    false_from_ne_true (is_in_interior q w && turns_left (vector w.a w.b) (vector p q)) (λ e.
+    let parts = and_parts (is_in_interior q w) (turns_left (vector w.a w.b) (vector p q)) e in
     off (sym (across_later p q w) ∙ start_is_across q (vector p q) w parts.0 parts.1) (middle_is_straight q w parts.0)) in
     ap (is_earlier f) (start_is q (vector p q) w ∙ ap start_by none)
 
 -- where it is, the ray from q begins on it exactly where the ray from p ends
-start_of_q : (p q : Point) (w : Segment) → leaves_wall q p w ≡ false → is_across p (vector p q) w ≡ true
+start_of_q : (p q : Point) (w : Segment) → starts_into_wall q p w ≡ false → is_across p (vector p q) w ≡ true
     → orient_of w.a w.b q ≡ pos 0
     → start_hit q (vector p q) w ≡ Some (whole (pos 0))
-unfolding leaves_wall
+unfolding starts_into_wall
 start_of_q p q w h across straight =
     let middle = on_middle q (vector p q) w (across_later p q w ∙ across) straight in
-    let not_left : lies_left w.a w.b p ≡ false = sym (ap (λ t. t && lies_left w.a w.b p) middle) ∙ h in
+    let not_left : is_left_of_line w.a w.b p ≡ false = sym (ap (λ t. t && is_left_of_line w.a w.b p) middle) ∙ h in
     let right = tested_not_positive (orient_of w.a w.b p) not_left in
-    let some = across_apart p (vector p q) w across in
+    let nonzero = across_apart p (vector p q) w across in
     let later = triangle_later p q w in
-    let spread = spread_is p w in
+    let wall_parameter_numerator = spread_is p w in
     let turn = turn_is p q w in
     let up : pos 0 <ℤ cross_of (vector w.a w.b) (vector p q) =
     by_lt_z (pos 0) (cross_of (vector w.a w.b) (vector p q)) (λ k. k)
-    (λ k. absurd (some (omega (arith, ints, right, later, spread, turn, straight, k)))) in
+    (λ k. absurd (nonzero (omega (arith, ints, right, later, wall_parameter_numerator, turn, straight, k)))) in
     let left = positive_tested (cross_of (vector w.a w.b) (vector p q)) up in
-    start_is q (vector p q) w ∙ ap start_by (ap (λ t. t && is_left (vector w.a w.b) (vector p q)) middle ∙ left)
+    start_is q (vector p q) w ∙ ap start_by (ap (λ t. t && turns_left (vector w.a w.b) (vector p q)) middle ∙ left)
 
 -- a wall
-pub wall_onward : (p q : Point) (w : Segment) (f : Fraction) → crosses p q w ≡ false → enters_wall p q w ≡ false
-    → (is_earlier f (line_hit q (vector p q) w) || is_earlier f (start_hit q (vector p q) w))
-    ≡ (is_step_earlier f (line_hit p (vector p q) w) || is_step_earlier f (start_hit p (vector p q) w))
+pub wall_onward : (p q : Point) (w : Segment) (f : Fraction) → crosses p q w ≡ false → starts_or_ends_in_wall p q w ≡ false
+    → (is_earlier f (blocker_hit q (vector p q) w) || is_earlier f (start_hit q (vector p q) w))
+    ≡ (is_step_earlier f (blocker_hit p (vector p q) w) || is_step_earlier f (start_hit p (vector p q) w))
 wall_onward p q w f uncrossed unentered = by_place (is_across p (vector p q) w) (int_eq (orient_of w.a w.b q) (pos 0)) refl refl
   where
     m : Fraction
-    m = meeting p (vector p q) w
+    m = wall_parameter p (vector p q) w
 
-    leaves : (leaves_wall p q w ≡ false) × (leaves_wall q p w ≡ false)
-    leaves = or_parts (leaves_wall p q w) (leaves_wall q p w) unentered
+    leaves : (starts_into_wall p q w ≡ false) × (starts_into_wall q p w ≡ false)
+    leaves = or_parts (starts_into_wall p q w) (starts_into_wall q p w) unentered
 
     apart : (is_across p (vector p q) w ≡ true → orient_of w.a w.b q ≡ pos 0 → ⊥)
-        → (is_earlier f (line_hit q (vector p q) w) || is_earlier f (start_hit q (vector p q) w))
-        ≡ (is_step_earlier f (line_hit p (vector p q) w) || is_step_earlier f (start_hit p (vector p q) w))
+        → (is_earlier f (blocker_hit q (vector p q) w) || is_earlier f (start_hit q (vector p q) w))
+        ≡ (is_step_earlier f (blocker_hit p (vector p q) w) || is_step_earlier f (start_hit p (vector p q) w))
     apart off = rw (line_onward p q w f uncrossed off, no_start_of_q p q w f off, start_of_p p q w f leaves.0) refl
 
     by_place : (b c : Bool) → is_across p (vector p q) w ≡ b → int_eq (orient_of w.a w.b q) (pos 0) ≡ c
-        → (is_earlier f (line_hit q (vector p q) w) || is_earlier f (start_hit q (vector p q) w))
-        ≡ (is_step_earlier f (line_hit p (vector p q) w) || is_step_earlier f (start_hit p (vector p q) w))
+        → (is_earlier f (blocker_hit q (vector p q) w) || is_earlier f (start_hit q (vector p q) w))
+        ≡ (is_step_earlier f (blocker_hit p (vector p q) w) || is_step_earlier f (start_hit p (vector p q) w))
     by_place false c d e = apart (λ across straight. cc)
     by_place true false d e = apart (λ across straight. let on = equal_tested (orient_of w.a w.b q) (pos 0) straight in cc)
     by_place true true d e =
@@ -493,10 +493,10 @@ wall_onward p q w f uncrossed unentered = by_place (is_across p (vector p q) w) 
         let up = fraction_is_positive (cross_of (vector p w.a) (vector p w.b)) (wide p q w) (across_apart p (vector p q) w d) in
         let one = ends_at_one (cross_of (vector p w.a) (vector p w.b)) (wide p q w) (omega (arith, ints, straight, later)) in
         let none : int_lt (pos 0) (m.num -ℤ m.den) ≡ false = not_positive_tested (m.num -ℤ m.den) (omega (arith, ints, one)) in
-        let some : int_lt (pos 0) m.num ≡ true = positive_tested m.num (omega (arith, ints, one, up)) in
-        let there : line_hit q (vector p q) w ≡ None =
+        let nonzero : int_lt (pos 0) m.num ≡ true = positive_tested m.num (omega (arith, ints, one, up)) in
+        let there : blocker_hit q (vector p q) w ≡ None =
         hit_later p q w ∙ ap (λ t. hit_by t (one_less m)) d ∙ ap (λ t. if t then Some (one_less m) else None) none in
-        let here : line_hit p (vector p q) w ≡ Some m =
-        hit_is p (vector p q) w ∙ ap (λ t. hit_by t m) d ∙ ap (λ t. if t then Some m else None) some in
+        let here : blocker_hit p (vector p q) w ≡ Some m =
+        hit_is p (vector p q) w ∙ ap (λ t. hit_by t m) d ∙ ap (λ t. if t then Some m else None) nonzero in
         rw (there, start_of_q p q w leaves.1 d straight, here, start_of_p p q w f leaves.0)
         (zero_order (one_less m) f (omega (arith, ints, one)) up ∙ sym (or_none (is_before (one_less m) f)))

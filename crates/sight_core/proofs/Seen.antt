@@ -14,10 +14,10 @@ use Rattle.plane_spec.specs.Polygons.{edges_of}
 use Rattle.plane_spec.specs.Segments.{IsSegmentInRange}
 use Rattle.plane_spec.specs.Cones.{IsCornerInRange, corner}
 use Rattle.exact_geom.proofs.Edges.{edges_of-in_range}
-use Rattle.plan_spec.specs.declared.kinds.Screen.{Screen}
+use Rattle.plan_spec.specs.declared.item.Screen.{Screen}
 use Rattle.plan_spec.specs.Plan.{Plan}
 use Rattle.plan_spec.specs.Accepted.{is_sound}
-use Rattle.plan_spec.specs.Scene.{Scene, turned_edge, goes_round, walls_round, walls_of_obstacle, walls_of, segment_of_screen, screens_of, corners_after, last_edge, corners_along, turned_corner, corners_round, corners_of_obstacle, lone_end, ends_of_screen, corners_of}
+use Rattle.sight_spec.specs.Scene.{Scene, turned_edge, has_orientation, oriented_walls, walls_of_obstacle, walls_of, segment_of_screen, screens_of, corners_after, last_edge, corners_along, turned_corner, oriented_corners, corners_of_obstacle, screen_corner, ends_of_screen, corners_of}
 use Rattle.sight_core.specs.Scenes.{IsOfSoundPlan}
 use Rattle.sight_core.proofs.Sound.{IsObstacleInRange, IsScreenInRange, outer_in_range, obstacles_in_range, screens_in_range}
 
@@ -31,19 +31,19 @@ All-flat_map Q P f gives (x ∷ xs) h =
 turned-in_range : (w : Segment) → IsSegmentInRange w → IsSegmentInRange (turned_edge w)
 turned-in_range w h = record { a = h.b; b = h.a }
 
-walls_round-in_range : (way : Orientation) (points : List Point) → All InRange points → All IsSegmentInRange (walls_round way points)
-unfolding walls_round
-walls_round-in_range way points h =
+oriented_walls-in_range : (way : Orientation) (points : List Point) → All InRange points → All IsSegmentInRange (oriented_walls way points)
+unfolding oriented_walls
+oriented_walls-in_range way points h =
     let edges = edges_of-in_range points h in
-    cond_both (goes_round way points) (edges_of points) (map turned_edge (edges_of points)) (λ ws. All IsSegmentInRange ws)
+    cond_both (has_orientation way points) (edges_of points) (map turned_edge (edges_of points)) (λ ws. All IsSegmentInRange ws)
     (λ _. edges)
     (λ _. All-map IsSegmentInRange turned_edge (edges_of points) (All-weaker IsSegmentInRange (λ w. IsSegmentInRange (turned_edge w)) turned-in_range (edges_of points) edges))
 
 walls_of-in_range : (plan : Plan) → IsTrue (is_sound plan) → All IsSegmentInRange (walls_of plan)
 walls_of-in_range plan sound =
-    All-append IsSegmentInRange (walls_round Clockwise plan.outer) (flat_map walls_of_obstacle plan.obstacles)
-    (walls_round-in_range Clockwise plan.outer (outer_in_range plan sound))
-    (All-flat_map IsObstacleInRange IsSegmentInRange walls_of_obstacle (λ o h. walls_round-in_range Counterclockwise o.points h.points) plan.obstacles (obstacles_in_range plan sound))
+    All-append IsSegmentInRange (oriented_walls Clockwise plan.outer) (flat_map walls_of_obstacle plan.obstacles)
+    (oriented_walls-in_range Clockwise plan.outer (outer_in_range plan sound))
+    (All-flat_map IsObstacleInRange IsSegmentInRange walls_of_obstacle (λ o h. oriented_walls-in_range Counterclockwise o.points h.points) plan.obstacles (obstacles_in_range plan sound))
 
 screens_of-in_range : (plan : Plan) → IsTrue (is_sound plan) → All IsSegmentInRange (screens_of plan)
 screens_of-in_range plan sound =
@@ -73,25 +73,25 @@ corners_along-in_range (e ∷ edges) h =
 turned_corner-in_range : (c : Corner) → IsCornerInRange c → IsCornerInRange (turned_corner c)
 turned_corner-in_range c h = record { prev = h.next; here = h.here; next = h.prev }
 
-corners_round-in_range : (way : Orientation) (points : List Point) → All InRange points → All IsCornerInRange (corners_round way points)
-unfolding corners_round
-corners_round-in_range way points h =
+oriented_corners-in_range : (way : Orientation) (points : List Point) → All InRange points → All IsCornerInRange (oriented_corners way points)
+unfolding oriented_corners
+oriented_corners-in_range way points h =
     let corners = corners_along-in_range (edges_of points) (edges_of-in_range points h) in
-    cond_both (goes_round way points) (corners_along (edges_of points)) (map turned_corner (corners_along (edges_of points))) (λ cs. All IsCornerInRange cs)
+    cond_both (has_orientation way points) (corners_along (edges_of points)) (map turned_corner (corners_along (edges_of points))) (λ cs. All IsCornerInRange cs)
     (λ _. corners)
     (λ _. All-map IsCornerInRange turned_corner (corners_along (edges_of points)) (All-weaker IsCornerInRange (λ c. IsCornerInRange (turned_corner c)) turned_corner-in_range (corners_along (edges_of points)) corners))
 
 ends-in_range : (s : Screen) → IsScreenInRange s → All IsCornerInRange (ends_of_screen s)
 ends-in_range s h =
-    All-cons IsCornerInRange (lone_end s.from) (lone_end s.to ∷ []) (record { prev = h.from; here = h.from; next = h.from })
-    (All-cons IsCornerInRange (lone_end s.to) [] (record { prev = h.to; here = h.to; next = h.to }) (All-nil IsCornerInRange))
+    All-cons IsCornerInRange (screen_corner s.from) (screen_corner s.to ∷ []) (record { prev = h.from; here = h.from; next = h.from })
+    (All-cons IsCornerInRange (screen_corner s.to) [] (record { prev = h.to; here = h.to; next = h.to }) (All-nil IsCornerInRange))
 
 corners_of-in_range : (plan : Plan) → IsTrue (is_sound plan) → All IsCornerInRange (corners_of plan)
 corners_of-in_range plan sound =
-    let obstacles = All-flat_map IsObstacleInRange IsCornerInRange corners_of_obstacle (λ o h. corners_round-in_range Counterclockwise o.points h.points) plan.obstacles (obstacles_in_range plan sound) in
+    let obstacles = All-flat_map IsObstacleInRange IsCornerInRange corners_of_obstacle (λ o h. oriented_corners-in_range Counterclockwise o.points h.points) plan.obstacles (obstacles_in_range plan sound) in
     let ends = All-flat_map IsScreenInRange IsCornerInRange ends_of_screen ends-in_range plan.screens (screens_in_range plan sound) in
-    All-append IsCornerInRange (corners_round Clockwise plan.outer) (flat_map corners_of_obstacle plan.obstacles ++ flat_map ends_of_screen plan.screens)
-    (corners_round-in_range Clockwise plan.outer (outer_in_range plan sound))
+    All-append IsCornerInRange (oriented_corners Clockwise plan.outer) (flat_map corners_of_obstacle plan.obstacles ++ flat_map ends_of_screen plan.screens)
+    (oriented_corners-in_range Clockwise plan.outer (outer_in_range plan sound))
     (All-append IsCornerInRange (flat_map corners_of_obstacle plan.obstacles) (flat_map ends_of_screen plan.screens) obstacles ends)
 
 -- ---- the scene

@@ -11,8 +11,8 @@ use Rattle.plane_spec.specs.declared.Segment.{Segment}
 use Rattle.plane_spec.specs.Vectors.{orient_of}
 use Rattle.plane_spec.specs.Segments.{is_between, is_on_segment, are_opposite, cross_properly}
 use Rattle.exact_geom.proofs.Orientation.{orient_of_first_exchanged}
-use Rattle.plan_spec.specs.Sight.{crosses, leaves_wall}
-use Rattle.sight_core.specs.Blocks.{are_alike, lies_aside, wall_blocks}
+use Rattle.sight_spec.specs.Sight.{crosses, starts_into_wall}
+use Rattle.sight_core.specs.Blocks.{are_alike, is_strictly_on_one_side, wall_blocks}
 
 -- ---- u and v lie in line, on different sides of 0 in each coordinate: then they aren't strictly left of d, both of them
 
@@ -125,8 +125,8 @@ off_wall p q w aside =
       | inr h ↦ not_right_of_both p w.a w.b (q.x -ℤ p.x) (q.y -ℤ p.y) on h.0 h.1
     ])
 
-left_nowhere : (p q : Point) (w : Segment) → IsAside p q w → leaves_wall p q w ≡ false
-unfolding leaves_wall
+left_nowhere : (p q : Point) (w : Segment) → IsAside p q w → starts_into_wall p q w ≡ false
+unfolding starts_into_wall
 left_nowhere p q w aside =
     let off = off_wall p q w aside in
     rw off refl
@@ -139,8 +139,8 @@ aside_is_free : (p q : Point) (w : Segment) → IsAside p q w → wall_blocks p 
 aside_is_free p q w aside = rw (crossed_nowhere p q w aside, left_nowhere p q w aside, left_nowhere q p w (aside-turned p q w aside)) refl
 
 -- so such walls may be passed over
-pub wall_blocks_is : (p q : Point) (w : Segment) → wall_blocks p q w ≡ (not (lies_aside p q w) && wall_blocks p q w)
-unfolding lies_aside
+pub wall_blocks_is : (p q : Point) (w : Segment) → wall_blocks p q w ≡ (not (is_strictly_on_one_side p q w) && wall_blocks p q w)
+unfolding is_strictly_on_one_side
 wall_blocks_is p q w =
     elim (cases_Bool (are_alike (orient_of p q w.a) (orient_of p q w.b))) [
       | inl aside ↦ rw (aside_is_free p q w aside, aside) refl

@@ -3,10 +3,10 @@ use Rattle.std.proofs.Common.{◌<◌, ℕ, [], length}
 use Rattle.std.specs.Prelude.{All, IsTrue}
 use Rattle.std.proofs.lemmas.List.Elements.{All-weaker}
 use Rattle.plane_spec.specs.Vectors.{InRange}
-use Rattle.plan_spec.specs.declared.kinds.Screen.{Screen}
+use Rattle.plan_spec.specs.declared.item.Screen.{Screen}
 use Rattle.plan_spec.specs.Plan.{Obstacle, Plan, obstacle}
 use Rattle.plan_spec.specs.Accepted.{is_sound}
-use Rattle.plan_spec.specs.Ranges.{IsLineInRange}
+use Rattle.plan_spec.specs.Ranges.{IsProperSegmentInRange}
 use Rattle.plan_laws.proofs.Ranges as ranges
 use Rattle.plan_check.specs.Kept.{obstacle_at}
 
@@ -27,7 +27,7 @@ obstacles_in_range plan sound = λ k d h. record { points = ranges.obstacles_in_
 
 pub screens_in_range : (plan : Plan) → IsTrue (is_sound plan) → All IsScreenInRange plan.screens
 screens_in_range plan sound =
-    All-weaker (λ s. IsLineInRange s.from s.to) IsScreenInRange (λ s h. record { from = h.from_in; to = h.to_in }) plan.screens (ranges.sound_screens plan sound)
+    All-weaker (λ s. IsProperSegmentInRange s.from s.to) IsScreenInRange (λ s h. record { from = h.from_in; to = h.to_in }) plan.screens (ranges.sound_screens plan sound)
 
 -- the k-th obstacle, as the plan gives it
 pub obstacle_in_range : (plan : Plan) (k : ℕ) → IsTrue (is_sound plan) → k < length plan.obstacles → All InRange (obstacle_at plan k).points

@@ -11,23 +11,23 @@ use lib.IntN.{negsuc}
 use Rattle.plane_spec.specs.declared.Point.{Point}
 use Rattle.plane_spec.specs.declared.Segment.{Segment}
 use Rattle.plane_spec.specs.declared.Corner.{Corner}
-use Rattle.plane_spec.specs.Lists.{least}
-use Rattle.plane_spec.specs.Vectors.{IsWithin, InRange, IsDirection, vector, cross_of, dot_of, is_left}
+use Rattle.plane_spec.specs.Lists.{min_by}
+use Rattle.plane_spec.specs.Vectors.{IsWithin, InRange, IsDirection, vector, cross_of, dot_of, turns_left}
 use Rattle.plane_spec.specs.Segments.{IsSegmentInRange}
 use Rattle.plane_spec.specs.Cones.{IsCornerInRange, is_in_cone}
 use Rattle.plane_spec.specs.Fractions.{Fraction, fraction, whole, divided, is_before, reduced}
 use Rattle.exact_geom.specs.Parts.{HasPartsWithin}
 use Rattle.exact_geom.proofs.Bounds.{product_within}
 use Rattle.exact_geom.proofs.Lowest.{divided_natural, divisor_of, neg_within, reduced_no_larger, within_more}
-use Rattle.plan_spec.specs.Scene.{Scene, lines_of_scene}
-use Rattle.plan_spec.specs.Sight.{is_on_middle}
-use Rattle.plan_spec.specs.Stops.{is_across, meeting, line_hit, corner_hit, start_hit, hits_of, stop_of}
+use Rattle.sight_spec.specs.Scene.{Scene, blockers_of_scene}
+use Rattle.sight_spec.specs.Sight.{is_in_interior}
+use Rattle.sight_spec.specs.Stops.{is_across, wall_parameter, blocker_hit, corner_hit, start_hit, hits_of, stop_of}
 use Rattle.sight_core.specs.Scenes.{IsOfSoundPlan}
 use Rattle.sight_core.proofs.Seen.{walls-in_range, screens-in_range, corners-in_range}
 
 -- what stops a ray: parts of at most 10^12 in size, and not below 0
 record IsStop (f : Fraction) : Type 0 where
-  small : HasPartsWithin (pos (10 ^ 12)) f
+  parts_bounded : HasPartsWithin (pos (10 ^ 12)) f
   ahead : pos 0 ≤ℤ f.num
 
 -- ---- products of directions
@@ -69,16 +69,16 @@ fraction_small num den h k =
     (λ _. record { num = h; den = k })
     (λ _. record { num = neg_within (10 ^ 12) num h; den = neg_within (10 ^ 12) den k })
 
-line_is_stop : (p d : Point) → InRange p → IsDirection d → (w : Segment) → IsSegmentInRange w → (t : Fraction) → line_hit p d w ≡ Some t → IsStop t
-unfolding line_hit
+line_is_stop : (p d : Point) → InRange p → IsDirection d → (w : Segment) → IsSegmentInRange w → (t : Fraction) → blocker_hit p d w ≡ Some t → IsStop t
+unfolding blocker_hit
 line_is_stop p d p_in d_in w w_in t e =
-    let hit = passed (is_across p d w && int_lt (pos 0) (meeting p d w).num) (meeting p d w) t e in
-    let before = (and_parts (is_across p d w) (int_lt (pos 0) (meeting p d w).num) hit.0).1 in
+    let hit = passed (is_across p d w && int_lt (pos 0) (wall_parameter p d w).num) (wall_parameter p d w) t e in
+    let before = (and_parts (is_across p d w) (int_lt (pos 0) (wall_parameter p d w).num) hit.0).1 in
     let a = vector_within p w.a p_in w_in.a in
     let b = vector_within p w.b p_in w_in.b in
     rw (sym hit.1)
     (record {
-      small = fraction_small _ _ (is_small _ (cross_within _ _ a b)) (difference_is_small _ _ (cross_within _ _ d_in a) (cross_within _ _ d_in b));
+      parts_bounded = fraction_small _ _ (is_small _ (cross_within _ _ a b)) (difference_is_small _ _ (cross_within _ _ d_in a) (cross_within _ _ d_in b));
       ahead = omega (arith, ints, before);
     })
 
@@ -92,17 +92,17 @@ corner_is_stop p d p_in d_in c c_in t e =
     let here = vector_within p c.here p_in c_in.here in
     rw (sym hit.1)
     (record {
-      small = record { num = is_small _ (dot_within d v d_in here); den = is_small _ (dot_within d d d_in d_in) };
+      parts_bounded = record { num = is_small _ (dot_within d v d_in here); den = is_small _ (dot_within d d d_in d_in) };
       ahead = omega (arith, ints, before);
     })
 
 start_is_stop : (p d : Point) (w : Segment) → IsSegmentInRange w → (t : Fraction) → start_hit p d w ≡ Some t → IsStop t
 unfolding start_hit
 start_is_stop p d w w_in t e =
-    let hit = passed (is_on_middle p w && is_left (vector w.a w.b) d) (whole (pos 0)) t e in
+    let hit = passed (is_in_interior p w && turns_left (vector w.a w.b) d) (whole (pos 0)) t e in
     rw (sym hit.1)
     (record {
-      small = record { num = record { low = omega (arith, ints); high = omega (arith, ints) }; den = record { low = omega (arith, ints); high = omega (arith, ints) } };
+      parts_bounded = record { num = record { low = omega (arith, ints); high = omega (arith, ints) }; den = record { low = omega (arith, ints); high = omega (arith, ints) } };
       ahead = omega (arith, ints);
     })
 
@@ -120,11 +120,11 @@ All-filter_map {Y = Y} Q P f gives (x ∷ xs) h = by_hit (f x) (gives x (All-hea
 hits_are_stops : (scene : Scene) (p d : Point) → IsOfSoundPlan scene → InRange p → IsDirection d → All IsStop (hits_of scene p d)
 hits_are_stops scene p d sound p_in d_in =
     let lines =
-    All-filter_map IsSegmentInRange IsStop (line_hit p d) (line_is_stop p d p_in d_in) (lines_of_scene scene)
+    All-filter_map IsSegmentInRange IsStop (blocker_hit p d) (line_is_stop p d p_in d_in) (blockers_of_scene scene)
     (All-append IsSegmentInRange scene.walls scene.screens (walls-in_range scene sound) (screens-in_range scene sound)) in
     let corners = All-filter_map IsCornerInRange IsStop (corner_hit p d) (corner_is_stop p d p_in d_in) scene.corners (corners-in_range scene sound) in
     let starts = All-filter_map IsSegmentInRange IsStop (start_hit p d) (start_is_stop p d) scene.walls (walls-in_range scene sound) in
-    All-append IsStop (filter_map (line_hit p d) (lines_of_scene scene)) (filter_map (corner_hit p d) scene.corners ++ filter_map (start_hit p d) scene.walls) lines
+    All-append IsStop (filter_map (blocker_hit p d) (blockers_of_scene scene)) (filter_map (corner_hit p d) scene.corners ++ filter_map (start_hit p d) scene.walls) lines
     (All-append IsStop (filter_map (corner_hit p d) scene.corners) (filter_map (start_hit p d) scene.walls) corners starts)
 
 pub best_is : {X : Type 0} (P : X → Type 0) (beats : X → X → Bool) (x : X) (xs : List X) → P x → All P xs → P (best_of beats x xs)
@@ -138,9 +138,9 @@ divided_ahead (negsuc n) g h = absurd (omega (arith, ints))
 
 reduced_is_stop : (f : Fraction) → IsStop f → IsStop (reduced f)
 unfolding reduced
-reduced_is_stop f h = record { small = reduced_no_larger (10 ^ 12) f h.small; ahead = divided_ahead f.num (divisor_of f) h.ahead }
+reduced_is_stop f h = record { parts_bounded = reduced_no_larger (10 ^ 12) f h.parts_bounded; ahead = divided_ahead f.num (divisor_of f) h.ahead }
 
-least_is_stop : (hits : List Fraction) (t : Fraction) → All IsStop hits → option_map reduced (least is_before hits) ≡ Some t → IsStop t
+least_is_stop : (hits : List Fraction) (t : Fraction) → All IsStop hits → option_map reduced (min_by is_before hits) ≡ Some t → IsStop t
 least_is_stop [] t h e = cc
 least_is_stop (f ∷ hits) t h e =
     let same : reduced (best_of is_before f hits) ≡ t = cc in
@@ -152,7 +152,7 @@ stop_is_both scene p d t sound p_in d_in e = least_is_stop (hits_of scene p d) t
 
 -- so the parts of a stop are at most 10^12 in size
 pub stop_is_small : (scene : Scene) (p d : Point) (t : Fraction) → IsOfSoundPlan scene → InRange p → IsDirection d → stop_of scene p d ≡ Some t → HasPartsWithin (pos (10 ^ 12)) t
-stop_is_small scene p d t sound p_in d_in e = (stop_is_both scene p d t sound p_in d_in e).small
+stop_is_small scene p d t sound p_in d_in e = (stop_is_both scene p d t sound p_in d_in e).parts_bounded
 
 -- and a stop is never behind
 pub stop_is_ahead : (scene : Scene) (p d : Point) (t : Fraction) → IsOfSoundPlan scene → InRange p → IsDirection d → stop_of scene p d ≡ Some t → pos 0 ≤ℤ t.num

@@ -10,8 +10,8 @@ use Rattle.plane_spec.specs.declared.Corner.{Corner}
 use Rattle.plane_spec.specs.Vectors.{vector, orient_of, same_point}
 use Rattle.plane_spec.specs.Segments.{is_between, is_on_segment}
 use Rattle.plane_spec.specs.Cones.{is_in_cone}
-use Rattle.plan_spec.specs.Scene.{Scene}
-use Rattle.plan_spec.specs.Sight.{crosses, enters_wall, corner_stops, corner_blocks, is_blocked}
+use Rattle.sight_spec.specs.Scene.{Scene}
+use Rattle.sight_spec.specs.Sight.{crosses, starts_or_ends_in_wall, corner_stops, corner_blocks, is_blocked}
 use Rattle.sight_core.specs.Blocks.{wall_blocks, turns_from}
 use Rattle.exact_geom.proofs.Orientation.{orient_of_first_exchanged}
 
@@ -87,8 +87,8 @@ pub is_blocked_is : (scene : Scene) (p q : Point) → is_blocked scene p q
     ≡ ((list_any (wall_blocks p q) scene.walls || list_any (crosses p q) scene.screens) || list_any (corner_blocks p q) scene.corners)
 unfolding is_blocked
 is_blocked_is scene p q =
-    let walls = any-or (crosses p q) (enters_wall p q) scene.walls in
+    let walls = any-or (crosses p q) (starts_or_ends_in_wall p q) scene.walls in
     let corners = list_any (corner_blocks p q) scene.corners in
-    ap (λ t. t || (list_any (enters_wall p q) scene.walls || corners)) (any-append (crosses p q) scene.walls scene.screens)
-    ∙ ordered_by (list_any (crosses p q) scene.walls) (list_any (crosses p q) scene.screens) (list_any (enters_wall p q) scene.walls) corners
+    ap (λ t. t || (list_any (starts_or_ends_in_wall p q) scene.walls || corners)) (any-append (crosses p q) scene.walls scene.screens)
+    ∙ ordered_by (list_any (crosses p q) scene.walls) (list_any (crosses p q) scene.screens) (list_any (starts_or_ends_in_wall p q) scene.walls) corners
     ∙ ap (λ t. (t || list_any (crosses p q) scene.screens) || corners) walls

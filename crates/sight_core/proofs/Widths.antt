@@ -6,7 +6,7 @@ use Rattle.plane_spec.specs.declared.Point.{Point}
 use Rattle.plane_spec.specs.declared.Segment.{Segment}
 use Rattle.plane_spec.specs.Segments.{are_opposite}
 use Rattle.plane_spec.specs.Vectors.{cross_of, vector}
-use Rattle.plan_spec.specs.Stops.{is_across}
+use Rattle.sight_spec.specs.Stops.{is_across}
 
 -- the difference of its ends is the segment's own vector
 pub width_is : (p d : Point) (w : Segment)

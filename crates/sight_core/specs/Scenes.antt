@@ -2,7 +2,7 @@
 use Rattle.std.specs.Prelude.{◌≡◌, IsTrue}
 use Rattle.plan_spec.specs.Plan.{Plan}
 use Rattle.plan_spec.specs.Accepted.{is_sound}
-use Rattle.plan_spec.specs.Scene.{Scene, scene_of}
+use Rattle.sight_spec.specs.Scene.{Scene, scene_of}
 
 -- the scene is that of some accepted plan
 pub record IsOfSoundPlan (scene : Scene) : Type 0 where

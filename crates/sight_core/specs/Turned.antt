@@ -2,7 +2,7 @@
 use Rattle.std.specs.Prelude.{Bool, List, map, if◌then◌else◌}
 use Rattle.plane_spec.specs.declared.Segment.{Segment}
 use Rattle.plane_spec.specs.declared.Corner.{Corner}
-use Rattle.plan_spec.specs.Scene.{turned_edge, turned_corner}
+use Rattle.sight_spec.specs.Scene.{turned_edge, turned_corner}
 
 -- the edge in its own direction, or in the other
 abbrev pub directed_edge : Bool → Segment → Segment

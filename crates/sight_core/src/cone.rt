@@ -4,7 +4,7 @@ ghost use Rattle.std.specs.Prelude.{◌≡◌};
 ghost use Rattle.plane_spec.specs.Vectors.{IsDirection};
 ghost use Rattle.plane_spec.specs.Cones.{IsCornerInRange, is_in_cone};
 
-use exact_geom::{is_left, lies_left, vector};
+use exact_geom::{turns_left, is_left_of_line, vector};
 use plane_spec::{Corner, Point};
 
 /// Whether `d` leads from the corner into what is blocked: strictly left of both of its walls where the corner turns
@@ -17,9 +17,9 @@ pub fn in_cone(corner: Corner, d: Point) -> bool
     requires d_in { IsDirection d }
     ensures { result ≡ is_in_cone corner d }
 {
-    let before = is_left(vector(corner.prev, corner.here), d);
-    let after = is_left(vector(corner.here, corner.next), d);
-    if lies_left(corner.prev, corner.here, corner.next) {
+    let before = turns_left(vector(corner.prev, corner.here), d);
+    let after = turns_left(vector(corner.here, corner.next), d);
+    if is_left_of_line(corner.prev, corner.here, corner.next) {
         before && after
     } else {
         before || after

@@ -6,17 +6,14 @@ ghost use Rattle.exact_geom.specs.declared.limits.TheConstants.{MAX_CROSS, MAX_S
 ghost use Rattle.plane_spec.specs.Fractions as fractions;
 ghost use Rattle.plane_spec.specs.Vectors as vectors;
 ghost use Rattle.plane_spec.specs.Vectors.{cross_of, dot_of, InRange, IsDirected, IsDirection, IsWithin};
-ghost use Rattle.plan_spec.specs.Stops as stops;
+ghost use Rattle.sight_spec.specs.Stops as stops;
 ghost use Rattle.sight_core.specs.Hits as hits;
 ghost use Rattle.plane_spec.specs.Segments.{IsSegmentInRange};
 ghost use Rattle.plane_spec.specs.Cones.{IsCornerInRange};
 
 use crate::cone::in_cone;
-use crate::sight::is_on_middle;
-use exact_geom::{
-    Frac, are_opposite, cross, dot, is_at_least_zero, is_left, is_less, is_zero, vector,
-    wide_product,
-};
+use crate::sight::is_in_interior;
+use exact_geom::{Frac, are_opposite, cross, dot, is_at_least_zero, turns_left, is_less, is_zero, vector, wide_product};
 use plane_spec::{Corner, Point, Segment as Wall};
 use std::marker::Model;
 
@@ -53,7 +50,7 @@ impl Hit {
     fn new(num: i128, den: i128) -> Hit
         requires num_in { IsWithin MAX_STOP_PART num }
         requires den_in { IsWithin MAX_STOP_PART den }
-        requires some { den ≢ pos 0 }
+        requires nonzero { den ≢ pos 0 }
         ensures { result ≡ fractions.fraction num den }
     {
         if 0 < den {
@@ -94,7 +91,7 @@ impl Hit {
     /// Cost: one greatest common divisor.
     pub fn reduced(&self) -> Frac
         ensures value { result ≡ fractions.reduced self.now }
-        ensures small { HasStopParts result }
+        ensures parts_bounded { HasStopParts result }
     {
         Frac::new(self.num, self.den)
     }
@@ -135,7 +132,7 @@ fn turn_to(p: Point, d: Point, x: Point) -> i128
 }
 
 /// Twice the area of the triangle from `p` to the wall or screen, positive where it runs counterclockwise as seen from `p`.
-fn spread(p: Point, wall: &Wall) -> i128
+fn wall_parameter_numerator(p: Point, wall: &Wall) -> i128
     requires p_in { InRange p }
     requires wall_in { IsSegmentInRange wall.now }
     ensures value { result ≡ cross_of (vectors.vector p wall.now.a) (vectors.vector p wall.now.b) }
@@ -155,14 +152,14 @@ fn is_across(p: Point, d: Point, wall: &Wall) -> bool
 }
 
 /// How far the wall or screen, which isn't in line with the ray, reaches to the ray's left.
-fn width(p: Point, d: Point, wall: &Wall) -> i128
+fn wall_parameter_denominator(p: Point, d: Point, wall: &Wall) -> i128
     requires p_in { InRange p }
     requires d_in { IsDirection d }
     requires wall_in { IsSegmentInRange wall.now }
     requires turned { cross_of d (vectors.vector wall.now.a wall.now.b) ≢ pos 0 }
     ensures value { result ≡ cross_of d (vectors.vector p wall.now.b) -ℤ cross_of d (vectors.vector p wall.now.a) }
     ensures within { IsWithin MAX_STOP_PART result }
-    ensures some { result ≢ pos 0 }
+    ensures nonzero { result ≢ pos 0 }
 {
     turn_to(p, d, wall.b) - turn_to(p, d, wall.a)
 }
@@ -171,30 +168,30 @@ fn width(p: Point, d: Point, wall: &Wall) -> i128
 /// beyond the wall's ends or behind `p`. The two lines must not be in one direction.
 ///
 /// Cost: three cross products.
-pub fn meeting(p: Point, d: Point, wall: &Wall) -> Hit
+pub fn wall_parameter(p: Point, d: Point, wall: &Wall) -> Hit
     requires p_in { InRange p }
     requires d_in { IsDirection d }
     requires wall_in { IsSegmentInRange wall.now }
     requires turned { cross_of d (vectors.vector wall.now.a wall.now.b) ≢ pos 0 }
-    ensures { result ≡ stops.meeting p d wall.now }
+    ensures { result ≡ stops.wall_parameter p d wall.now }
 {
-    Hit::new(spread(p, wall), width(p, d, wall))
+    Hit::new(wall_parameter_numerator(p, wall), wall_parameter_denominator(p, d, wall))
 }
 
 /// Where the ray meets the wall or screen between its ends, if it does so after its beginning.
 ///
 /// Cost: two cross products, and three more where the wall is across the ray's line.
-#[tactic(auto, unfolding(plan_spec::specs::Stops::line_hit))]
-pub fn line_hit(p: Point, d: Point, wall: &Wall) -> Option<Hit>
+#[tactic(auto, unfolding(sight_spec::specs::Stops::blocker_hit))]
+pub fn blocker_hit(p: Point, d: Point, wall: &Wall) -> Option<Hit>
     requires p_in { InRange p }
     requires d_in { IsDirection d }
     requires wall_in { IsSegmentInRange wall.now }
-    ensures { result ≡ stops.line_hit p d wall.now }
+    ensures { result ≡ stops.blocker_hit p d wall.now }
 {
     if !is_across(p, d, wall) {
         return None;
     }
-    let hit = meeting(p, d, wall);
+    let hit = wall_parameter(p, d, wall);
     if hit.is_ahead() { Some(hit) } else { None }
 }
 
@@ -210,7 +207,7 @@ fn runs_into(p: Point, d: Point, corner: &Corner) -> bool
 }
 
 /// Where the ray is nearest to the point at `v` from its beginning.
-fn time_to(d: Point, v: Point) -> Hit
+fn corner_parameter(d: Point, v: Point) -> Hit
     requires d_in { IsDirection d }
     requires directed { IsDirected d }
     requires v_in { IsDirection v }
@@ -225,7 +222,7 @@ fn time_to(d: Point, v: Point) -> Hit
 /// Where the ray passes through the corner into what is blocked, if it does.
 ///
 /// Cost: one cross product, and at most six more products where the corner is on the ray's line.
-#[tactic(auto, unfolding(plan_spec::specs::Stops::corner_hit))]
+#[tactic(auto, unfolding(sight_spec::specs::Stops::corner_hit))]
 pub fn corner_hit(p: Point, d: Point, corner: &Corner) -> Option<Hit>
     requires p_in { InRange p }
     requires d_in { IsDirection d }
@@ -234,7 +231,7 @@ pub fn corner_hit(p: Point, d: Point, corner: &Corner) -> Option<Hit>
     ensures { result ≡ stops.corner_hit p d corner.now }
 {
     if runs_into(p, d, corner) {
-        Some(time_to(d, vector(p, corner.here)))
+        Some(corner_parameter(d, vector(p, corner.here)))
     } else {
         None
     }
@@ -243,14 +240,14 @@ pub fn corner_hit(p: Point, d: Point, corner: &Corner) -> Option<Hit>
 /// Where the ray begins, if it begins on the wall, not at its ends, and leads to its left.
 ///
 /// Cost: one orientation, and a cross product where it begins there.
-#[tactic(auto, unfolding(plan_spec::specs::Stops::start_hit))]
+#[tactic(auto, unfolding(sight_spec::specs::Stops::start_hit))]
 pub fn start_hit(p: Point, d: Point, wall: &Wall) -> Option<Hit>
     requires p_in { InRange p }
     requires d_in { IsDirection d }
     requires wall_in { IsSegmentInRange wall.now }
     ensures { result ≡ stops.start_hit p d wall.now }
 {
-    if is_on_middle(p, wall) && is_left(vector(wall.a, wall.b), d) {
+    if is_in_interior(p, wall) && turns_left(vector(wall.a, wall.b), d) {
         Some(Hit { num: 0, den: 1 })
     } else {
         None

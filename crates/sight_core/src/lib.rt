@@ -9,8 +9,8 @@
 //! | [`free`] | whether two points see each other |
 //! | [`sight_is_mutual`] | sight goes both ways |
 //! | [`Hit`] | a `t` at which a ray is stopped, not reduced |
-//! | [`line_hit`], [`corner_hit`], [`start_hit`] | where a ray meets a wall or screen, runs into a corner, or begins in a wall |
-//! | [`meeting`] | where a line meets the line of a wall or screen |
+//! | [`blocker_hit`], [`corner_hit`], [`start_hit`] | where a ray meets a wall or screen, runs into a corner, or begins in a wall |
+//! | [`wall_parameter`] | where a line meets the line of a wall or screen |
 //! | [`nearer`] | the hit that comes first |
 //! | [`stop`], [`near_wall`] | how far a ray reaches, and which wall or screen it meets first |
 //! | [`stops_are_small`] | a stop has small parts and is never behind |
@@ -41,7 +41,7 @@ mod stops;
 mod tests;
 
 pub use cone::in_cone;
-pub use hits::{Hit, corner_hit, line_hit, meeting, nearer, start_hit};
+pub use hits::{Hit, corner_hit, blocker_hit, wall_parameter, nearer, start_hit};
 pub use openness::is_open;
 pub use plane_spec::{Corner, Segment as Wall};
 pub use scene::{Scene, scene_of, types_are_shared};

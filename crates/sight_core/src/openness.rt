@@ -3,7 +3,7 @@
 ghost use Rattle.std.specs.Prelude.{◌≡◌};
 ghost use Rattle.std.specs.List.{list_any};
 ghost use Rattle.plane_spec.specs.Vectors.{InRange};
-ghost use Rattle.plan_spec.specs.Sight as sight;
+ghost use Rattle.sight_spec.specs.Sight as sight;
 
 use exact_geom::{inside, on_border};
 use plan_check::Plan;
@@ -26,7 +26,7 @@ fn is_in_obstacle(plan: &Plan, x: Point) -> bool
 /// open.
 ///
 /// Cost: one pass over the corners of the plan, up to an obstacle that `x` is inside of.
-#[tactic(auto, unfolding(plan_spec::specs::Sight::is_open))]
+#[tactic(auto, unfolding(sight_spec::specs::Sight::is_open))]
 pub fn is_open(plan: &Plan, x: Point) -> bool
     requires { InRange x }
     ensures { result ≡ sight.is_open plan.now x }

@@ -4,7 +4,7 @@ ghost use Rattle.std.specs.Prelude.{All, OnErr, OnOk, ◌≡◌, ◌∷◌, ◌+
 ghost use Rattle.plane_spec.specs.Cones as cones;
 ghost use Rattle.plane_spec.specs.Polygons as polygons;
 ghost use Rattle.plane_spec.specs.Vectors.{InRange};
-ghost use Rattle.plan_spec.specs.Scene as scenes;
+ghost use Rattle.sight_spec.specs.Scene as scenes;
 ghost use Rattle.sight_core.specs.Turned as turned;
 
 use exact_geom::{cross, edge, is_positive};
@@ -33,9 +33,9 @@ fn is_counterclockwise(points: &[Point]) -> bool
 }
 
 /// Whether the points go round this way.
-fn goes_round(way: Orientation, points: &[Point]) -> bool
+fn has_orientation(way: Orientation, points: &[Point]) -> bool
     requires { All InRange points.now }
-    ensures { result ≡ scenes.goes_round way points.now }
+    ensures { result ≡ scenes.has_orientation way points.now }
 {
     match way {
         Orientation::Counterclockwise => is_counterclockwise(points),
@@ -57,9 +57,9 @@ pub(crate) fn append_walls(
     points: &[Point],
 ) -> Result<(), NoMemory>
     requires { All InRange points.now }
-    ensures { OnOk result (walls.new.items ≡ walls.old.items ++ scenes.walls_round way points.now) }
+    ensures { OnOk result (walls.new.items ≡ walls.old.items ++ scenes.oriented_walls way points.now) }
 {
-    let keep = goes_round(way, points);
+    let keep = has_orientation(way, points);
     for k in 0..points.len() {
         append(walls, directed_edge(keep, edge(points, k)))?;
     }
@@ -93,9 +93,9 @@ pub(crate) fn append_corners(
     points: &[Point],
 ) -> Result<(), NoMemory>
     requires { All InRange points.now }
-    ensures { OnOk result (corners.new.items ≡ corners.old.items ++ scenes.corners_round way points.now) }
+    ensures { OnOk result (corners.new.items ≡ corners.old.items ++ scenes.oriented_corners way points.now) }
 {
-    let keep = goes_round(way, points);
+    let keep = has_orientation(way, points);
     let Some(last) = points.len().checked_sub(1) else {
         return Ok(());
     };

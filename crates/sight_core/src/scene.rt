@@ -4,7 +4,7 @@ ghost use Rattle.std.specs.Prelude.{All, IfOk, IsTrue, OnOk, length, ◌≡◌, 
 ghost use Rattle.std.specs.List.{flat_map};
 ghost use Rattle.plane_spec.specs.Vectors.{InRange};
 ghost use Rattle.plan_spec.specs.Accepted.{is_sound};
-ghost use Rattle.plan_spec.specs.Scene as scenes;
+ghost use Rattle.sight_spec.specs.Scene as scenes;
 ghost use Rattle.plane_spec.specs.Segments.{IsSegmentInRange};
 ghost use Rattle.plane_spec.specs.Cones.{IsCornerInRange};
 ghost use Rattle.sight_core.specs.Scenes.{IsOfSoundPlan};
@@ -26,7 +26,7 @@ pub struct Scene {
 }
 
 impl Model for Scene {
-    ghost use Rattle.plan_spec.specs.Scene.{Scene as SceneParts};
+    ghost use Rattle.sight_spec.specs.Scene.{Scene as SceneParts};
     ghost use Rattle.sight_core.specs.Scenes.{IsOfSoundPlan};
 
     ghost Value = { SceneParts };
@@ -41,7 +41,7 @@ impl Scene {
     pub fn walls(&self) -> &[Wall]
         ensures walls { result.now ≡ self.now.walls }
         ensures in_range { All IsSegmentInRange result.now }
-        ensures few { length result.now ≤ 1024 }
+        ensures at_most { length result.now ≤ 1024 }
         ensures of_plan { IsOfSoundPlan self.now }
     {
         &self.walls
@@ -51,7 +51,7 @@ impl Scene {
     pub fn screens(&self) -> &[Wall]
         ensures screens { result.now ≡ self.now.screens }
         ensures in_range { All IsSegmentInRange result.now }
-        ensures few { length result.now ≤ 256 }
+        ensures at_most { length result.now ≤ 256 }
         ensures of_plan { IsOfSoundPlan self.now }
     {
         &self.screens
@@ -61,7 +61,7 @@ impl Scene {
     pub fn corners(&self) -> &[Corner]
         ensures corners { result.now ≡ self.now.corners }
         ensures in_range { All IsCornerInRange result.now }
-        ensures few { length result.now ≤ 1024 }
+        ensures at_most { length result.now ≤ 1024 }
         ensures of_plan { IsOfSoundPlan self.now }
     {
         &self.corners
@@ -119,8 +119,8 @@ fn append_obstacles(corners: &mut Vec<Corner>, plan: &Plan) -> Result<(), NoMemo
 }
 
 /// The end of a screen as a corner that has no direction in its cone.
-fn lone_end(v: Point) -> Corner
-    ensures { result ≡ scenes.lone_end v }
+fn screen_corner(v: Point) -> Corner
+    ensures { result ≡ scenes.screen_corner v }
 {
     Corner {
         prev: v,
@@ -135,8 +135,8 @@ fn append_ends(corners: &mut Vec<Corner>, plan: &Plan) -> Result<(), NoMemory>
 {
     for k in 0..plan.screens() {
         let screen = plan.screen(k);
-        append(corners, lone_end(screen.from))?;
-        append(corners, lone_end(screen.to))?;
+        append(corners, screen_corner(screen.from))?;
+        append(corners, screen_corner(screen.to))?;
     }
     Ok(())
 }

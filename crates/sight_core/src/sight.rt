@@ -5,45 +5,45 @@ ghost use Rattle.std.specs.List.{list_any};
 ghost use Rattle.plane_spec.specs.Vectors as vectors;
 ghost use Rattle.plane_spec.specs.Vectors.{InRange};
 ghost use Rattle.plane_spec.specs.declared.Point.{Point};
-ghost use Rattle.plan_spec.specs.Scene.{Scene};
-ghost use Rattle.plan_spec.specs.Sight as sight;
+ghost use Rattle.sight_spec.specs.Scene.{Scene};
+ghost use Rattle.sight_spec.specs.Sight as sight;
 ghost use Rattle.sight_core.specs.Blocks as blocks;
 ghost use Rattle.plane_spec.specs.Segments.{IsSegmentInRange};
 ghost use Rattle.plane_spec.specs.Cones.{IsCornerInRange};
 
 use crate::cone::in_cone;
 use crate::scene::Scene;
-use exact_geom::{crosses, lies_left, on_segment, orient, same_point, vector};
+use exact_geom::{crosses, is_left_of_line, on_segment, orient, same_point, vector};
 use plane_spec::{Corner, Point, Segment as Wall};
 
 /// Whether `p` lies on the wall, not at its ends.
-pub(crate) fn is_on_middle(p: Point, wall: &Wall) -> bool
+pub(crate) fn is_in_interior(p: Point, wall: &Wall) -> bool
     requires p_in { InRange p }
     requires wall_in { IsSegmentInRange wall.now }
-    ensures { result ≡ sight.is_on_middle p wall.now }
+    ensures { result ≡ sight.is_in_interior p wall.now }
 {
     on_segment(p, wall.a, wall.b) && !same_point(p, wall.a) && !same_point(p, wall.b)
 }
 
 /// Whether the segment from `p` to `q` begins on the wall, not at its ends, and leads to its left.
-#[tactic(auto, unfolding(plan_spec::specs::Sight::leaves_wall))]
-fn leaves_wall(p: Point, q: Point, wall: &Wall) -> bool
+#[tactic(auto, unfolding(sight_spec::specs::Sight::starts_into_wall))]
+fn starts_into_wall(p: Point, q: Point, wall: &Wall) -> bool
     requires p_in { InRange p }
     requires q_in { InRange q }
     requires wall_in { IsSegmentInRange wall.now }
-    ensures { result ≡ sight.leaves_wall p q wall.now }
+    ensures { result ≡ sight.starts_into_wall p q wall.now }
 {
-    is_on_middle(p, wall) && lies_left(wall.a, wall.b, q)
+    is_in_interior(p, wall) && is_left_of_line(wall.a, wall.b, q)
 }
 
 /// Whether the segment begins or ends on the wall and is on its left.
-fn enters_wall(p: Point, q: Point, wall: &Wall) -> bool
+fn starts_or_ends_in_wall(p: Point, q: Point, wall: &Wall) -> bool
     requires p_in { InRange p }
     requires q_in { InRange q }
     requires wall_in { IsSegmentInRange wall.now }
-    ensures { result ≡ sight.enters_wall p q wall.now }
+    ensures { result ≡ sight.starts_or_ends_in_wall p q wall.now }
 {
-    leaves_wall(p, q, wall) || leaves_wall(q, p, wall)
+    starts_into_wall(p, q, wall) || starts_into_wall(q, p, wall)
 }
 
 /// Whether both are positive, or both are negative.
@@ -54,12 +54,12 @@ fn are_alike(s: i128, t: i128) -> bool
 }
 
 /// Whether the wall's ends lie strictly on one side of the line through `p` and `q`.
-#[tactic(auto, unfolding(crate::specs::Blocks::lies_aside))]
-fn lies_aside(p: Point, q: Point, wall: &Wall) -> bool
+#[tactic(auto, unfolding(crate::specs::Blocks::is_strictly_on_one_side))]
+fn is_strictly_on_one_side(p: Point, q: Point, wall: &Wall) -> bool
     requires p_in { InRange p }
     requires q_in { InRange q }
     requires wall_in { IsSegmentInRange wall.now }
-    ensures { result ≡ blocks.lies_aside p q wall.now }
+    ensures { result ≡ blocks.is_strictly_on_one_side p q wall.now }
 {
     are_alike(orient(p, q, wall.a), orient(p, q, wall.b))
 }
@@ -72,7 +72,7 @@ fn wall_blocks(p: Point, q: Point, wall: &Wall) -> bool
     requires wall_in { IsSegmentInRange wall.now }
     ensures { result ≡ blocks.wall_blocks p q wall.now }
 {
-    !lies_aside(p, q, wall) && (crosses(wall.a, wall.b, p, q) || enters_wall(p, q, wall))
+    !is_strictly_on_one_side(p, q, wall) && (crosses(wall.a, wall.b, p, q) || starts_or_ends_in_wall(p, q, wall))
 }
 
 /// Whether the corner isn't `to` and has the direction to it in its cone.
@@ -149,7 +149,7 @@ fn is_blocked(walls: &[Wall], screens: &[Wall], corners: &[Corner], p: Point, q:
 /// wall.
 ///
 /// Source: mutual visibility after Turner, Doxa, O'Sullivan and Penn (2001); the rule at corners is this project's own.
-#[tactic(auto, unfolding(plan_spec::specs::Sight::are_in_sight))]
+#[tactic(auto, unfolding(sight_spec::specs::Sight::are_in_sight))]
 pub fn free(scene: &Scene, p: Point, q: Point) -> bool
     requires p_in { InRange p }
     requires q_in { InRange q }

@@ -7,29 +7,29 @@ ghost use Rattle.exact_geom.specs.Parts.{HasStopParts};
 ghost use Rattle.plane_spec.specs.declared.Point.{Point};
 ghost use Rattle.plane_spec.specs.Fractions.{Fraction, reduced};
 ghost use Rattle.plane_spec.specs.Vectors.{InRange, IsDirected, IsDirection, vector};
-ghost use Rattle.plan_spec.specs.Scene.{Scene};
-ghost use Rattle.plan_spec.specs.Sight.{are_in_sight, is_on_middle};
-ghost use Rattle.plan_spec.specs.Stops as stops;
+ghost use Rattle.sight_spec.specs.Scene.{Scene};
+ghost use Rattle.sight_spec.specs.Sight.{are_in_sight, is_in_interior};
+ghost use Rattle.sight_spec.specs.Stops as stops;
 ghost use Rattle.sight_core.specs.Hits as hits;
 ghost use Rattle.sight_core.specs.Scenes.{IsOfSoundPlan};
 ghost use Rattle.plane_spec.specs.Segments.{IsSegmentInRange};
 ghost use Rattle.plane_spec.specs.Cones.{IsCornerInRange};
 
-use crate::hits::{Hit, corner_hit, is_no_later, line_hit, nearer, start_hit};
+use crate::hits::{Hit, corner_hit, is_no_later, blocker_hit, nearer, start_hit};
 use crate::scene::Scene;
 use exact_geom::Frac;
 use plane_spec::{Corner, Point, Segment as Wall};
 
 /// The first of the least among the best so far and where the ray meets walls or screens.
-fn nearest_line(best: Option<Hit>, lines: &[Wall], p: Point, d: Point) -> Option<Hit>
+fn nearest_blocker(best: Option<Hit>, lines: &[Wall], p: Point, d: Point) -> Option<Hit>
     requires lines_in { All IsSegmentInRange lines.now }
     requires p_in { InRange p }
     requires d_in { IsDirection d }
-    ensures { result ≡ hits.least_from best (filter_map (stops.line_hit p d) lines.now) }
+    ensures { result ≡ hits.least_from best (filter_map (stops.blocker_hit p d) lines.now) }
 {
     let mut nearest = best;
     for line in lines {
-        nearest = nearer(nearest, line_hit(p, d, line));
+        nearest = nearer(nearest, blocker_hit(p, d, line));
     }
     nearest
 }
@@ -71,8 +71,8 @@ fn nearest_of(scene: &Scene, p: Point, d: Point) -> Option<Hit>
     ensures first { result ≡ hits.nearest_of scene.now p d }
     ensures of_plan { IsOfSoundPlan scene.now }
 {
-    let across_walls = nearest_line(None, scene.walls(), p, d);
-    let across = nearest_line(across_walls, scene.screens(), p, d);
+    let across_walls = nearest_blocker(None, scene.walls(), p, d);
+    let across = nearest_blocker(across_walls, scene.screens(), p, d);
     let ahead = nearest_corner(across, scene.corners(), p, d);
     nearest_start(ahead, scene.walls(), p, d)
 }
@@ -84,13 +84,13 @@ fn nearest_of(scene: &Scene, p: Point, d: Point) -> Option<Hit>
 /// Cost: two passes over the walls and one over the screens and corners, and the reduction of one fraction.
 ///
 /// Source: the rays of an isovist after Benedikt (1979); the rules at corners and at the beginning are this project's own.
-#[tactic(auto, unfolding(plan_spec::specs::Stops::stop_of))]
+#[tactic(auto, unfolding(sight_spec::specs::Stops::stop_of))]
 pub fn stop(scene: &Scene, p: Point, d: Point) -> Option<Frac>
     requires p_in { InRange p }
     requires d_in { IsDirection d }
     requires directed { IsDirected d }
     ensures least { result ≡ stops.stop_of scene.now p d }
-    ensures small { IfSome result HasStopParts }
+    ensures parts_bounded { IfSome result HasStopParts }
     ensures ahead { IfSome result (λ t. pos 0 ≤ℤ t.num) }
 {
     nearest_of(scene, p, d).map(|hit| hit.reduced())
@@ -102,7 +102,7 @@ pub fn stop(scene: &Scene, p: Point, d: Point) -> Option<Frac>
 ///
 /// Proofs cite these laws from `proofs/StopBounds.antt`.
 pub fn stops_are_small()
-    ensures small { (scene : Scene) (p d : Point) (t : Fraction) → IsOfSoundPlan scene → InRange p → IsDirection d → stops.stop_of scene p d ≡ Some t → HasStopParts t }
+    ensures parts_bounded { (scene : Scene) (p d : Point) (t : Fraction) → IsOfSoundPlan scene → InRange p → IsDirection d → stops.stop_of scene p d ≡ Some t → HasStopParts t }
     ensures ahead { (scene : Scene) (p d : Point) (t : Fraction) → IsOfSoundPlan scene → InRange p → IsDirection d → stops.stop_of scene p d ≡ Some t → pos 0 ≤ℤ t.num }
 {}
 
@@ -112,8 +112,8 @@ fn nearest_line_of(scene: &Scene, p: Point, d: Point) -> Option<Hit>
     requires d_in { IsDirection d }
     ensures { result ≡ hits.nearest_line_of scene.now p d }
 {
-    let across_walls = nearest_line(None, scene.walls(), p, d);
-    nearest_line(across_walls, scene.screens(), p, d)
+    let across_walls = nearest_blocker(None, scene.walls(), p, d);
+    nearest_blocker(across_walls, scene.screens(), p, d)
 }
 
 /// Whether the wall or screen is hit, and not after `other`.
@@ -123,7 +123,7 @@ fn is_hit_by(p: Point, d: Point, other: &Hit, line: &Wall) -> bool
     requires line_in { IsSegmentInRange line.now }
     ensures { result ≡ hits.is_hit_by p d other.now line.now }
 {
-    is_no_later(line_hit(p, d, line), other)
+    is_no_later(blocker_hit(p, d, line), other)
 }
 
 /// The index of the first that is hit, and not after `other`.
@@ -171,5 +171,5 @@ pub fn near_walls_are_numbered()
 ///
 /// Proofs cite this law from `proofs/Onward.antt`.
 pub fn stops_go_on()
-    ensures { (scene : Scene) (p q : Point) → are_in_sight scene p q ≡ true → list_any (is_on_middle q) scene.screens ≡ false → stops.stop_of scene q (vector p q) ≡ option_map (λ t. reduced (hits.one_less t)) (stops.stop_of scene p (vector p q)) }
+    ensures { (scene : Scene) (p q : Point) → are_in_sight scene p q ≡ true → list_any (is_in_interior q) scene.screens ≡ false → stops.stop_of scene q (vector p q) ≡ option_map (λ t. reduced (hits.one_less t)) (stops.stop_of scene p (vector p q)) }
 {}

@@ -10,12 +10,12 @@ use Rattle.plane_spec.specs.declared.Point.{Point}
 use Rattle.plane_spec.specs.declared.Segment.{Segment}
 use Rattle.plane_spec.specs.declared.Corner.{Corner}
 use Rattle.plane_spec.specs.declared.Orientation.TheVariants.{Counterclockwise, Clockwise}
-use Rattle.plane_spec.specs.Vectors.{vector, cross_of, orient_of, same_point, is_left, lies_left}
+use Rattle.plane_spec.specs.Vectors.{vector, cross_of, orient_of, same_point, turns_left, is_left_of_line}
 use Rattle.plane_spec.specs.Segments.{is_on_segment, cross_properly}
 use Rattle.plane_spec.specs.Polygons.{edges_of, is_counterclockwise}
 use Rattle.plane_spec.specs.Cones.{corner, is_in_cone}
-use Rattle.plan_spec.specs.Scene.{turned_edge, turned_corner, walls_round, corners_round, corners_along}
-use Rattle.plan_spec.specs.Sight.{is_on_middle, leaves_wall, corner_stops, is_blocked}
+use Rattle.sight_spec.specs.Scene.{turned_edge, turned_corner, oriented_walls, oriented_corners, corners_along}
+use Rattle.sight_spec.specs.Sight.{is_in_interior, starts_into_wall, corner_stops, is_blocked}
 use Rattle.exact_geom.proofs.Orientation.{orient_of_first_exchanged}
 use Rattle.plane_laws.proofs.Lists.Members.{IsIn, source, mapped}
 use Rattle.plane_laws.proofs.Points.Directions.{turn_is}
@@ -30,9 +30,9 @@ use Rattle.sight_laws.proofs.Walls.{over_walls}
 -- ---- the outer polygon's walls and corners
 
 -- turned round, a wall of the outer polygon is one of an obstacle of that shape
-turned_wall : (points : List Point) (w : Segment) → IsIn (walls_round Clockwise points) w
-    → IsIn (walls_round Counterclockwise points) (turned_edge w)
-unfolding walls_round
+turned_wall : (points : List Point) (w : Segment) → IsIn (oriented_walls Clockwise points) w
+    → IsIn (oriented_walls Counterclockwise points) (turned_edge w)
+unfolding oriented_walls
 turned_wall points w there = by_turn (is_counterclockwise points) there
   where
     by_turn : (t : Bool) → IsIn (if not t then edges_of points else map turned_edge (edges_of points)) w
@@ -43,9 +43,9 @@ turned_wall points w there = by_turn (is_counterclockwise points) there
     by_turn false k = mapped turned_edge (edges_of points) w k
 
 -- each of its corners is between two of its walls
-corner_between : (points : List Point) (c : Corner) → IsIn (corners_round Clockwise points) c
-    → CornerOf (walls_round Clockwise points) c
-unfolding walls_round corners_round
+corner_between : (points : List Point) (c : Corner) → IsIn (oriented_corners Clockwise points) c
+    → CornerOf (oriented_walls Clockwise points) c
+unfolding oriented_walls oriented_corners
 corner_between points c there = by_turn (is_counterclockwise points) there
   where
     by_turn : (t : Bool)
@@ -61,16 +61,16 @@ corner_between points c there = by_turn (is_counterclockwise points) there
 left_of_one : (u v z d : Point) → is_in_cone (corner u v z) d ≡ true
     → (pos 0 <ℤ cross_of (vector u v) d) ⊎ (pos 0 <ℤ cross_of (vector v z) d)
 unfolding is_in_cone
-left_of_one u v z d h = by_turn (lies_left u v z) h
+left_of_one u v z d h = by_turn (is_left_of_line u v z) h
   where
     by_turn : (t : Bool)
-        → (if t then (is_left (vector u v) d && is_left (vector v z) d)
-        else (is_left (vector u v) d || is_left (vector v z) d)) ≡ true
+        → (if t then (turns_left (vector u v) d && turns_left (vector v z) d)
+        else (turns_left (vector u v) d || turns_left (vector v z) d)) ≡ true
         → (pos 0 <ℤ cross_of (vector u v) d) ⊎ (pos 0 <ℤ cross_of (vector v z) d)
     by_turn true k =
         inl (tested_positive (cross_of (vector u v) d)
-        (and_parts (is_left (vector u v) d) (is_left (vector v z) d) k).0)
-    by_turn false k = elim (or_cases (is_left (vector u v) d) (is_left (vector v z) d) k) [
+        (and_parts (turns_left (vector u v) d) (turns_left (vector v z) d) k).0)
+    by_turn false k = elim (or_cases (turns_left (vector u v) d) (turns_left (vector v z) d) k) [
       | inl l ↦ inl (tested_positive (cross_of (vector u v) d) l)
       | inr l ↦ inr (tested_positive (cross_of (vector v z) d) l)
     ]
@@ -79,11 +79,11 @@ left_of_one u v z d h = by_turn (lies_left u v z) h
 
 never_in_the_way : (points : List Point) (p q : Point) → is_on_or_inside p points ≡ true
     → is_on_or_inside q points ≡ true
-    → InTheWay (walls_round Clockwise points) (corners_round Clockwise points) p q → ⊥
-unfolding cross_properly leaves_wall corner_stops
+    → InTheWay (oriented_walls Clockwise points) (oriented_corners Clockwise points) p q → ⊥
+unfolding cross_properly starts_into_wall corner_stops
 never_in_the_way points p q p_over q_over way = by_way way
   where
-    right : (x : Point) → is_on_or_inside x points ≡ true → (w : Segment) → IsIn (walls_round Clockwise points) w
+    right : (x : Point) → is_on_or_inside x points ≡ true → (w : Segment) → IsIn (oriented_walls Clockwise points) w
         → orient_of w.a w.b x ≤ℤ pos 0
     right x over w there =
         let h = over_walls points x over (turned_edge w) (turned_wall points w there) in
@@ -94,13 +94,13 @@ never_in_the_way points p q p_over q_over way = by_way way
     by_signs s t h k (rises a b) = absurd (omega (arith, ints, k, b))
     by_signs s t h k (falls a b) = absurd (omega (arith, ints, h, a))
 
-    by_way : InTheWay (walls_round Clockwise points) (corners_round Clockwise points) p q → ⊥
+    by_way : InTheWay (oriented_walls Clockwise points) (oriented_corners Clockwise points) p q → ⊥
     by_way (crossed w there h) =
         let parts = and_parts _ _ h in
         by_signs (orient_of w.a w.b p) (orient_of w.a w.b q) (right p p_over w there) (right q q_over w there)
         (crossing (orient_of w.a w.b p) (orient_of w.a w.b q) parts.0)
     by_way (left_behind w there h) =
-        let parts = and_parts (is_on_middle p w) (lies_left w.a w.b q) h in
+        let parts = and_parts (is_in_interior p w) (is_left_of_line w.a w.b q) h in
         let left = tested_positive (orient_of w.a w.b q) parts.1 in
         let r = right q q_over w there in
         absurd (omega (arith, ints, left, r))
@@ -113,8 +113,8 @@ never_in_the_way points p q p_over q_over way = by_way way
         (left_of_one o.before.a o.edge.a o.edge.b (vector o.edge.a q)
         (subst (λ t. is_in_cone t (vector t.here q) ≡ true) (sym o.is) second.1))
       where
-        at_corner : (before edge : Segment) → IsIn (walls_round Clockwise points) before
-            → IsIn (walls_round Clockwise points) edge → before.b ≡ edge.a
+        at_corner : (before edge : Segment) → IsIn (oriented_walls Clockwise points) before
+            → IsIn (oriented_walls Clockwise points) edge → before.b ≡ edge.a
             → (pos 0 <ℤ cross_of (vector before.a edge.a) (vector edge.a q))
             ⊎ (pos 0 <ℤ cross_of (vector edge.a edge.b) (vector edge.a q)) → ⊥
         at_corner before edge before_there edge_there meets (inl left) =
@@ -131,9 +131,9 @@ pub outer_unblocked : (points : List Point) (p q : Point) → is_on_or_inside p 
     → is_blocked (outer_alone points) p q ≡ false
 outer_unblocked points p q p_over q_over =
     false_from_ne_true (is_blocked (outer_alone points) p q)
-    (λ h. by_side (no_screens (walls_round Clockwise points) (corners_round Clockwise points) p q h))
+    (λ h. by_side (no_screens (oriented_walls Clockwise points) (oriented_corners Clockwise points) p q h))
   where
-    by_side : InTheWay (walls_round Clockwise points) (corners_round Clockwise points) p q
-        ⊎ InTheWay (walls_round Clockwise points) (corners_round Clockwise points) q p → ⊥
+    by_side : InTheWay (oriented_walls Clockwise points) (oriented_corners Clockwise points) p q
+        ⊎ InTheWay (oriented_walls Clockwise points) (oriented_corners Clockwise points) q p → ⊥
     by_side (inl way) = never_in_the_way points p q p_over q_over way
     by_side (inr way) = never_in_the_way points q p q_over p_over way

@@ -15,13 +15,13 @@ use Rattle.plane_spec.specs.declared.Point.{Point}
 use Rattle.plane_spec.specs.declared.Segment.{Segment}
 use Rattle.plane_spec.specs.declared.Corner.{Corner}
 use Rattle.plane_spec.specs.declared.Orientation.TheVariants.{Counterclockwise}
-use Rattle.plane_spec.specs.Vectors.{vector, cross_of, orient_of, same_point, lies_left}
+use Rattle.plane_spec.specs.Vectors.{vector, cross_of, orient_of, same_point, is_left_of_line}
 use Rattle.plane_spec.specs.Segments.{is_between, is_on_segment, cross_properly}
 use Rattle.plane_spec.specs.Polygons.{is_on_edge, is_inside, is_simple, has_repeat, crosses_nowhere}
 use Rattle.plane_spec.specs.Cones.{is_in_cone}
-use Rattle.plan_spec.specs.Scene.{Scene, walls_round, corners_round, lines_of_scene}
-use Rattle.plan_spec.specs.Sight.{crosses, is_on_middle, leaves_wall, enters_wall, corner_stops, corner_blocks}
-use Rattle.plan_spec.specs.Sight.{is_blocked}
+use Rattle.sight_spec.specs.Scene.{Scene, oriented_walls, oriented_corners, blockers_of_scene}
+use Rattle.sight_spec.specs.Sight.{crosses, is_in_interior, starts_into_wall, starts_or_ends_in_wall, corner_stops, corner_blocks}
+use Rattle.sight_spec.specs.Sight.{is_blocked}
 use Rattle.list_laws.proofs.Tests.{list_any_agree}
 use Rattle.plane_laws.specs.Enlarged.{enlarged, part_way}
 use Rattle.plane_laws.proofs.Tests.{clash}
@@ -95,9 +95,9 @@ through_between points p q p_in q_in =
         let f = height_from w.a w.b p q in
         omega (arith, ints, e, f, h, k)
 
-    left : (w : Segment) → IsIn (walls_round Counterclockwise (map (enlarged 2) points)) w → pos 0 <ℤ height w (part_way 1 2 p q)
+    left : (w : Segment) → IsIn (oriented_walls Counterclockwise (map (enlarged 2) points)) w → pos 0 <ℤ height w (part_way 1 2 p q)
     left w there =
-        let o = source (scaled_wall (pos 2) (pos 2)) (walls_round Counterclockwise points) w
+        let o = source (scaled_wall (pos 2) (pos 2)) (oriented_walls Counterclockwise points) w
         (subst (λ t. IsIn t w) (walls_enlarged 2 points (omega arith)) there) in
         subst (λ t. pos 0 <ℤ height t (part_way 1 2 p q)) o.is
         (over o.it (left_of_walls points p p_in o.it o.is_in) (left_of_walls points q q_in o.it o.is_in))
@@ -121,11 +121,11 @@ through_point points p w = from_left_of_walls points p left
         let b = product_swapped (pos n) z in
         positive_factor z (pos n) (omega (arith, ints, first, b, e)) up
 
-    left : (f : Segment) → IsIn (walls_round Counterclockwise points) f → pos 0 <ℤ height f p
+    left : (f : Segment) → IsIn (oriented_walls Counterclockwise points) f → pos 0 <ℤ height f p
     left f there =
         let h = left_of_walls (map (enlarged n) points) (part_way w.0 n p p) w.4 (scaled_wall (pos n) (pos n) f)
         (subst (λ t. IsIn t (scaled_wall (pos n) (pos n) f)) (sym (walls_enlarged n points some))
-        (mapped (scaled_wall (pos n) (pos n)) (walls_round Counterclockwise points) f there)) in
+        (mapped (scaled_wall (pos n) (pos n)) (oriented_walls Counterclockwise points) f there)) in
         by_sign (height f p) (pos w.0) (cross_of (vector f.a f.b) (vector p p)) (cross_none (vector f.a f.b) p)
         (subst (λ t. pos 0 <ℤ t) (height_of_step n w.0 p p f) h)
 
@@ -143,8 +143,8 @@ crosses_back p q w = rw (
 pub blocked_back : (scene : Scene) (p q : Point) → is_blocked scene q p ≡ is_blocked scene p q
 unfolding is_blocked
 blocked_back scene p q = rw (
-  list_any_agree (crosses q p) (crosses p q) (crosses_back p q) (lines_of_scene scene),
-  list_any_agree (enters_wall q p) (enters_wall p q) (λ w. or_comm (leaves_wall q p w) (leaves_wall p q w)) scene.walls,
+  list_any_agree (crosses q p) (crosses p q) (crosses_back p q) (blockers_of_scene scene),
+  list_any_agree (starts_or_ends_in_wall q p) (starts_or_ends_in_wall p q) (λ w. or_comm (starts_into_wall q p w) (starts_into_wall p q w)) scene.walls,
   list_any_agree (corner_blocks q p) (corner_blocks p q)
       (λ c. or_comm (corner_stops q p c) (corner_stops p q c)) scene.corners,
 ) refl
@@ -152,7 +152,7 @@ blocked_back scene p q = rw (
 -- ---- a segment that is a point
 
 nothing_in_the_way : (walls : List Segment) (corners : List Corner) (p : Point) → InTheWay walls corners p p → ⊥
-unfolding cross_properly leaves_wall corner_stops
+unfolding cross_properly starts_into_wall corner_stops
 nothing_in_the_way walls corners p (crossed w there h) =
     by_signs (crossing (orient_of w.a w.b p) (orient_of w.a w.b p) (and_parts _ _ h).0)
   where
@@ -160,7 +160,7 @@ nothing_in_the_way walls corners p (crossed w there h) =
     by_signs (rises a b) = absurd (omega (arith, ints, a, b))
     by_signs (falls a b) = absurd (omega (arith, ints, a, b))
 nothing_in_the_way walls corners p (left_behind w there h) =
-    let parts = and_parts (is_on_middle p w) (lies_left w.a w.b p) h in
+    let parts = and_parts (is_in_interior p w) (is_left_of_line w.a w.b p) h in
     let on = between p w.a w.b (and_parts (is_on_edge p w) _ parts.0).0 in
     let line = on.line in
     let left = tested_positive (orient_of w.a w.b p) parts.1 in
@@ -174,12 +174,12 @@ nothing_in_the_way walls corners p (stopped c there h) =
     at x p h = grind (arith, ints)
 
 pub point_unblocked : (points : List Point) (p : Point) → is_blocked (obstacle_alone points) p p ≡ true → ⊥
-point_unblocked points p h = by_side (no_screens (walls_round Counterclockwise points) (corners_round Counterclockwise points) p p h)
+point_unblocked points p h = by_side (no_screens (oriented_walls Counterclockwise points) (oriented_corners Counterclockwise points) p p h)
   where
-    by_side : InTheWay (walls_round Counterclockwise points) (corners_round Counterclockwise points) p p
-        ⊎ InTheWay (walls_round Counterclockwise points) (corners_round Counterclockwise points) p p → ⊥
-    by_side (inl way) = nothing_in_the_way (walls_round Counterclockwise points) (corners_round Counterclockwise points) p way
-    by_side (inr way) = nothing_in_the_way (walls_round Counterclockwise points) (corners_round Counterclockwise points) p way
+    by_side : InTheWay (oriented_walls Counterclockwise points) (oriented_corners Counterclockwise points) p p
+        ⊎ InTheWay (oriented_walls Counterclockwise points) (oriented_corners Counterclockwise points) p p → ⊥
+    by_side (inl way) = nothing_in_the_way (oriented_walls Counterclockwise points) (oriented_corners Counterclockwise points) p way
+    by_side (inr way) = nothing_in_the_way (oriented_walls Counterclockwise points) (oriented_corners Counterclockwise points) p way
 
 -- ---- the laws
 

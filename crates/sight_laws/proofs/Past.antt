@@ -13,8 +13,8 @@ use Rattle.plane_spec.specs.Vectors.{same_point}
 use Rattle.plane_spec.specs.Polygons.{is_simple, is_inside}
 use Rattle.plan_spec.specs.Accepted.{is_sound}
 use Rattle.plan_spec.specs.Plan.{Obstacle, Plan}
-use Rattle.plan_spec.specs.Scene.{scene_of, walls_round, corners_round, walls_of, corners_of, screens_of}
-use Rattle.plan_spec.specs.Sight.{crosses, is_blocked, are_in_sight, is_open}
+use Rattle.sight_spec.specs.Scene.{scene_of, oriented_walls, oriented_corners, walls_of, corners_of, screens_of}
+use Rattle.sight_spec.specs.Sight.{crosses, is_blocked, are_in_sight, is_open}
 use Rattle.plane_laws.specs.Enlarged.{part_way}
 use Rattle.plane_laws.proofs.Tests.{clash}
 use Rattle.plane_laws.proofs.Lists.Members.{IsIn, each_passes, each_fails, mapped, source, from_contains, to_contains}
@@ -34,9 +34,9 @@ use Rattle.sight_laws.proofs.Passing.{through_blocked, blocked_through}
 -- ---- any plan
 
 no_screen : (points : List Point) (p q : Point) → is_blocked (obstacle_alone points) p q ≡ true
-    → InTheWay (walls_round Counterclockwise points) (corners_round Counterclockwise points) p q
-    ⊎ InTheWay (walls_round Counterclockwise points) (corners_round Counterclockwise points) q p
-no_screen points p q h = no_screens (walls_round Counterclockwise points) (corners_round Counterclockwise points) p q h
+    → InTheWay (oriented_walls Counterclockwise points) (oriented_corners Counterclockwise points) p q
+    ⊎ InTheWay (oriented_walls Counterclockwise points) (oriented_corners Counterclockwise points) q p
+no_screen points p q h = no_screens (oriented_walls Counterclockwise points) (oriented_corners Counterclockwise points) p q h
 
 -- what blocks by itself blocks in the plan
 obstacle_in_plan : (plan : Plan) (o : Obstacle) (p q : Point) → IsIn plan.obstacles o

@@ -10,7 +10,7 @@ use Rattle.plane_spec.specs.declared.Orientation.TheVariants.{Counterclockwise}
 use Rattle.plane_spec.specs.Vectors.{same_point}
 use Rattle.plane_spec.specs.Polygons.{edges_of, is_on_edge, is_on_border, is_inside, is_simple, has_repeat}
 use Rattle.plane_spec.specs.Polygons.{is_nothing, is_counterclockwise}
-use Rattle.plan_spec.specs.Scene.{turned_edge, walls_round}
+use Rattle.sight_spec.specs.Scene.{turned_edge, oriented_walls}
 use Rattle.plane_laws.specs.Enlarged.{enlarged}
 use Rattle.plane_laws.proofs.Tests.{clash}
 use Rattle.plane_laws.proofs.Lists.Members.{IsIn, Found, found, each_fails, source, mapped}
@@ -37,9 +37,9 @@ use Rattle.sight_laws.proofs.RightOfOne.{winding_outside}
 -- ---- by the walls
 
 -- a polygon's walls are its edges, or those turned round
-same_walls : (points : List Point) → (walls_round Counterclockwise points ≡ edges_of points)
-    ⊎ (walls_round Counterclockwise points ≡ map turned_edge (edges_of points))
-unfolding walls_round
+same_walls : (points : List Point) → (oriented_walls Counterclockwise points ≡ edges_of points)
+    ⊎ (oriented_walls Counterclockwise points ≡ map turned_edge (edges_of points))
+unfolding oriented_walls
 same_walls points = by_turn (is_counterclockwise points)
   where
     by_turn : (t : Bool) → ((if t then edges_of points else map turned_edge (edges_of points)) ≡ edges_of points)
@@ -75,8 +75,8 @@ left_where_odd walls closed some convex x off odd w there =
     (λ f f_there. each_fails (is_on_edge x) walls f off f_there))) odd))
 
 -- a simple polygon has a wall
-some_wall : (points : List Point) → is_simple points ≡ true → (w : Segment) × IsIn (walls_round Counterclockwise points) w
-unfolding walls_round
+some_wall : (points : List Point) → is_simple points ≡ true → (w : Segment) × IsIn (oriented_walls Counterclockwise points) w
+unfolding oriented_walls
 some_wall points simple = by_turn (is_counterclockwise points) (some_edge points simple)
   where
     some_edge : (points : List Point) → is_simple points ≡ true → (e : Segment) × IsIn (edges_of points) e
@@ -91,9 +91,9 @@ some_wall points simple = by_turn (is_counterclockwise points) (some_edge points
     by_turn false e = (turned_edge e.0, mapped turned_edge (edges_of points) e.0 e.1)
 
 -- what no repeat means for the walls
-real_walls : (points : List Point) → has_repeat points ≡ false → (w : Segment) → IsIn (walls_round Counterclockwise points) w
+real_walls : (points : List Point) → has_repeat points ≡ false → (w : Segment) → IsIn (oriented_walls Counterclockwise points) w
     → same_point w.a w.b ≡ false
-unfolding walls_round
+unfolding oriented_walls
 real_walls points h w there = by_turn (is_counterclockwise points) there
   where
     real : (e : Segment) → IsIn (edges_of points) e → same_point e.a e.b ≡ false
@@ -106,8 +106,8 @@ real_walls points h w there = by_turn (is_counterclockwise points) there
         let o = source turned_edge (edges_of points) w k in
         subst (λ t. same_point t.a t.b ≡ false) o.is (apart_back o.it.a o.it.b (real o.it o.is_in))
 
-closed_walls : (points : List Point) → AreClosed (walls_round Counterclockwise points)
-unfolding walls_round
+closed_walls : (points : List Point) → AreClosed (oriented_walls Counterclockwise points)
+unfolding oriented_walls
 closed_walls points = by_turn (is_counterclockwise points)
   where
     by_turn : (t : Bool) → AreClosed (if t then edges_of points else map turned_edge (edges_of points))
@@ -126,7 +126,7 @@ off_and_odd false t h = (refl, h)
 pub inside_where_left : (points : List Point) (x : Point) → is_simple points ≡ true → is_convex points ≡ true
     → is_strictly_inside x points ≡ true → is_inside x points ≡ true
 inside_where_left points x simple convex h =
-    let walls = walls_round Counterclockwise points in
+    let walls = oriented_walls Counterclockwise points in
     let first = some_wall points simple in
     let left = left_of_walls points x h in
     by_walls points walls x (same_walls points)
@@ -136,7 +136,7 @@ inside_where_left points x simple convex h =
 pub left_where_inside : (points : List Point) (x : Point) → has_repeat points ≡ false → is_convex points ≡ true
     → is_inside x points ≡ true → is_strictly_inside x points ≡ true
 left_where_inside points x some convex h =
-    let walls = walls_round Counterclockwise points in
+    let walls = oriented_walls Counterclockwise points in
     let parts = off_and_odd (is_on_any x walls) (is_odd x walls)
     (sym (by_walls points walls x (same_walls points)) ∙ h) in
     from_left_of_walls points x
@@ -149,7 +149,7 @@ over_where_within points x some convex h =
     from_over_walls points x (λ w there. by_part w there (is_on_any x walls) refl)
   where
     walls : List Segment
-    walls = walls_round Counterclockwise points
+    walls = oriented_walls Counterclockwise points
 
     whole : (is_on_any x walls || (not (is_on_any x walls) && is_odd x walls)) ≡ true
     whole = sym (both_by_walls points walls x (same_walls points)) ∙ h
@@ -184,7 +184,7 @@ inside_where_left_enlarged points n x simple convex some h =
     (mapped (scaled_wall (pos n) (pos n)) walls first.0 first.1) x left)
   where
     walls : List Segment
-    walls = walls_round Counterclockwise points
+    walls = oriented_walls Counterclockwise points
 
     first : (w : Segment) × IsIn walls w
     first = some_wall points simple
@@ -205,7 +205,7 @@ left_where_inside_enlarged points n x real convex some h =
     (subst (λ t. IsIn t w) (walls_enlarged n points some) there))
   where
     walls : List Segment
-    walls = walls_round Counterclockwise points
+    walls = oriented_walls Counterclockwise points
 
     up : pos 0 <ℤ pos n
     up = omega (arith, ints, some)

@@ -9,9 +9,9 @@ use Rattle.int_laws.proofs.Multiples.{positive_scaled}
 use Rattle.plane_spec.specs.declared.Point.{Point}
 use Rattle.plane_spec.specs.declared.Segment.{Segment}
 use Rattle.plane_spec.specs.declared.Orientation.TheVariants.{Counterclockwise}
-use Rattle.plane_spec.specs.Vectors.{orient_of, lies_left}
+use Rattle.plane_spec.specs.Vectors.{orient_of, is_left_of_line}
 use Rattle.plane_spec.specs.Polygons.{edges_of, doubled_area, is_counterclockwise}
-use Rattle.plan_spec.specs.Scene.{turned_edge, walls_round}
+use Rattle.sight_spec.specs.Scene.{turned_edge, oriented_walls}
 use Rattle.plane_laws.specs.Enlarged.{enlarged}
 use Rattle.plane_laws.proofs.Lists.Members.{IsIn, each_passes, all_pass, source, mapped}
 use Rattle.plane_laws.proofs.Points.Heights.{height}
@@ -30,9 +30,9 @@ AreConvex walls =
 -- ---- from the tests
 
 -- another wall begins where each one ends
-next_wall : (points : List Point) (v : Segment) → IsIn (walls_round Counterclockwise points) v
-    → (f : Segment) × IsIn (walls_round Counterclockwise points) f × (f.a ≡ v.b)
-unfolding walls_round
+next_wall : (points : List Point) (v : Segment) → IsIn (oriented_walls Counterclockwise points) v
+    → (f : Segment) × IsIn (oriented_walls Counterclockwise points) f × (f.a ≡ v.b)
+unfolding oriented_walls
 next_wall points v there = by_turn (is_counterclockwise points) there
   where
     by_turn : (t : Bool) → IsIn (if t then edges_of points else map turned_edge (edges_of points)) v
@@ -44,36 +44,36 @@ next_wall points v there = by_turn (is_counterclockwise points) there
         (turned_edge (wall b.0 o.it.a), mapped turned_edge (edges_of points) (wall b.0 o.it.a) b.1, ap (λ t. t.b) o.is)
 
 pub over_walls : (points : List Point) (x : Point) → is_on_or_inside x points ≡ true
-    → (w : Segment) → IsIn (walls_round Counterclockwise points) w → pos 0 ≤ℤ height w x
+    → (w : Segment) → IsIn (oriented_walls Counterclockwise points) w → pos 0 ≤ℤ height w x
 over_walls points x h w there =
     tested_at_most (pos 0) (height w x) (each_passes (λ w. int_le (pos 0) (orient_of w.a w.b x))
-    (walls_round Counterclockwise points) w h there)
+    (oriented_walls Counterclockwise points) w h there)
 
 pub from_over_walls : (points : List Point) (x : Point)
-    → ((w : Segment) → IsIn (walls_round Counterclockwise points) w → pos 0 ≤ℤ height w x) → is_on_or_inside x points ≡ true
+    → ((w : Segment) → IsIn (oriented_walls Counterclockwise points) w → pos 0 ≤ℤ height w x) → is_on_or_inside x points ≡ true
 from_over_walls points x h =
-    all_pass (λ w. int_le (pos 0) (orient_of w.a w.b x)) (walls_round Counterclockwise points)
+    all_pass (λ w. int_le (pos 0) (orient_of w.a w.b x)) (oriented_walls Counterclockwise points)
     (λ w there. at_most_tested (pos 0) (height w x) (h w there))
 
 pub left_of_walls : (points : List Point) (x : Point) → is_strictly_inside x points ≡ true
-    → (w : Segment) → IsIn (walls_round Counterclockwise points) w → pos 0 <ℤ height w x
+    → (w : Segment) → IsIn (oriented_walls Counterclockwise points) w → pos 0 <ℤ height w x
 left_of_walls points x h w there =
-    tested_positive (height w x) (each_passes (λ w. lies_left w.a w.b x) (walls_round Counterclockwise points) w h there)
+    tested_positive (height w x) (each_passes (λ w. is_left_of_line w.a w.b x) (oriented_walls Counterclockwise points) w h there)
 
 pub from_left_of_walls : (points : List Point) (x : Point)
-    → ((w : Segment) → IsIn (walls_round Counterclockwise points) w → pos 0 <ℤ height w x) → is_strictly_inside x points ≡ true
+    → ((w : Segment) → IsIn (oriented_walls Counterclockwise points) w → pos 0 <ℤ height w x) → is_strictly_inside x points ≡ true
 from_left_of_walls points x h =
-    all_pass (λ w. lies_left w.a w.b x) (walls_round Counterclockwise points) (λ w there. positive_tested (height w x) (h w there))
+    all_pass (λ w. is_left_of_line w.a w.b x) (oriented_walls Counterclockwise points) (λ w there. positive_tested (height w x) (h w there))
 
-pub convex_walls : (points : List Point) → is_convex points ≡ true → AreConvex (walls_round Counterclockwise points)
+pub convex_walls : (points : List Point) → is_convex points ≡ true → AreConvex (oriented_walls Counterclockwise points)
 convex_walls points h w v w_there v_there =
     let next = next_wall points v v_there in
     (start v v_there, subst (λ t. pos 0 ≤ℤ height w t) next.2 (start next.0 next.1))
   where
-    start : (v : Segment) → IsIn (walls_round Counterclockwise points) v → pos 0 ≤ℤ height w v.a
+    start : (v : Segment) → IsIn (oriented_walls Counterclockwise points) v → pos 0 ≤ℤ height w v.a
     start v there =
         over_walls points v.a (each_passes (λ v. is_on_or_inside v.a points)
-        (walls_round Counterclockwise points) v h there) w w_there
+        (oriented_walls Counterclockwise points) v h there) w w_there
 
 -- ---- in a plane that is n times as large
 
@@ -112,8 +112,8 @@ counterclockwise_enlarged n points some =
 
 -- the walls of the polygon n times as large
 pub walls_enlarged : (n : ℕ) (points : List Point) → 0 < n
-    → walls_round Counterclockwise (map (enlarged n) points) ≡ large n (walls_round Counterclockwise points)
-unfolding walls_round
+    → oriented_walls Counterclockwise (map (enlarged n) points) ≡ large n (oriented_walls Counterclockwise points)
+unfolding oriented_walls
 walls_enlarged n points some =
     ap (λ t. if t then edges_of (map (enlarged n) points) else map turned_edge (edges_of (map (enlarged n) points)))
     (counterclockwise_enlarged n points some)

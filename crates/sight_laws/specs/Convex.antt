@@ -3,26 +3,26 @@ use Rattle.std.specs.Prelude.{ℕ, pos, ◌<◌, ◌≡◌, Bool, true, false, �
 use Rattle.std.specs.List.{list_any, list_all}
 use Rattle.plane_spec.specs.declared.Point.{Point}
 use Rattle.plane_spec.specs.declared.Orientation.TheVariants.{Counterclockwise}
-use Rattle.plane_spec.specs.Vectors.{orient_of, same_point, lies_left}
+use Rattle.plane_spec.specs.Vectors.{orient_of, same_point, is_left_of_line}
 use Rattle.plane_spec.specs.Polygons.{is_simple}
 use Rattle.plan_spec.specs.Plan.{Obstacle, Plan}
-use Rattle.plan_spec.specs.Scene.{walls_round, screens_of}
-use Rattle.plan_spec.specs.Sight.{crosses}
+use Rattle.sight_spec.specs.Scene.{oriented_walls, screens_of}
+use Rattle.sight_spec.specs.Sight.{crosses}
 use Rattle.plane_laws.specs.Enlarged.{enlarged, part_way}
 
 -- ---- convex polygons, whichever way round their points go
 
 -- x is on or left of all walls, as is all that lies on a convex polygon or inside it
 abbrev pub is_on_or_inside : Point → List Point → Bool
-is_on_or_inside x points = list_all (λ w. int_le (pos 0) (orient_of w.a w.b x)) (walls_round Counterclockwise points)
+is_on_or_inside x points = list_all (λ w. int_le (pos 0) (orient_of w.a w.b x)) (oriented_walls Counterclockwise points)
 
 -- x is strictly left of all walls: strictly inside
 abbrev pub is_strictly_inside : Point → List Point → Bool
-is_strictly_inside x points = list_all (λ w. lies_left w.a w.b x) (walls_round Counterclockwise points)
+is_strictly_inside x points = list_all (λ w. is_left_of_line w.a w.b x) (oriented_walls Counterclockwise points)
 
 -- each corner is on or left of each wall
 abbrev pub is_convex : List Point → Bool
-is_convex points = list_all (λ v. is_on_or_inside v.a points) (walls_round Counterclockwise points)
+is_convex points = list_all (λ v. is_on_or_inside v.a points) (oriented_walls Counterclockwise points)
 
 -- some point p + (a/n)(q - p) of the segment, for whole numbers 0 < a < n, is strictly inside
 abbrev pub PassesThrough : List Point → Point → Point → Type 0

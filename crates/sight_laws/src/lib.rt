@@ -23,8 +23,8 @@
 //!
 //! | law | what it says | breaks if .. changes |
 //! |---|---|---|
-//! | [`strictly_inside_is_inside`] | what is strictly left of all walls of a simple convex polygon is inside it | `is_inside`, `walls_round`, `is_simple` |
-//! | [`inside_is_strictly_inside`] | what is inside a convex polygon is strictly left of all its walls | `is_inside`, `walls_round` |
+//! | [`strictly_inside_is_inside`] | what is strictly left of all walls of a simple convex polygon is inside it | `is_inside`, `oriented_walls`, `is_simple` |
+//! | [`inside_is_strictly_inside`] | what is inside a convex polygon is strictly left of all its walls | `is_inside`, `oriented_walls` |
 //! | [`no_sight_through_a_convex_obstacle`] | a segment that passes through a simple convex obstacle is blocked | `is_blocked`, `is_in_cone`, `is_inside` |
 //! | [`a_convex_obstacle_blocks_no_more`] | a segment that such an obstacle blocks passes through it | the same |
 //! | [`a_convex_outer_polygon_blocks_nothing`] | between points on or inside it, a convex outer polygon is never in the way | `is_blocked`, `is_in_cone`, `is_inside` |
@@ -39,11 +39,5 @@ mod obstacles;
 mod plans;
 
 pub use inside::{inside_is_strictly_inside, strictly_inside_is_inside};
-pub use obstacles::{
-    a_convex_obstacle_blocks_no_more, a_convex_outer_polygon_blocks_nothing,
-    no_sight_through_a_convex_obstacle,
-};
-pub use plans::{
-    no_sight_between_open_points_through_a_convex_obstacle, seeing_past_is_seeing_over_open_points,
-    sight_among_convex_polygons, what_is_seen_among_convex_polygons,
-};
+pub use obstacles::{a_convex_obstacle_blocks_no_more, a_convex_outer_polygon_blocks_nothing, no_sight_through_a_convex_obstacle};
+pub use plans::{no_sight_between_open_points_through_a_convex_obstacle, seeing_past_is_seeing_over_open_points, sight_among_convex_polygons, what_is_seen_among_convex_polygons};

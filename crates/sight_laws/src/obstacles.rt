@@ -4,8 +4,8 @@ ghost use Rattle.std.specs.Prelude.{Contains, List, false, true, ◌&&◌, ◌�
 ghost use Rattle.plane_spec.specs.declared.Point.{Point};
 ghost use Rattle.plane_spec.specs.Polygons.{has_repeat, is_simple};
 ghost use Rattle.plan_spec.specs.Plan.{Obstacle, Plan};
-ghost use Rattle.plan_spec.specs.Scene.{scene_of};
-ghost use Rattle.plan_spec.specs.Sight.{are_in_sight, is_blocked};
+ghost use Rattle.sight_spec.specs.Scene.{scene_of};
+ghost use Rattle.sight_spec.specs.Sight.{are_in_sight, is_blocked};
 ghost use Rattle.polygon_laws.specs.Alone.{obstacle_alone, outer_alone};
 ghost use Rattle.polygon_laws.specs.Through.{is_within};
 ghost use Rattle.sight_laws.specs.Convex.{PassesThrough, is_convex, is_on_or_inside, is_strictly_inside};

@@ -21,7 +21,7 @@ use Rattle.plane_spec.specs.declared.Point.{Point}
 use Rattle.plane_spec.specs.declared.PlanBox.{PlanBox}
 use Rattle.plane_spec.specs.Vectors.{vector, orient_of}
 use Rattle.plane_spec.specs.Fractions.{Fraction}
-use Rattle.plane_spec.specs.Boxes.{is_left_of}
+use Rattle.plane_spec.specs.Boxes.{is_box_left_of_line}
 use Rattle.spot_laws.proofs.Spots.{Spot, spot_at, spots_overlap, spots_meet_box, IsPositive}
 use Rattle.spot_laws.proofs.Factors.{not_negative, same_sign, low_same, high_same}
 use Rattle.box_laws.proofs.Held.{overlap_turned}
@@ -176,8 +176,8 @@ side_same i j k l c s t u v a b f g =
 pub left_same : (i j k l : Point) (s t u v : Fraction) (box : PlanBox) → IsExtent s t → IsExtent u v
     → SameSpot (spot_at i (vector j i) s) (spot_at k (vector l k) u)
     → SameSpot (spot_at j (vector i j) t) (spot_at l (vector k l) v)
-    → is_left_of i j box ≡ is_left_of k l box
-unfolding is_left_of
+    → is_box_left_of_line i j box ≡ is_box_left_of_line k l box
+unfolding is_box_left_of_line
 left_same i j k l s t u v box a b f g =
     rw (
       side_same i j k l (record { x = box.low.x; y = box.low.y }) s t u v a b f g,
@@ -226,7 +226,7 @@ unfolding spots_meet_box
 extent_back i j f t box =
     overlap_turned (int_le (box.low.x *ℤ t.w) t.x) (int_le (box.low.x *ℤ f.w) f.x) (int_le t.x (box.high.x *ℤ t.w))
     (int_le f.x (box.high.x *ℤ f.w)) (int_le (box.low.y *ℤ t.w) t.y) (int_le (box.low.y *ℤ f.w) f.y)
-    (int_le t.y (box.high.y *ℤ t.w)) (int_le f.y (box.high.y *ℤ f.w)) (is_left_of j i box) (is_left_of i j box)
+    (int_le t.y (box.high.y *ℤ t.w)) (int_le f.y (box.high.y *ℤ f.w)) (is_box_left_of_line j i box) (is_box_left_of_line i j box)
 
 -- the same ends in the other order
 pub extent_same_back : (i j k l : Point) (s t u v : Fraction) (box : PlanBox) → IsExtent s t → IsExtent u v

@@ -20,7 +20,7 @@ use Rattle.plane_spec.specs.declared.Point.{Point}
 use Rattle.plane_spec.specs.declared.PlanBox.{PlanBox}
 use Rattle.plane_spec.specs.Vectors.{vector}
 use Rattle.plane_spec.specs.Fractions.{Fraction}
-use Rattle.plane_spec.specs.Boxes.{do_overlap, does_meet_box}
+use Rattle.plane_spec.specs.Boxes.{do_intervals_overlap, does_meet_box}
 use Rattle.box_laws.proofs.Touching.{order_stays, order_turns}
 use Rattle.spot_laws.proofs.Spots.{spot_at, spots_overlap, spots_meet_box, IsPositive, SpotIn, Cut}
 use Rattle.spot_laws.proofs.Factors.{not_negative, outer_exchanged, cancel_le, falling_product}
@@ -187,7 +187,7 @@ outer_down high j w n d pw pn pd h =
 
 -- an interval that begins at i and j or beyond overlaps what the one between them does
 pair_one : (i j sn sd tn td low high : ℤ) → pos 0 <ℤ sd → pos 0 <ℤ td → pos 0 ≤ℤ sn → pos 0 ≤ℤ tn
-    → do_overlap i j low high ≡ true
+    → do_intervals_overlap i j low high ≡ true
     → spots_overlap (i *ℤ sd +ℤ sn *ℤ (i -ℤ j)) sd (j *ℤ td +ℤ tn *ℤ (j -ℤ i)) td low high ≡ true
 pair_one i j sn sd tn td low high ps pt sn_in tn_in h =
     by_lt_z (j -ℤ i) (pos 0)
@@ -198,10 +198,10 @@ pair_one i j sn sd tn td low high ps pt sn_in tn_in h =
     last_and_first _ _ _ _ (to_true _ _ (outer_up low j td tn (j -ℤ i) pt tn_in m k.0))
     (to_true _ _ (outer_down high i sd sn (i -ℤ j) ps sn_in (down_of i j m) k.1)))
   where
-    falling : (i j low high : ℤ) → (j -ℤ i) <ℤ pos 0 → do_overlap i j low high ≡ true → (low ≤ℤ i) × (j ≤ℤ high)
+    falling : (i j low high : ℤ) → (j -ℤ i) <ℤ pos 0 → do_intervals_overlap i j low high ≡ true → (low ≤ℤ i) × (j ≤ℤ high)
     falling i j low high m h = (grind (arith, ints), grind (arith, ints))
 
-    rising : (i j low high : ℤ) → pos 0 ≤ℤ (j -ℤ i) → do_overlap i j low high ≡ true → (low ≤ℤ j) × (i ≤ℤ high)
+    rising : (i j low high : ℤ) → pos 0 ≤ℤ (j -ℤ i) → do_intervals_overlap i j low high ≡ true → (low ≤ℤ j) × (i ≤ℤ high)
     rising i j low high m h = (grind (arith, ints), grind (arith, ints))
 
     weak_neg : (z : ℤ) → z <ℤ pos 0 → z ≤ℤ pos 0

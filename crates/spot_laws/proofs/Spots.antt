@@ -21,7 +21,7 @@ use Rattle.plane_spec.specs.declared.Point.{Point}
 use Rattle.plane_spec.specs.declared.PlanBox.{PlanBox}
 use Rattle.plane_spec.specs.Vectors.{vector, cross_of, orient_of}
 use Rattle.plane_spec.specs.Fractions.{Fraction}
-use Rattle.plane_spec.specs.Boxes.{is_left_of, reaches_line}
+use Rattle.plane_spec.specs.Boxes.{is_box_left_of_line, reaches_line}
 use Rattle.box_laws.specs.Boxes.{IsIn}
 use Rattle.box_laws.proofs.Touching.{order_stays, order_turns, left_in_box, line_turned, not_true}
 
@@ -218,8 +218,8 @@ gone_left s d z h = sym (gone s d z h)
 
 -- neither side has the whole box
 pub record Cut (i j : Point) (box : PlanBox) : Type 0 where
-  pub ahead : is_left_of i j box ≡ false
-  pub back : is_left_of j i box ≡ false
+  pub ahead : is_box_left_of_line i j box ≡ false
+  pub back : is_box_left_of_line j i box ≡ false
 
 -- the line between a point of the box on the right and one on the left
 pub cut_between : (i j a b : Point) (box : PlanBox) → IsIn box a → IsIn box b → orient_of i j a <ℤ pos 0

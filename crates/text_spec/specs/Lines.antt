@@ -1,7 +1,7 @@
 -- Bytes cut into lines.
 use Rattle.std.specs.Prelude.{ℕ, List, [], ◌∷◌, Bool, ◌==◌, nat_lt, length, if◌then◌else◌}
 use Rattle.std.specs.List.{slice_split}
-use Rattle.text_spec.specs.declared.lines.TheConstants.{LONGEST_LINE}
+use Rattle.text_spec.specs.declared.lines.TheConstants.{MAX_LINE_BYTES}
 
 -- a byte that ends a line
 abbrev pub is_newline : ℕ → Bool
@@ -44,6 +44,6 @@ without_return [] = []
 without_return (b ∷ []) = if b == 13 then [] else b ∷ []
 without_return (b ∷ c ∷ bytes) = b ∷ without_return (c ∷ bytes)
 
--- more than `LONGEST_LINE` bytes stand before the line's newline, a carriage return counted
+-- more than `MAX_LINE_BYTES` bytes stand before the line's newline, a carriage return counted
 abbrev pub is_long : List ℕ → Bool
-is_long line = nat_lt LONGEST_LINE (length line)
+is_long line = nat_lt MAX_LINE_BYTES (length line)

@@ -7,8 +7,8 @@
 //! | [`NoMemory`] | what every call answers that found no memory |
 //! | [`without_return`] | a line without the carriage return that stands last in it |
 //! | [`lines_are_whole_but_for_the_last`] | the law that ties all lines to those that a newline ends |
-//! | [`LONGEST_LINE`], [`LONGEST_NAME`] | how many bytes lines and names may have |
-//! | [`MOST_DIGITS`], [`LARGEST_NUMBER`] | how many digits numbers may have, and what they come to |
+//! | [`MAX_LINE_BYTES`], [`MAX_NAME_BYTES`] | how many bytes lines and names may have |
+//! | [`MAX_DIGITS`], [`MAX_NUMBER`] | how many digits numbers may have, and what they come to |
 //!
 //! `specs/Lines.antt` cuts bytes into lines, `specs/Words.antt` lines into words; `specs/Numbers.antt` and
 //! `specs/Names.antt` say which words are numbers and names.
@@ -20,8 +20,8 @@ mod no_memory;
 mod numbers;
 mod sequence;
 
-pub use lines::{LONGEST_LINE, lines_are_whole_but_for_the_last, without_return};
-pub use name::{LONGEST_NAME, Name};
+pub use lines::{MAX_LINE_BYTES, lines_are_whole_but_for_the_last, without_return};
+pub use name::{MAX_NAME_BYTES, Name};
 pub use no_memory::NoMemory;
-pub use numbers::{LARGEST_NUMBER, MOST_DIGITS};
+pub use numbers::{MAX_NUMBER, MAX_DIGITS};
 pub use sequence::Sequence;

@@ -4,7 +4,7 @@ ghost use Rattle.std.specs.Prelude.{◌≡◌, ◌++◌, ℕ, List, length, take
 ghost use Rattle.text_spec.specs.Lines.{lines_of, unended_line_of, whole_lines_of, without_return};
 
 /// How many bytes may stand before a line's newline, a carriage return counted.
-pub const LONGEST_LINE: usize = 20000;
+pub const MAX_LINE_BYTES: usize = 20000;
 
 /// The line without one carriage return that stands last in it.
 pub fn without_return(line: &[u8]) -> &[u8]

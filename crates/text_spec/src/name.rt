@@ -9,12 +9,12 @@ use std::hash::{Hash, Hasher};
 use std::marker::Model;
 
 /// How many bytes a name may have.
-pub const LONGEST_NAME: usize = 32;
+pub const MAX_NAME_BYTES: usize = 32;
 
 /// A name of 1 to 32 letters, digits, `_` and `-`. Contracts see its bytes.
 #[derive(Drop)]
 pub struct Name {
-    bytes: ArrayVec<u8, LONGEST_NAME>,
+    bytes: ArrayVec<u8, MAX_NAME_BYTES>,
 }
 
 impl Model for Name {
@@ -45,7 +45,7 @@ impl Name {
     pub fn of(bytes: &[u8]) -> Option<Name>
         ensures { result ≡ (if is_name bytes.now then Some bytes.now else None) }
     {
-        if bytes.is_empty() || bytes.len() > LONGEST_NAME || !all_allowed(bytes) {
+        if bytes.is_empty() || bytes.len() > MAX_NAME_BYTES || !all_allowed(bytes) {
             return None;
         }
         let mut kept = ArrayVec::new();

@@ -14,7 +14,7 @@ use Rattle.winding_laws.specs.Windings.{wind}
 use Rattle.winding_laws.proofs.OneEdge.{start_identity, end_identity, strip_above, strip_below, strip_mid, wind_above}
 use Rattle.winding_laws.proofs.OneEdge.{strip}
 use Rattle.winding_laws.proofs.OneEdge.{wind_across, wind_below, wind_turned, strip_turned}
-use Rattle.plan_spec.specs.Scene.{turned_edge}
+use Rattle.sight_spec.specs.Scene.{turned_edge}
 
 -- p left and q right of the edge, whose start is right and whose end is left of the segment
 pub record Crosses (a b p q : Point) : Type 0 where

@@ -15,7 +15,7 @@ use Rattle.exact_geom.proofs.Orientation.{orient_of_first_exchanged}
 use Rattle.plane_laws.proofs.Points.Heights.{height_from}
 use Rattle.plane_laws.proofs.Segments.Touching.{line_y, never_down, changes, never_up, touch_turned, touch_swapped}
 use Rattle.winding_laws.specs.Windings.{wind}
-use Rattle.plan_spec.specs.Scene.{turned_edge}
+use Rattle.sight_spec.specs.Scene.{turned_edge}
 
 -- v lies right of the segment from p to q, above one of its ends and not above the other: 1 where the segment goes up,
 -- -1 where it goes down

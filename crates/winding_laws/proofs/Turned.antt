@@ -10,7 +10,7 @@ use Rattle.winding_laws.proofs.OneEdge.{wind_turned}
 use Rattle.winding_laws.proofs.Strips.{HasWinding}
 use Rattle.winding_laws.proofs.Near.{eventually_then}
 use Rattle.winding_laws.proofs.Closed.{rises_along, AreClosed}
-use Rattle.plan_spec.specs.Scene.{turned_edge}
+use Rattle.sight_spec.specs.Scene.{turned_edge}
 
 pub winding_turned : (x : Point) (edges : List Segment) → winding x (map turned_edge edges) ≡ neg_ℤ (winding x edges)
 winding_turned x [] = refl

@@ -3,12 +3,12 @@ use Rattle.std.specs.Prelude.{◌≡◌, refl, ℕ, List, [], ◌∷◌, codes, 
 use Rattle.clap.proofs.OnLiterals.{clap_on_literals}
 use Rattle.text_spec.specs.Words.{words_of}
 use Rattle.text_spec.specs.Numbers.{natural_of}
-use Rattle.report_spec.specs.declared.replies.Form.TheVariants.{Text, Csv}
-use Rattle.report_spec.specs.declared.replies.Mode.TheVariants.{Vga}
-use Rattle.report_spec.specs.declared.options.Given.{Given}
-use Rattle.report_spec.specs.declared.options.Job.TheVariants.{Analyse, Trial}
-use Rattle.report_spec.specs.declared.options.Options.{Options}
-use Rattle.report_spec.specs.Options.{options_of}
+use Rattle.options_spec.specs.declared.options.Form.TheVariants.{Text, Csv}
+use Rattle.options_spec.specs.declared.options.Mode.TheVariants.{Vga}
+use Rattle.options_spec.specs.declared.options.Given.{Given}
+use Rattle.options_spec.specs.declared.options.Job.TheVariants.{Analyse, Trial}
+use Rattle.options_spec.specs.declared.options.Options.{Options}
+use Rattle.options_spec.specs.Options.{options_of}
 use Rattle.words_spec.specs.CommandWords.{given_in, options_in}
 
 -- the texts that the words of a line give, and the options that they stand for

@@ -2,9 +2,9 @@
 use Rattle.std.specs.Prelude.{ℕ, true, List, [], ◌∷◌, Option, Some, None, codes, bytes_eq, if◌then◌else◌, option_and_then}
 use Rattle.clap.specs.Words.{App, Shape, Row, Rule, new_app, new_rule, with_rule, matches_of, takes}
 use Rattle.clap.specs.declared.builder.action.ArgAction.TheVariants.{Set}
-use Rattle.report_spec.specs.declared.options.Given.{Given}
-use Rattle.report_spec.specs.declared.options.Options.{Options}
-use Rattle.report_spec.specs.Options.{options_of}
+use Rattle.options_spec.specs.declared.options.Given.{Given}
+use Rattle.options_spec.specs.declared.options.Options.{Options}
+use Rattle.options_spec.specs.Options.{options_of}
 
 -- an option that takes one text and may stand once: by its long name, and by one letter where it has one
 abbrev pub option_rule : List ℕ → Option ℕ → Rule

@@ -7,7 +7,7 @@ ghost use Rattle.words_spec.specs.CommandWords.{command, given_by, given_in, opt
 
 use clap::error::ErrorKind;
 use clap::{Arg, ArgAction, ArgMatches, Command, Error};
-use report_spec::{Given, GivenText};
+use options_spec::{Given, GivenText};
 use std::alloc::{AllocError, Global};
 use std::test::Fail;
 

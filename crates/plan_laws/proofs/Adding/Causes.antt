@@ -8,12 +8,12 @@ use Rattle.plane_spec.specs.declared.Point.{Point}
 use Rattle.plane_spec.specs.Vectors.{is_in_range}
 use Rattle.plane_spec.specs.Segments.{do_touch}
 use Rattle.plane_spec.specs.Polygons.{has_repeat, crosses_nowhere}
-use Rattle.plan_spec.specs.declared.kinds.Screen.{Screen}
-use Rattle.plan_spec.specs.declared.kinds.Route.{Route}
-use Rattle.plan_spec.specs.declared.refusals.Why.{Why}
+use Rattle.plan_spec.specs.declared.item.Screen.{Screen}
+use Rattle.plan_spec.specs.declared.item.Route.{Route}
+use Rattle.plan_spec.specs.declared.why.Why.{Why}
 use Rattle.plan_spec.specs.Plan.{Obstacle, Plan, has_outer}
-use Rattle.plan_spec.specs.Accepted.{is_polygon, is_line, lies_within, polygons_meet, line_lies_within, line_meets_polygon, is_sound}
-use Rattle.plan_spec.specs.Refusals.{when, first_cause, first_obstacle, first_screen, first_route, why_not_polygon, why_not_line, why_not_polygon_in, why_not_line_in}
+use Rattle.plan_spec.specs.Accepted.{is_polygon, is_proper_segment, lies_within, polygons_meet, segment_lies_within, segment_meets_polygon, is_sound}
+use Rattle.plan_spec.specs.Refusals.{when, first_cause, first_obstacle, first_screen, first_route, why_not_polygon, why_not_segment, why_not_polygon_in, why_not_line_in}
 use Rattle.list_laws.proofs.Conditions.{and_left_comm}
 
 -- ---- tests on numbers
@@ -78,22 +78,22 @@ none_of_polygon points =
     (and_left_comm (nat_le 3 (length points)) (list_all is_in_range points)
     (not (has_repeat points) && crosses_nowhere points)))
 
-pub none_of_line : (from to : Point) → is_none (why_not_line from to) ≡ is_line from to
-unfolding why_not_line
+pub none_of_line : (from to : Point) → is_none (why_not_segment from to) ≡ is_proper_segment from to
+unfolding why_not_segment
 none_of_line from to =
     rw none_refuses (simp (none_when, not-not, and-true))
 
 pub none_of_polygon_in : (p : Plan) (points : List Point)
     → is_none (why_not_polygon_in p points)
     ≡ (lies_within p.outer points && (not (list_any (λ o. polygons_meet o.points points) p.obstacles)
-    && not (list_any (λ s. line_meets_polygon s.from s.to points) p.screens)))
+    && not (list_any (λ s. segment_meets_polygon s.from s.to points) p.screens)))
 unfolding why_not_polygon_in
 none_of_polygon_in p points =
     rw none_refuses (simp (none_when, none_of_obstacles, none_of_screens, not-not, and-true))
 
 pub none_of_line_in : (p : Plan) (from to : Point)
     → is_none (why_not_line_in p from to)
-    ≡ (line_lies_within p.outer from to && (not (list_any (λ o. line_meets_polygon from to o.points) p.obstacles)
+    ≡ (segment_lies_within p.outer from to && (not (list_any (λ o. segment_meets_polygon from to o.points) p.obstacles)
     && not (list_any (λ s. do_touch s.from s.to from to) p.screens)))
 unfolding why_not_line_in
 none_of_line_in p from to =

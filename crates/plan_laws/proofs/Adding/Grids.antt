@@ -2,10 +2,10 @@
 use Rattle.std.specs.Prelude.{◌≡◌, Bool, true, false, ◌&&◌, Option, Some, None, is_none, is_some}
 use Rattle.std.proofs.Common.{refl, sym, ap, arith, ◌∙◌}
 use Rattle.std.proofs.Math.Bool.{and_assoc, and_comm, not-not, and-true}
-use Rattle.plan_spec.specs.declared.kinds.GridSpec.{GridSpec}
-use Rattle.plan_spec.specs.declared.kinds.Item.TheVariants.{Grid}
+use Rattle.plan_spec.specs.declared.item.GridSpec.{GridSpec}
+use Rattle.plan_spec.specs.declared.item.Item.TheVariants.{Grid}
 use Rattle.plan_spec.specs.Plan.{Plan, with_grid, with_item, has_outer}
-use Rattle.plan_spec.specs.Accepted.{is_polygon, is_grid_in_range, is_grid_small, is_grid_sound, do_obstacles_stand, do_screens_stand, do_routes_stand, is_within_limits, is_sound}
+use Rattle.plan_spec.specs.Accepted.{is_polygon, is_grid_in_range, is_grid_small, is_grid_sound, are_obstacles_sound, are_screens_sound, are_routes_sound, is_within_limits, is_sound}
 use Rattle.plan_spec.specs.Refusals.{why_not_grid}
 use Rattle.list_laws.proofs.Conditions.{and_left_comm, not_or}
 use Rattle.plan_laws.proofs.Adding.Causes.{none_refuses, none_when, outer_test_drops}
@@ -28,16 +28,16 @@ first_grid p g none =
     by (Some g) h = cc
 
 -- nothing else is compared with the grid
-pub obstacles_with_grid : (p : Plan) (grid : Option GridSpec) → do_obstacles_stand (with_grid p grid) ≡ do_obstacles_stand p
-unfolding do_obstacles_stand
+pub obstacles_with_grid : (p : Plan) (grid : Option GridSpec) → are_obstacles_sound (with_grid p grid) ≡ are_obstacles_sound p
+unfolding are_obstacles_sound
 obstacles_with_grid p grid = refl
 
-pub screens_with_grid : (p : Plan) (grid : Option GridSpec) → do_screens_stand (with_grid p grid) ≡ do_screens_stand p
-unfolding do_screens_stand
+pub screens_with_grid : (p : Plan) (grid : Option GridSpec) → are_screens_sound (with_grid p grid) ≡ are_screens_sound p
+unfolding are_screens_sound
 screens_with_grid p grid = refl
 
-pub routes_with_grid : (p : Plan) (grid : Option GridSpec) → do_routes_stand (with_grid p grid) ≡ do_routes_stand p
-unfolding do_routes_stand
+pub routes_with_grid : (p : Plan) (grid : Option GridSpec) → are_routes_sound (with_grid p grid) ≡ are_routes_sound p
+unfolding are_routes_sound
 routes_with_grid p grid = refl
 
 pub limits_with_grid : (p : Plan) (grid : Option GridSpec) → is_within_limits (with_grid p grid) ≡ is_within_limits p
@@ -62,4 +62,4 @@ pub sound_with_grid : (p : Plan) (g : GridSpec)
 unfolding is_sound with_item
 sound_with_grid p g =
     rw (fits_as_grid p g, outer_test_drops, obstacles_with_grid p (Some g), screens_with_grid p (Some g), routes_with_grid p (Some g), limits_with_grid p (Some g))
-    (by_grid p.grid (is_polygon p.outer) ((do_obstacles_stand p && do_screens_stand p) && (do_routes_stand p && is_within_limits p)) (is_grid_in_range g) (is_grid_small g))
+    (by_grid p.grid (is_polygon p.outer) ((are_obstacles_sound p && are_screens_sound p) && (are_routes_sound p && is_within_limits p)) (is_grid_in_range g) (is_grid_small g))

@@ -2,10 +2,10 @@
 use Rattle.std.specs.Prelude.{◌≡◌, ℕ, Bool, true, false, ◌&&◌, List, Option, Some, None, is_none}
 use Rattle.std.proofs.Common.{refl, ◌∙◌, arith}
 use Rattle.plane_spec.specs.declared.Point.{Point}
-use Rattle.plan_spec.specs.declared.kinds.GridSpec.{GridSpec}
-use Rattle.plan_spec.specs.declared.kinds.Item.{Item}
-use Rattle.plan_spec.specs.declared.kinds.Item.TheVariants.{Grid, Outer, Obstacle as ObstacleItem, Screen as ScreenItem, Route as RouteItem}
-use Rattle.plan_spec.specs.declared.refusals.Why.{Why}
+use Rattle.plan_spec.specs.declared.item.GridSpec.{GridSpec}
+use Rattle.plan_spec.specs.declared.item.Item.{Item}
+use Rattle.plan_spec.specs.declared.item.Item.TheVariants.{Grid, Outer, Obstacle as ObstacleItem, Screen as ScreenItem, Route as RouteItem}
+use Rattle.plan_spec.specs.declared.why.Why.{Why}
 use Rattle.plan_spec.specs.Plan.{Plan, empty_plan, with_item}
 use Rattle.plan_spec.specs.Refusals.{why_not_item, why_not_outer, why_not_grid, why_not_obstacle, why_not_screen, why_not_route}
 use Rattle.plan_spec.specs.Accepted.{may_follow, is_sound}

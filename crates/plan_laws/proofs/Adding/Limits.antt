@@ -7,7 +7,7 @@ use Rattle.std.proofs.lemmas.List.Sums.{sum_by_push}
 use Rattle.std.proofs.Math.Bool.{and_assoc, and_comm}
 use Rattle.list_laws.proofs.Conditions.{and_left_comm}
 use Rattle.plane_spec.specs.declared.Point.{Point}
-use Rattle.plan_spec.specs.declared.limits.TheConstants.{MOST_OBSTACLES, MOST_SCREENS, MOST_ROUTES, MOST_CORNERS}
+use Rattle.plan_spec.specs.declared.limits.TheConstants.{MAX_OBSTACLES, MAX_SCREENS, MAX_ROUTES, MAX_CORNERS}
 use Rattle.plan_spec.specs.Plan.{Plan, obstacle, screen, route, with_obstacles, with_screens, with_routes, corner_count, corners_of_obstacle_count}
 use Rattle.plan_spec.specs.Accepted.{is_within_limits}
 
@@ -43,30 +43,30 @@ route_test_last o s r r' c = simp (and_assoc, and_comm)
 pub limits_with_obstacle : (p : Plan) (name : List ℕ) (points : List Point)
     → is_within_limits (with_obstacles p (p.obstacles ++ obstacle name points ∷ []))
     ≡ (is_within_limits p
-    && (not (nat_le MOST_OBSTACLES (length p.obstacles)) && not (nat_lt MOST_CORNERS (corner_count p + length points))))
+    && (not (nat_le MAX_OBSTACLES (length p.obstacles)) && not (nat_lt MAX_CORNERS (corner_count p + length points))))
 unfolding is_within_limits
 limits_with_obstacle p name points =
     rw (
-      one_more MOST_OBSTACLES (length p.obstacles) _ (length_push p.obstacles (obstacle name points)),
-      more_corners MOST_CORNERS (corner_count p) (length points) _ (corners_with_obstacle p name points),
+      one_more MAX_OBSTACLES (length p.obstacles) _ (length_push p.obstacles (obstacle name points)),
+      more_corners MAX_CORNERS (corner_count p) (length points) _ (corners_with_obstacle p name points),
       obstacle_tests_last,
     )
 
 pub limits_with_screen : (p : Plan) (name : List ℕ) (from to : Point)
     → is_within_limits (with_screens p (p.screens ++ screen name from to ∷ []))
     ≡ (is_within_limits p
-    && (not (nat_le MOST_SCREENS (length p.screens)) && not (nat_lt MOST_CORNERS (corner_count p + 2))))
+    && (not (nat_le MAX_SCREENS (length p.screens)) && not (nat_lt MAX_CORNERS (corner_count p + 2))))
 unfolding is_within_limits
 limits_with_screen p name from to =
     rw (
-      one_more MOST_SCREENS (length p.screens) _ (length_push p.screens (screen name from to)),
-      more_corners MOST_CORNERS (corner_count p) 2 _ (corners_with_screen p name from to),
+      one_more MAX_SCREENS (length p.screens) _ (length_push p.screens (screen name from to)),
+      more_corners MAX_CORNERS (corner_count p) 2 _ (corners_with_screen p name from to),
       screen_tests_last,
     )
 
 pub limits_with_route : (p : Plan) (name : List ℕ) (from to : Point)
     → is_within_limits (with_routes p (p.routes ++ route name from to ∷ []))
-    ≡ (is_within_limits p && not (nat_le MOST_ROUTES (length p.routes)))
+    ≡ (is_within_limits p && not (nat_le MAX_ROUTES (length p.routes)))
 unfolding is_within_limits
 limits_with_route p name from to =
-    rw (one_more MOST_ROUTES (length p.routes) _ (length_push p.routes (route name from to)), route_test_last)
+    rw (one_more MAX_ROUTES (length p.routes) _ (length_push p.routes (route name from to)), route_test_last)

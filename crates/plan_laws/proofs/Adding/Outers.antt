@@ -4,11 +4,11 @@ use Rattle.std.proofs.Common.{refl, sym, arith, zero-add, ◌∙◌}
 use Rattle.std.proofs.Math.Bool.{and-true}
 use Rattle.std.proofs.lemmas.Bool.Decides.{nat_tests}
 use Rattle.plane_spec.specs.declared.Point.{Point}
-use Rattle.plan_spec.specs.declared.kinds.Item.TheVariants.{Outer}
-use Rattle.plan_spec.specs.declared.refusals.Why.TheVariants.{Order}
-use Rattle.plan_spec.specs.declared.limits.TheConstants.{MOST_CORNERS}
+use Rattle.plan_spec.specs.declared.item.Item.TheVariants.{Outer}
+use Rattle.plan_spec.specs.declared.why.Why.TheVariants.{Order}
+use Rattle.plan_spec.specs.declared.limits.TheConstants.{MAX_CORNERS}
 use Rattle.plan_spec.specs.Plan.{Plan, empty_plan, with_outer, with_item, has_outer, corner_count}
-use Rattle.plan_spec.specs.Accepted.{is_polygon, do_obstacles_stand, do_screens_stand, do_routes_stand, is_within_limits, is_sound}
+use Rattle.plan_spec.specs.Accepted.{is_polygon, are_obstacles_sound, are_screens_sound, are_routes_sound, is_within_limits, is_sound}
 use Rattle.plan_spec.specs.Refusals.{why_not_outer}
 use Rattle.plan_laws.proofs.Adding.Causes.{none_refuses, none_when, none_of_polygon, not_below}
 
@@ -30,17 +30,17 @@ first_outer p points none = by (has_outer p) (second_outer p points)
 
 -- the first outer polygon passes each test for which it might be refused
 pub fits_as_outer : (points : List Point)
-    → is_none (why_not_outer empty_plan points) ≡ (is_polygon points && nat_le (length points) MOST_CORNERS)
+    → is_none (why_not_outer empty_plan points) ≡ (is_polygon points && nat_le (length points) MAX_CORNERS)
 unfolding why_not_outer
 fits_as_outer points =
     rw none_refuses (simp (none_when, none_of_polygon, not_below, and-true) (simp zero-add))
 
 corners_alone : (points : List Point)
-    → nat_le (corner_count (with_outer empty_plan points)) MOST_CORNERS ≡ nat_le (length points) MOST_CORNERS
+    → nat_le (corner_count (with_outer empty_plan points)) MAX_CORNERS ≡ nat_le (length points) MAX_CORNERS
 corners_alone points = grind (arith, nat_tests)
 
 -- with an outer polygon alone, a plan is sound where the polygon isn't refused
 pub sound_with_outer : (points : List Point) → is_sound (with_item empty_plan (Outer points)) ≡ is_none (why_not_outer empty_plan points)
-unfolding is_sound with_item do_obstacles_stand do_screens_stand do_routes_stand is_within_limits
+unfolding is_sound with_item are_obstacles_sound are_screens_sound are_routes_sound is_within_limits
 sound_with_outer points =
     rw (fits_as_outer points, corners_alone points, and-true)

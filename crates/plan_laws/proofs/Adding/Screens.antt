@@ -6,11 +6,11 @@ use Rattle.std.proofs.Common.{refl, sym, ap, arith, ◌∙◌}
 use Rattle.std.proofs.Math.Bool.{and_assoc, not-not, and-true}
 use Rattle.plane_spec.specs.declared.Point.{Point}
 use Rattle.plane_spec.specs.Segments.{do_touch}
-use Rattle.plan_spec.specs.declared.kinds.Screen.{Screen}
-use Rattle.plan_spec.specs.declared.kinds.Item.TheVariants.{Screen as ScreenItem}
-use Rattle.plan_spec.specs.declared.limits.TheConstants.{MOST_SCREENS, MOST_CORNERS}
+use Rattle.plan_spec.specs.declared.item.Screen.{Screen}
+use Rattle.plan_spec.specs.declared.item.Item.TheVariants.{Screen as ScreenItem}
+use Rattle.plan_spec.specs.declared.limits.TheConstants.{MAX_SCREENS, MAX_CORNERS}
 use Rattle.plan_spec.specs.Plan.{Plan, screen, with_screens, with_item, has_outer, corner_count, is_screen_named}
-use Rattle.plan_spec.specs.Accepted.{is_line, line_lies_within, line_meets_polygon, screens_apart, do_obstacles_stand, do_screens_stand, do_routes_stand, is_sound}
+use Rattle.plan_spec.specs.Accepted.{is_proper_segment, segment_lies_within, segment_meets_polygon, screens_apart, are_obstacles_sound, are_screens_sound, are_routes_sound, is_sound}
 use Rattle.plan_spec.specs.Refusals.{why_not_screen}
 use Rattle.list_laws.proofs.Conditions.{and_left_comm}
 use Rattle.list_laws.proofs.Tests.{list_all_push, list_all_and, list_all_not}
@@ -29,15 +29,15 @@ screen_tests_last : (l l' c c' e m n : Bool) → ((l && l') && ((c && c') && (e 
 screen_tests_last l l' c c' e m n = simp (and_assoc, and_left_comm)
 
 pub screens_with_screen : (p : Plan) (name : List ℕ) (from to : Point)
-    → do_screens_stand (with_screens p (p.screens ++ screen name from to ∷ []))
-    ≡ (do_screens_stand p && ((is_line from to && line_lies_within p.outer from to)
-    && (not (list_any (λ o. line_meets_polygon from to o.points) p.obstacles)
+    → are_screens_sound (with_screens p (p.screens ++ screen name from to ∷ []))
+    ≡ (are_screens_sound p && ((is_proper_segment from to && segment_lies_within p.outer from to)
+    && (not (list_any (λ o. segment_meets_polygon from to o.points) p.obstacles)
     && (not (list_any (λ s. do_touch s.from s.to from to) p.screens) && not (list_any (is_screen_named name) p.screens)))))
-unfolding do_screens_stand
+unfolding are_screens_sound
 screens_with_screen p name from to =
     rw (
-      list_all_push (λ s. is_line s.from s.to && line_lies_within p.outer s.from s.to) p.screens (screen name from to),
-      list_all_push (λ s. not (list_any (λ o. line_meets_polygon s.from s.to o.points) p.obstacles)) p.screens (screen name from to),
+      list_all_push (λ s. is_proper_segment s.from s.to && segment_lies_within p.outer s.from s.to) p.screens (screen name from to),
+      list_all_push (λ s. not (list_any (λ o. segment_meets_polygon s.from s.to o.points) p.obstacles)) p.screens (screen name from to),
       each_two_push screens_apart p.screens (screen name from to),
       apart_from_each p.screens name from to,
       screen_tests_last,
@@ -45,22 +45,22 @@ screens_with_screen p name from to =
 
 -- the obstacles and the routes aren't compared with screens
 pub obstacles_with_screens : (p : Plan) (name : List ℕ) (from to : Point)
-    → do_obstacles_stand (with_screens p (p.screens ++ screen name from to ∷ [])) ≡ do_obstacles_stand p
-unfolding do_obstacles_stand
+    → are_obstacles_sound (with_screens p (p.screens ++ screen name from to ∷ [])) ≡ are_obstacles_sound p
+unfolding are_obstacles_sound
 obstacles_with_screens p name from to = refl
 
 pub routes_with_screens : (p : Plan) (name : List ℕ) (from to : Point)
-    → do_routes_stand (with_screens p (p.screens ++ screen name from to ∷ [])) ≡ do_routes_stand p
-unfolding do_routes_stand
+    → are_routes_sound (with_screens p (p.screens ++ screen name from to ∷ [])) ≡ are_routes_sound p
+unfolding are_routes_sound
 routes_with_screens p name from to = refl
 
 -- the new screen passes each test for which it might be refused
 pub fits_as_screen : (p : Plan) (name : List ℕ) (from to : Point)
     → is_none (why_not_screen p name from to)
-    ≡ (has_outer p && (is_line from to && (line_lies_within p.outer from to
-    && (not (list_any (λ o. line_meets_polygon from to o.points) p.obstacles) && (not (list_any (λ s. do_touch s.from s.to from to) p.screens)
+    ≡ (has_outer p && (is_proper_segment from to && (segment_lies_within p.outer from to
+    && (not (list_any (λ o. segment_meets_polygon from to o.points) p.obstacles) && (not (list_any (λ s. do_touch s.from s.to from to) p.screens)
     && (not (list_any (is_screen_named name) p.screens)
-    && (not (nat_le MOST_SCREENS (length p.screens)) && not (nat_lt MOST_CORNERS (corner_count p + 2)))))))))
+    && (not (nat_le MAX_SCREENS (length p.screens)) && not (nat_lt MAX_CORNERS (corner_count p + 2)))))))))
 unfolding why_not_screen
 fits_as_screen p name from to =
     rw none_refuses (simp (none_when, none_of_line, none_of_line_in, not-not, and_assoc, and-true))

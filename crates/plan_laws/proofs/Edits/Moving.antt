@@ -12,9 +12,9 @@ use Rattle.std.proofs.lemmas.List.Folds.{list_any-append}
 use Rattle.plane_spec.specs.declared.Point.{Point}
 use Rattle.plane_spec.specs.Vectors.{is_in_range}
 use Rattle.plane_spec.specs.Polygons.{has_repeat, crosses_nowhere, is_simple}
-use Rattle.plan_spec.specs.declared.kinds.Screen.{Screen}
+use Rattle.plan_spec.specs.declared.item.Screen.{Screen}
 use Rattle.plan_spec.specs.Plan.{Obstacle, Plan, obstacle, with_obstacles, corners_of_obstacle_count, is_obstacle_named}
-use Rattle.plan_spec.specs.Accepted.{each_two, is_polygon, lies_within, polygons_meet, line_meets_polygon, obstacles_apart, do_obstacles_stand, do_screens_stand, do_routes_stand, is_within_limits, is_sound}
+use Rattle.plan_spec.specs.Accepted.{each_two, is_polygon, lies_within, polygons_meet, segment_meets_polygon, obstacles_apart, are_obstacles_sound, are_screens_sound, are_routes_sound, is_within_limits, is_sound}
 use Rattle.plan_spec.specs.Edits.{shifted_point, shifted_obstacle, points_named, without_obstacle}
 use Rattle.list_laws.proofs.Conditions.{not_or}
 use Rattle.list_laws.proofs.Tests.{list_all_middle, list_any_middle, list_all_and, list_all_not, list_all_agree, list_any_agree, filter_none, filter_not_none, map_none}
@@ -55,16 +55,16 @@ apart_from_rest before name points after names_before names_after =
 
 -- the screens clear of an obstacle in the middle, and of the others
 clear_of_middle : (screens : List Screen) (before : List Obstacle) (o : Obstacle) (after : List Obstacle)
-    → list_all (λ s. not (list_any (λ x. line_meets_polygon s.from s.to x.points) (before ++ o ∷ after))) screens
-    ≡ (not (list_any (λ s. line_meets_polygon s.from s.to o.points) screens) && list_all (λ s. not (list_any (λ x. line_meets_polygon s.from s.to x.points) (before ++ after))) screens)
+    → list_all (λ s. not (list_any (λ x. segment_meets_polygon s.from s.to x.points) (before ++ o ∷ after))) screens
+    ≡ (not (list_any (λ s. segment_meets_polygon s.from s.to o.points) screens) && list_all (λ s. not (list_any (λ x. segment_meets_polygon s.from s.to x.points) (before ++ after))) screens)
 clear_of_middle screens before o after =
-    list_all_agree (λ s. not (list_any (λ x. line_meets_polygon s.from s.to x.points) (before ++ o ∷ after)))
-    (λ s. not (line_meets_polygon s.from s.to o.points) && not (list_any (λ x. line_meets_polygon s.from s.to x.points) (before ++ after)))
-    (λ s. ap not (list_any_middle (λ x. line_meets_polygon s.from s.to x.points) before o after)
-    ∙ not_or (line_meets_polygon s.from s.to o.points) (list_any (λ x. line_meets_polygon s.from s.to x.points) (before ++ after)))
+    list_all_agree (λ s. not (list_any (λ x. segment_meets_polygon s.from s.to x.points) (before ++ o ∷ after)))
+    (λ s. not (segment_meets_polygon s.from s.to o.points) && not (list_any (λ x. segment_meets_polygon s.from s.to x.points) (before ++ after)))
+    (λ s. ap not (list_any_middle (λ x. segment_meets_polygon s.from s.to x.points) before o after)
+    ∙ not_or (segment_meets_polygon s.from s.to o.points) (list_any (λ x. segment_meets_polygon s.from s.to x.points) (before ++ after)))
     screens
-    ∙ list_all_and (λ s. not (line_meets_polygon s.from s.to o.points)) (λ s. not (list_any (λ x. line_meets_polygon s.from s.to x.points) (before ++ after))) screens
-    ∙ ap (λ t. t && list_all (λ s. not (list_any (λ x. line_meets_polygon s.from s.to x.points) (before ++ after))) screens) (list_all_not (λ s. line_meets_polygon s.from s.to o.points) screens)
+    ∙ list_all_and (λ s. not (segment_meets_polygon s.from s.to o.points)) (λ s. not (list_any (λ x. segment_meets_polygon s.from s.to x.points) (before ++ after))) screens
+    ∙ ap (λ t. t && list_all (λ s. not (list_any (λ x. segment_meets_polygon s.from s.to x.points) (before ++ after))) screens) (list_all_not (λ s. segment_meets_polygon s.from s.to o.points) screens)
 
 corners_of_middle : (before : List Obstacle) (o : Obstacle) (after : List Obstacle)
     → sum_by corners_of_obstacle_count (before ++ o ∷ after) ≡ sum_by corners_of_obstacle_count before + (length o.points + sum_by corners_of_obstacle_count after)
@@ -86,10 +86,10 @@ module _ (p : Plan) (before : List Obstacle) (o : Obstacle) (after : List Obstac
   meets_another = list_any (λ x. polygons_meet x.points points) (before ++ after)
 
   abbrev meets_a_screen : Bool
-  meets_a_screen = list_any (λ s. line_meets_polygon s.from s.to points) p.screens
+  meets_a_screen = list_any (λ s. segment_meets_polygon s.from s.to points) p.screens
 
-  obstacles_with_other_points : do_obstacles_stand old ≡ true → do_obstacles_stand new ≡ ((is_polygon points && lies_within p.outer points) && not meets_another)
-  unfolding do_obstacles_stand
+  obstacles_with_other_points : are_obstacles_sound old ≡ true → are_obstacles_sound new ≡ ((is_polygon points && lies_within p.outer points) && not meets_another)
+  unfolding are_obstacles_sound
   obstacles_with_other_points h =
       let parts = parts_of_obstacles old h in
       let polygon : Obstacle → Bool = λ x. is_polygon x.points && lies_within p.outer x.points in
@@ -111,16 +111,16 @@ module _ (p : Plan) (before : List Obstacle) (o : Obstacle) (after : List Obstac
         and-true (not meets_another),
       )
 
-  screens_with_other_points : do_screens_stand old ≡ true → do_screens_stand new ≡ not meets_a_screen
-  unfolding do_screens_stand
+  screens_with_other_points : are_screens_sound old ≡ true → are_screens_sound new ≡ not meets_a_screen
+  unfolding are_screens_sound
   screens_with_other_points h =
       let parts = parts_of_screens old h in
-      let clear = and_parts (not (list_any (λ s. line_meets_polygon s.from s.to o.points) p.screens)) (list_all (λ s. not (list_any (λ x. line_meets_polygon s.from s.to x.points) (before ++ after))) p.screens)
+      let clear = and_parts (not (list_any (λ s. segment_meets_polygon s.from s.to o.points) p.screens)) (list_all (λ s. not (list_any (λ x. segment_meets_polygon s.from s.to x.points) (before ++ after))) p.screens)
       (sym (clear_of_middle p.screens before o after) ∙ parts.clear) in
       rw (clear_of_middle p.screens before (obstacle o.name points) after, parts.lines, parts.apart, clear.1, and-true (not meets_a_screen), and-true (not meets_a_screen))
 
-  routes_with_other_points : do_routes_stand old ≡ true → do_routes_stand new ≡ true
-  unfolding do_routes_stand
+  routes_with_other_points : are_routes_sound old ≡ true → are_routes_sound new ≡ true
+  unfolding are_routes_sound
   routes_with_other_points h = h
 
   limits_with_other_points : length points ≡ length o.points → is_within_limits new ≡ is_within_limits old

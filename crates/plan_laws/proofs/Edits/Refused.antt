@@ -7,13 +7,13 @@ use Rattle.std.proofs.lemmas.Bool.{and_parts}
 use Rattle.std.proofs.lemmas.List.{length-map}
 use Rattle.plane_spec.specs.declared.Point.{Point}
 use Rattle.plane_spec.specs.Vectors.{is_in_range}
-use Rattle.plan_spec.specs.declared.changes.Edit.{Edit}
-use Rattle.plan_spec.specs.declared.changes.Edit.TheVariants.{Add, Remove, Move, AddScreen, RemoveScreen, AddRoute, RemoveRoute}
-use Rattle.plan_spec.specs.declared.refusals.Why.{Why}
-use Rattle.plan_spec.specs.declared.refusals.Why.TheVariants.{Missing}
+use Rattle.plan_spec.specs.declared.edit.Edit.{Edit}
+use Rattle.plan_spec.specs.declared.edit.Edit.TheVariants.{Add, Remove, Move, AddScreen, RemoveScreen, AddRoute, RemoveRoute}
+use Rattle.plan_spec.specs.declared.why.Why.{Why}
+use Rattle.plan_spec.specs.declared.why.Why.TheVariants.{Missing}
 use Rattle.plan_spec.specs.Plan.{Obstacle, Plan, with_obstacles, is_obstacle_named, is_screen_named, is_route_named}
-use Rattle.plan_spec.specs.Accepted.{is_polygon, lies_within, polygons_meet, line_meets_polygon, is_sound}
-use Rattle.plan_spec.specs.Edits.{is_there, others_of, moved_points, shifted_point, shifted_obstacle, points_named, without_obstacle, why_not_moved, why_not_edit, edited}
+use Rattle.plan_spec.specs.Accepted.{is_polygon, lies_within, polygons_meet, segment_meets_polygon, is_sound}
+use Rattle.plan_spec.specs.Edits.{is_there, others_of, moved_points, shifted_point, shifted_obstacle, points_named, without_obstacle, why_not_moved, why_not_edit, plan_after_edit}
 use Rattle.list_laws.proofs.Tests.{list_all_middle}
 use Rattle.list_laws.proofs.Single.{Single}
 use Rattle.plan_laws.proofs.Names.{obstacle_alone}
@@ -32,7 +32,7 @@ pub fits_when_moved : (others : Plan) (points : List Point)
     → is_none (why_not_moved others points)
     ≡ (list_all is_in_range points && (lies_within others.outer points
     && (not (list_any (λ x. polygons_meet x.points points) others.obstacles)
-    && not (list_any (λ s. line_meets_polygon s.from s.to points) others.screens))))
+    && not (list_any (λ s. segment_meets_polygon s.from s.to points) others.screens))))
 unfolding why_not_moved
 fits_when_moved others points = rw none_refuses (simp (none_when, none_of_polygon_in, not-not, and-true))
 
@@ -48,11 +48,11 @@ none_of_move p name dx dy = rw none_refuses (simp (none_when, not-not, and-true)
 fits : Plan → List Point → List Obstacle → Bool
 fits p points others =
     list_all is_in_range points && (lies_within p.outer points
-    && (not (list_any (λ x. polygons_meet x.points points) others) && not (list_any (λ s. line_meets_polygon s.from s.to points) p.screens)))
+    && (not (list_any (λ x. polygons_meet x.points points) others) && not (list_any (λ s. segment_meets_polygon s.from s.to points) p.screens)))
 
 moved_where_split : (p : Plan) (name : List ℕ) (dx dy : ℤ) → is_sound p ≡ true → Single (is_obstacle_named name) p.obstacles
-    → is_none (why_not_moved (others_of p name) (moved_points p name dx dy)) ≡ is_sound (edited p (Move name dx dy))
-unfolding edited fits
+    → is_none (why_not_moved (others_of p name) (moved_points p name dx dy)) ≡ is_sound (plan_after_edit p (Move name dx dy))
+unfolding plan_after_edit fits
 moved_where_split p name dx dy h s =
     let moved : List Point = map (shifted_point dx dy) s.it.points in
     let points_is : map (shifted_point dx dy) (points_named name p.obstacles) ≡ moved =
@@ -69,13 +69,13 @@ moved_where_split p name dx dy h s =
     let here = and_parts (is_polygon s.it.points) (lies_within p.outer s.it.points) polygons.0 in
     fits_when_moved (others_of p name) (moved_points p name dx dy)
     ∙ ap₂ (fits p) points_is others_is
-    ∙ ap (λ t. t && (lies_within p.outer moved && (not (list_any (λ x. polygons_meet x.points moved) (s.before ++ s.after)) && not (list_any (λ s. line_meets_polygon s.from s.to moved) p.screens))))
+    ∙ ap (λ t. t && (lies_within p.outer moved && (not (list_any (λ x. polygons_meet x.points moved) (s.before ++ s.after)) && not (list_any (λ s. segment_meets_polygon s.from s.to moved) p.screens))))
     (sym (polygon_shifted dx dy s.it.points here.0))
     ∙ sym (sound_with_other_points p s.before s.it s.after moved (ap (λ os. is_sound (with_obstacles p os)) (sym s.is) ∙ h) (length-map s.it.points (shifted_point dx dy)))
     ∙ ap (λ os. is_sound (with_obstacles p os)) (sym obstacles_is)
 
 moved_where_there : (p : Plan) (name : List ℕ) (dx dy : ℤ) → is_sound p ≡ true → list_any (is_obstacle_named name) p.obstacles ≡ true
-    → is_none (why_not_moved (others_of p name) (moved_points p name dx dy)) ≡ is_sound (edited p (Move name dx dy))
+    → is_none (why_not_moved (others_of p name) (moved_points p name dx dy)) ≡ is_sound (plan_after_edit p (Move name dx dy))
 moved_where_there p name dx dy h there =
     moved_where_split p name dx dy h (obstacle_alone p name h there)
 
@@ -93,8 +93,8 @@ alone : (s n t : Bool) → t ≡ (s && n) → s ≡ true → n ≡ t
 alone s n t e h = grind arith
 
 -- an edit of a sound plan is refused exactly where what it names isn't there or the plan after it wouldn't be sound
-pub sound_where_edited : (p : Plan) (e : Edit) → is_sound p ≡ true → is_none (why_not_edit p e) ≡ (is_there p e && is_sound (edited p e))
-unfolding why_not_edit edited
+pub sound_where_edited : (p : Plan) (e : Edit) → is_sound p ≡ true → is_none (why_not_edit p e) ≡ (is_there p e && is_sound (plan_after_edit p e))
+unfolding why_not_edit plan_after_edit
 sound_where_edited p (Add name points) h = alone (is_sound p) _ _ (sound_with_obstacle p name points) h
 sound_where_edited p (Remove name) h =
     none_when (not (list_any (is_obstacle_named name) p.obstacles)) Missing
@@ -113,8 +113,8 @@ sound_where_edited p (RemoveRoute name) h =
 
 -- ---- what isn't refused leaves a sound plan, and what is refused names nothing or leaves one that isn't
 
-pub edited_is_sound : (p : Plan) (e : Edit) → is_sound p ≡ true → why_not_edit p e ≡ None → is_sound (edited p e) ≡ true
-edited_is_sound p e h none = (and_parts (is_there p e) (is_sound (edited p e)) (sym (sound_where_edited p e h) ∙ no_cause (why_not_edit p e) none)).1
+pub edited_is_sound : (p : Plan) (e : Edit) → is_sound p ≡ true → why_not_edit p e ≡ None → is_sound (plan_after_edit p e) ≡ true
+edited_is_sound p e h none = (and_parts (is_there p e) (is_sound (plan_after_edit p e)) (sym (sound_where_edited p e h) ∙ no_cause (why_not_edit p e) none)).1
 
-pub refused_edit_is_unsound : (p : Plan) (e : Edit) (why : Why) → is_sound p ≡ true → why_not_edit p e ≡ Some why → (is_there p e && is_sound (edited p e)) ≡ false
+pub refused_edit_is_unsound : (p : Plan) (e : Edit) (why : Why) → is_sound p ≡ true → why_not_edit p e ≡ Some why → (is_there p e && is_sound (plan_after_edit p e)) ≡ false
 refused_edit_is_unsound p e why h some = sym (sound_where_edited p e h) ∙ a_cause (why_not_edit p e) why some

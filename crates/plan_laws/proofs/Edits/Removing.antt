@@ -5,11 +5,11 @@ use Rattle.std.proofs.Common.{refl, arith}
 use Rattle.std.proofs.lemmas.Bool.{and_from, le-leb, not-true, not_from_false}
 use Rattle.std.proofs.lemmas.List.Sums.{length-filter, count_by-le-length}
 use Rattle.std.proofs.lemmas.List.Filters.{sum_by-filter_both}
-use Rattle.plan_spec.specs.declared.kinds.Screen.{Screen}
-use Rattle.plan_spec.specs.declared.kinds.Route.{Route}
-use Rattle.plan_spec.specs.declared.limits.TheConstants.{MOST_OBSTACLES, MOST_SCREENS, MOST_ROUTES, MOST_CORNERS}
+use Rattle.plan_spec.specs.declared.item.Screen.{Screen}
+use Rattle.plan_spec.specs.declared.item.Route.{Route}
+use Rattle.plan_spec.specs.declared.limits.TheConstants.{MAX_OBSTACLES, MAX_SCREENS, MAX_ROUTES, MAX_CORNERS}
 use Rattle.plan_spec.specs.Plan.{Obstacle, Plan, with_obstacles, with_screens, with_routes, corner_count, corners_of_obstacle_count}
-use Rattle.plan_spec.specs.Accepted.{is_polygon, is_line, lies_within, line_lies_within, line_meets_polygon, obstacles_apart, screens_apart, routes_apart, is_within_limits, is_sound}
+use Rattle.plan_spec.specs.Accepted.{is_polygon, is_proper_segment, lies_within, segment_lies_within, segment_meets_polygon, obstacles_apart, screens_apart, routes_apart, is_within_limits, is_sound}
 use Rattle.plan_spec.specs.Ranges.{IsWithinLimits}
 use Rattle.list_laws.proofs.Tests.{list_all_filter, list_any_filter, list_all_weaker}
 use Rattle.plan_laws.proofs.Pairs.{each_two_filter}
@@ -21,10 +21,10 @@ use Rattle.plan_laws.proofs.Ranges.{limits_are}
 pub within_limits : (p : Plan) → IsWithinLimits p → is_within_limits p ≡ true
 unfolding is_within_limits
 within_limits p l =
-    let obstacles = nat_le (length p.obstacles) MOST_OBSTACLES in
-    let screens = nat_le (length p.screens) MOST_SCREENS in
-    let routes = nat_le (length p.routes) MOST_ROUTES in
-    let corners = nat_le (corner_count p) MOST_CORNERS in
+    let obstacles = nat_le (length p.obstacles) MAX_OBSTACLES in
+    let screens = nat_le (length p.screens) MAX_SCREENS in
+    let routes = nat_le (length p.routes) MAX_ROUTES in
+    let corners = nat_le (corner_count p) MAX_CORNERS in
     and_from (obstacles && screens) (routes && corners)
     (and_from obstacles screens (le-leb _ _ l.obstacles) (le-leb _ _ l.screens))
     (and_from routes corners (le-leb _ _ l.routes) (le-leb _ _ l.corners))
@@ -55,9 +55,9 @@ sound_with_fewer_obstacles p q h =
       screens = screens_from_parts kept (record {
         lines = screens.lines;
         clear =
-            list_all_weaker (λ s. not (list_any (λ o. line_meets_polygon s.from s.to o.points) p.obstacles)) (λ s. not (list_any (λ o. line_meets_polygon s.from s.to o.points) (filter q p.obstacles)))
-            (λ s e. not_from_false (list_any (λ o. line_meets_polygon s.from s.to o.points) (filter q p.obstacles))
-            (list_any_filter (λ o. line_meets_polygon s.from s.to o.points) q p.obstacles (not-true _ e)))
+            list_all_weaker (λ s. not (list_any (λ o. segment_meets_polygon s.from s.to o.points) p.obstacles)) (λ s. not (list_any (λ o. segment_meets_polygon s.from s.to o.points) (filter q p.obstacles)))
+            (λ s e. not_from_false (list_any (λ o. segment_meets_polygon s.from s.to o.points) (filter q p.obstacles))
+            (list_any_filter (λ o. segment_meets_polygon s.from s.to o.points) q p.obstacles (not-true _ e)))
             p.screens screens.clear;
         apart = screens.apart;
       });
@@ -85,8 +85,8 @@ sound_with_fewer_screens p q h =
       grid = parts.grid;
       obstacles = obstacles_from_parts kept (record { polygons = obstacles.polygons; apart = obstacles.apart });
       screens = screens_from_parts kept (record {
-        lines = list_all_filter (λ s. is_line s.from s.to && line_lies_within p.outer s.from s.to) q p.screens screens.lines;
-        clear = list_all_filter (λ s. not (list_any (λ o. line_meets_polygon s.from s.to o.points) p.obstacles)) q p.screens screens.clear;
+        lines = list_all_filter (λ s. is_proper_segment s.from s.to && segment_lies_within p.outer s.from s.to) q p.screens screens.lines;
+        clear = list_all_filter (λ s. not (list_any (λ o. segment_meets_polygon s.from s.to o.points) p.obstacles)) q p.screens screens.clear;
         apart = each_two_filter screens_apart q p.screens screens.apart;
       });
       routes = routes_from_parts kept (record { lines = routes.lines; apart = routes.apart });
@@ -114,7 +114,7 @@ sound_with_fewer_routes p q h =
       obstacles = obstacles_from_parts kept (record { polygons = obstacles.polygons; apart = obstacles.apart });
       screens = screens_from_parts kept (record { lines = screens.lines; clear = screens.clear; apart = screens.apart });
       routes = routes_from_parts kept (record {
-        lines = list_all_filter (λ r. is_line r.from r.to) q p.routes routes.lines;
+        lines = list_all_filter (λ r. is_proper_segment r.from r.to) q p.routes routes.lines;
         apart = each_two_filter routes_apart q p.routes routes.apart;
       });
       limits = within_limits kept (record {

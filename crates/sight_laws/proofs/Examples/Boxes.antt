@@ -5,7 +5,7 @@ use Rattle.std.proofs.Common.{arith}
 use Rattle.plane_spec.specs.declared.Point.{Point}
 use Rattle.plane_spec.specs.Vectors.{point}
 use Rattle.plane_spec.specs.Polygons.{edges_to, is_counterclockwise, is_inside, passes_right}
-use Rattle.plan_spec.specs.Scene.{walls_round}
+use Rattle.sight_spec.specs.Scene.{oriented_walls}
 use Rattle.sight_laws.specs.Convex.{is_convex, is_strictly_inside, PassesThrough}
 use Rattle.plane_spec.specs.Segments.{is_on_segment}
 
@@ -33,39 +33,39 @@ notched_box =
 -- ---- convex
 
 a_box_is_convex : is_convex box ≡ true
-unfolding walls_round is_counterclockwise edges_to
+unfolding oriented_walls is_counterclockwise edges_to
 a_box_is_convex = refl
 
 a_box_is_convex_either_way_round : is_convex clockwise_box ≡ true
-unfolding walls_round is_counterclockwise edges_to
+unfolding oriented_walls is_counterclockwise edges_to
 a_box_is_convex_either_way_round = refl
 
 straight_corners_are_convex : is_convex box_with_a_straight_corner ≡ true
-unfolding walls_round is_counterclockwise edges_to
+unfolding oriented_walls is_counterclockwise edges_to
 straight_corners_are_convex = refl
 
 a_notched_box_is_not_convex : is_convex notched_box ≡ false
-unfolding walls_round is_counterclockwise edges_to
+unfolding oriented_walls is_counterclockwise edges_to
 a_notched_box_is_not_convex = refl
 
 -- ---- inside
 
 off_the_border_is_inside : is_strictly_inside (at (pos 1) (pos 2)) clockwise_box ≡ true
-unfolding walls_round is_counterclockwise edges_to
+unfolding oriented_walls is_counterclockwise edges_to
 off_the_border_is_inside = refl
 
 the_border_is_not_inside : is_strictly_inside (at (pos 3) (pos 2)) box ≡ false
-unfolding walls_round is_counterclockwise edges_to
+unfolding oriented_walls is_counterclockwise edges_to
 the_border_is_not_inside = refl
 
 -- ---- passing through
 
 a_diagonal_passes_through : PassesThrough box (at (pos 0) (pos 0)) (at (pos 3) (pos 3))
-unfolding walls_round is_counterclockwise edges_to
+unfolding oriented_walls is_counterclockwise edges_to
 a_diagonal_passes_through = (1, 2, omega arith, omega arith, refl)
 
 past_a_cut_corner_without_a_whole_point_inside : PassesThrough box (at (pos 2) (pos 0)) (at (pos 3) (pos 1))
-unfolding walls_round is_counterclockwise edges_to
+unfolding oriented_walls is_counterclockwise edges_to
 past_a_cut_corner_without_a_whole_point_inside = (1, 2, omega arith, omega arith, refl)
 
 -- the box from (0,0) to (3,3), with its first point twice
@@ -75,7 +75,7 @@ box_with_a_repeat =
 
 -- a repeated point leaves the box convex, and what is inside it isn't left of the wall between the two
 a_repeat_is_convex : is_convex box_with_a_repeat ≡ true
-unfolding walls_round is_counterclockwise edges_to
+unfolding oriented_walls is_counterclockwise edges_to
 a_repeat_is_convex = refl
 
 inside_past_a_repeat : is_inside (at (pos 1) (pos 1)) box_with_a_repeat ≡ true
@@ -83,7 +83,7 @@ unfolding is_inside edges_to is_on_segment passes_right
 inside_past_a_repeat = refl
 
 nothing_is_left_of_a_repeat : is_strictly_inside (at (pos 1) (pos 1)) box_with_a_repeat ≡ false
-unfolding walls_round is_counterclockwise edges_to
+unfolding oriented_walls is_counterclockwise edges_to
 nothing_is_left_of_a_repeat = refl
 
 -- in a notched box a point that is inside can be right of a wall
@@ -92,5 +92,5 @@ unfolding is_inside edges_to is_on_segment passes_right
 inside_a_notched_box = refl
 
 right_of_the_notch : is_strictly_inside (at (pos 2) (pos 2)) notched_box ≡ false
-unfolding walls_round is_counterclockwise edges_to
+unfolding oriented_walls is_counterclockwise edges_to
 right_of_the_notch = refl

@@ -1,5 +1,5 @@
 use Rattle.std.proofs.Common.{◌≡◌, ◌≤◌, ◌-◌, ◌+◌, length}
-use Rattle.dm_io.specs.Streams.{with_front}
+use Rattle.dm_io.specs.Streams.{prepended_to}
 use Rattle.dm_io.proofs.read_write_all.read_all.Given as goal
 
 abbrev pub invariant-chunks : goal.invariant-chunks
@@ -7,8 +7,8 @@ invariant-chunks g l =
     let source = g.S.Source in
     record {
       within : length l.all.items ≤ l.limit + 1;
-      taken : source.left l.fn.source ≡ with_front l.all.items (source.left l.source);
-      quiet : source.faults l.source ≡ source.faults l.fn.source;
+      taken : source.left l.fn.source ≡ prepended_to l.all.items (source.left l.source);
+      faults_stay : source.faults l.source ≡ source.faults l.fn.source;
     }
 
 abbrev pub decreases-chunks : goal.decreases-chunks

@@ -15,5 +15,5 @@ returns c =
     let is : c.common_divisor.result ≡ common_divisor (unsigned_abs c.args.num) (unsigned_abs c.args.den) = rw (num_size, den_size) at c.common_divisor.ensures in
     record {
       value = is;
-      some = subst (λ t. 0 < t) (sym is) (divisor_is_positive (record { num = c.args.num; den = c.args.den }) c.requires);
+      nonzero = subst (λ t. 0 < t) (sym is) (divisor_is_positive (record { num = c.args.num; den = c.args.den }) c.requires);
     }

@@ -2,7 +2,7 @@ use Rattle.std.specs.Prelude.{[], ◌∷◌}
 use Rattle.std.specs.List.{flat_map}
 use Rattle.std.proofs.Common.{sym, ap}
 use Rattle.plane_spec.specs.Boxes.{box_of_points}
-use Rattle.plan_spec.specs.declared.kinds.Screen.{Screen}
+use Rattle.plan_spec.specs.declared.item.Screen.{Screen}
 use Rattle.plan_spec.specs.Plan.{is_screen_named}
 use Rattle.list_laws.proofs.Tests.{filter_none}
 use Rattle.plan_check.proofs.boxes.screen_box.Goals as goal

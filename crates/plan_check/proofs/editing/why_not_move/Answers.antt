@@ -4,9 +4,9 @@ use Rattle.std.proofs.Common.{refl, subst, sym, ap, ap₂, ◌∙◌}
 use Rattle.std.proofs.lemmas.Int.{to_z-of_z}
 use Rattle.plane_spec.specs.declared.Point.{Point}
 use Rattle.plane_spec.specs.Vectors.{InRange}
-use Rattle.plan_spec.specs.declared.changes.Edit.TheVariants.{Move}
-use Rattle.plan_spec.specs.declared.refusals.Why.{Why}
-use Rattle.plan_spec.specs.declared.refusals.Why.TheVariants.{Missing}
+use Rattle.plan_spec.specs.declared.edit.Edit.TheVariants.{Move}
+use Rattle.plan_spec.specs.declared.why.Why.{Why}
+use Rattle.plan_spec.specs.declared.why.Why.TheVariants.{Missing}
 use Rattle.plan_spec.specs.Plan.{Plan, with_obstacles, is_obstacle_named}
 use Rattle.plan_spec.specs.Refusals.{when, first_cause}
 use Rattle.plan_spec.specs.Edits.{shifted_point, points_named, without_obstacle, why_not_moved, why_not_edit}

@@ -4,6 +4,6 @@ use Rattle.plane_spec.specs.Vectors.{InRange}
 use Rattle.plan_laws.proofs.Ranges.{outer_in_range}
 use Rattle.plan_check.proofs.place_refusals.why_not_line_in.Goals as goal
 
-pub line_lies_within-requires-clause-outer_in : goal.line_lies_within-requires-clause-outer_in
-line_lies_within-requires-clause-outer_in c =
+pub segment_lies_within-requires-clause-outer_in : goal.segment_lies_within-requires-clause-outer_in
+segment_lies_within-requires-clause-outer_in c =
     subst (All InRange) (sym c.outer.ensures) (outer_in_range c.args.draft.now c.requires.sound)

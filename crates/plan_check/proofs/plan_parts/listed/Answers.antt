@@ -1,6 +1,6 @@
 use Rattle.std.specs.Prelude.{◌≡◌, List, ◌∷◌, ◌++◌, map}
 use Rattle.std.proofs.lemmas.List.{append_assoc}
-use Rattle.plan_spec.specs.declared.kinds.Item.TheVariants.{Outer}
+use Rattle.plan_spec.specs.declared.item.Item.TheVariants.{Outer}
 use Rattle.plan_spec.specs.Plan.{items_of, grid_items, obstacle_item, screen_item, route_item}
 use Rattle.plan_check.proofs.plan_parts.listed.Goals as goal
 

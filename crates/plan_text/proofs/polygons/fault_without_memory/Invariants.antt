@@ -1,6 +1,6 @@
 use Rattle.std.proofs.Common.{◌≡◌, length, is_some}
 use Rattle.text_spec.specs.Words.{words_of}
-use Rattle.report_spec.specs.Shapes.{numbers_of}
+use Rattle.grammar_spec.specs.Arguments.{numbers_of}
 use Rattle.plan_text.proofs.polygons.fault_without_memory.Given as goal
 
 abbrev pub invariant-words : goal.invariant-words

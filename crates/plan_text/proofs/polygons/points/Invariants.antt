@@ -1,6 +1,6 @@
 use Rattle.std.proofs.Common.{◌≡◌, ◌++◌, ◌%◌, length, option_map}
 use Rattle.text_spec.specs.Words.{words_of}
-use Rattle.report_spec.specs.Shapes.{numbers_of, points_of}
+use Rattle.grammar_spec.specs.Arguments.{numbers_of, points_of}
 use Rattle.plan_text.proofs.polygons.points.Given as goal
 
 -- the points so far, and then those that are left, are all of them

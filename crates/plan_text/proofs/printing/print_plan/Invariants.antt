@@ -1,6 +1,6 @@
 use Rattle.std.proofs.Common.{◌≡◌, ◌++◌, ℕ, List, drop, map, flat_map}
-use Rattle.plan_spec.specs.declared.kinds.Item.{Item}
-use Rattle.report_spec.specs.PlanText.{item_words, ended_line, plan_text_of}
+use Rattle.plan_spec.specs.declared.item.Item.{Item}
+use Rattle.grammar_spec.specs.PlanText.{item_words, ended_line, plan_text_of}
 use Rattle.plan_text.specs.RoundTrip.{HaveNames}
 use Rattle.plan_text.proofs.printing.print_plan.Given as goal
 

@@ -1,6 +1,6 @@
 use Rattle.std.proofs.Common.{◌≡◌, ◌++◌, drop, map}
 use Rattle.std.specs.Fmt.{signed_decimal}
-use Rattle.report_spec.specs.Shapes.{numbers_of_points}
+use Rattle.grammar_spec.specs.Arguments.{numbers_of_points}
 use Rattle.plan_text.specs.Printing.{spaced}
 use Rattle.plan_text.proofs.printing.put_points.Given as goal
 

@@ -1,6 +1,6 @@
 use Rattle.std.proofs.Common.{◌≡◌, drop}
 use Rattle.std.specs.List.{list_any}
-use Rattle.plan_spec.specs.Sight.{has_inside}
+use Rattle.sight_spec.specs.Sight.{has_inside}
 use Rattle.sight_core.proofs.openness.is_in_obstacle.Given as goal
 
 abbrev pub invariant-loop-k : goal.invariant-loop-k

@@ -8,8 +8,8 @@ returns-in_default c = no_points c.args.way c.args.points.now c.args.corners.now
 
 pub loop-k-init : goal.loop-k-init
 loop-k-init c =
-    ap (λ t. c.args.corners.now.items ++ directed_corners c.goes_round-keep.result t)
+    ap (λ t. c.args.corners.now.items ++ directed_corners c.has_orientation-keep.result t)
     (first_corner c.args.points.now c.edge-before.result c.in-Some.last (omega (arith, c.in-Some.ensures)) c.edge-before.ensures.next)
 
 pub returns : goal.returns
-returns c = corners_all c.args.way c.goes_round-keep.result c.args.points.now c.loop-k.k c.loop-k.before c.args.corners.now.items c.loop-k.corners.items c.goes_round-keep.ensures c.loop-k-test.false c.loop-k.invariant
+returns c = corners_all c.args.way c.has_orientation-keep.result c.args.points.now c.loop-k.k c.loop-k.before c.args.corners.now.items c.loop-k.corners.items c.has_orientation-keep.ensures c.loop-k-test.false c.loop-k.invariant

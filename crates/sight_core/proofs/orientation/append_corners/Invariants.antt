@@ -1,6 +1,6 @@
 use Rattle.std.proofs.Common.{◌≡◌, ◌++◌, drop}
 use Rattle.plane_spec.specs.Polygons.{edges_of}
-use Rattle.plan_spec.specs.Scene.{corners_after, corners_along}
+use Rattle.sight_spec.specs.Scene.{corners_after, corners_along}
 use Rattle.sight_core.specs.Turned.{directed_corners}
 use Rattle.sight_core.proofs.orientation.append_corners.Given as goal
 

@@ -1,5 +1,5 @@
 use Rattle.std.proofs.Common.{◌≡◌, ◌++◌, drop, map}
-use Rattle.plan_spec.specs.Scene.{segment_of_screen, screens_of}
+use Rattle.sight_spec.specs.Scene.{segment_of_screen, screens_of}
 use Rattle.sight_core.proofs.scene.screens_of.Given as goal
 
 abbrev pub invariant-loop-k : goal.invariant-loop-k

@@ -1,6 +1,6 @@
 use Rattle.std.proofs.Common.{◌≡◌, ◌++◌, drop}
 use Rattle.std.specs.List.{flat_map}
-use Rattle.plan_spec.specs.Scene.{walls_of, walls_of_obstacle}
+use Rattle.sight_spec.specs.Scene.{walls_of, walls_of_obstacle}
 use Rattle.sight_core.proofs.scene.walls_of.Given as goal
 
 abbrev pub invariant-loop-k : goal.invariant-loop-k

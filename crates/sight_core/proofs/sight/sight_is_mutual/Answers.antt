@@ -1,4 +1,4 @@
-use Rattle.plan_laws.proofs.MutualSight.{sight_turned}
+use Rattle.map_laws.proofs.MutualSight.{sight_turned}
 use Rattle.sight_core.proofs.sight.sight_is_mutual.Goals as goal
 
 pub returns : goal.returns

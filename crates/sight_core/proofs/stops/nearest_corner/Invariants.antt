@@ -1,6 +1,6 @@
 use Rattle.std.proofs.Common.{◌≡◌, drop}
 use Rattle.std.specs.List.{filter_map}
-use Rattle.plan_spec.specs.Stops.{corner_hit}
+use Rattle.sight_spec.specs.Stops.{corner_hit}
 use Rattle.sight_core.specs.Hits.{least_from}
 use Rattle.sight_core.proofs.stops.nearest_corner.Given as goal
 

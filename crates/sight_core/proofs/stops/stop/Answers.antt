@@ -1,5 +1,5 @@
 use Rattle.std.proofs.Common.{rules}
-use Rattle.plan_spec.specs.Stops.{stop_of}
+use Rattle.sight_spec.specs.Stops.{stop_of}
 use Rattle.sight_core.proofs.StopBounds.{found_is_ahead}
 use Rattle.sight_core.proofs.stops.stop.Goals as goal
 

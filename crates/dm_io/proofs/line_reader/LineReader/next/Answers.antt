@@ -33,7 +33,7 @@ pieces-preserved g c =
       was_open = c.pieces.invariant.was_open;
       limit = grind (arith, common_steps);
       number = grind (arith, common_steps);
-      quiet = grind (arith, common_steps);
+      faults_stay = grind (arith, common_steps);
     }
 
 pub returns-in-Nothing-clause-reads : goal.returns-in-Nothing-clause-reads

@@ -15,7 +15,7 @@ invariant-pieces g l =
       was_open : saw_end l.fn.self ≡ false;
       limit : limit_of l.self ≡ limit_of l.fn.self;
       number : lines_read l.self ≡ lines_read l.fn.self;
-      quiet : source.faults l.source ≡ source.faults l.fn.source;
+      faults_stay : source.faults l.source ≡ source.faults l.fn.source;
     }
 
 abbrev pub decreases-pieces : goal.decreases-pieces

@@ -3,7 +3,7 @@ use Rattle.std.specs.Str.{bytes_eq}
 use Rattle.std.proofs.lemmas.List.{map_push}
 use Rattle.indexmap.proofs.CallerLemmas.{insert_entry-new}
 use Rattle.plan_spec.specs.Plan.{is_screen_named}
-use Rattle.plan_check.specs.Kept.{kept_screen}
+use Rattle.plan_check.specs.Kept.{screen_of_entry}
 use Rattle.plan_check.proofs.Kept.{not_named}
 use Rattle.plan_check.proofs.draft.Draft.add_screen.Goals.{in-Ok, in-Err}
 use Rattle.plan_check.proofs.draft.Draft.add_screen.Goals as goal
@@ -11,7 +11,7 @@ use Rattle.plan_check.proofs.draft.Draft.add_screen.Goals as goal
 pub returns-clause-ok : goal.returns-clause-ok
 returns-clause-ok c =
     let a = c.self.inside in
-    let none = not_named kept_screen (is_screen_named c.args.name) c.args.name (λ e. refl) a.screens.entries (rw (← c.self.view_is) at c.requires) in
+    let none = not_named screen_of_entry (is_screen_named c.args.name) c.args.name (λ e. refl) a.screens.entries (rw (← c.self.view_is) at c.requires) in
     let new = insert_entry-new bytes_eq a.screens c.args.name (record { a = c.args.from; b = c.args.to }) none in
     elim c.match-insert.branch [
       | in-Ok w ↦ rw (w.result-is, w.in-Ok.ensures.entries, new, ← c.self.view_is, map_push) refl

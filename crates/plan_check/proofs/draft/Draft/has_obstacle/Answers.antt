@@ -1,9 +1,9 @@
 use Rattle.std.proofs.Common.{refl, sym, ◌∙◌}
 use Rattle.plan_spec.specs.Plan.{is_obstacle_named}
-use Rattle.plan_check.specs.Kept.{kept_obstacle}
+use Rattle.plan_check.specs.Kept.{obstacle_of_entry}
 use Rattle.plan_check.proofs.Kept.{named_is}
 use Rattle.plan_check.proofs.draft.Draft.has_obstacle.Goals as goal
 
 pub returns : goal.returns
 returns c =
-    rw (← c.self.view_is) (c.contains_key.ensures ∙ sym (named_is kept_obstacle (is_obstacle_named c.args.name.now) c.args.name.now (λ e. refl) c.self.inside.obstacles.entries))
+    rw (← c.self.view_is) (c.contains_key.ensures ∙ sym (named_is obstacle_of_entry (is_obstacle_named c.args.name.now) c.args.name.now (λ e. refl) c.self.inside.obstacles.entries))

@@ -5,14 +5,14 @@ use Rattle.plane_spec.specs.Vectors.{InRange}
 use Rattle.plan_spec.specs.Plan.{is_obstacle_named}
 use Rattle.plan_spec.specs.Edits.{shifted_point, shifted_obstacle}
 use Rattle.plan_laws.proofs.Ranges.{obstacles_in_range}
-use Rattle.plan_check.specs.Kept.{kept_obstacle}
+use Rattle.plan_check.specs.Kept.{obstacle_of_entry}
 use Rattle.plan_check.proofs.Tables.{none_changed}
 use Rattle.plan_check.proofs.Moved.{found_in_all, moved_is}
 use Rattle.plan_check.proofs.draft.Draft.move_obstacle.Goals as goal
 
 pub returns-in_default-clause-ok : goal.returns-in_default-clause-ok
 returns-in_default-clause-ok c =
-    let same = none_changed kept_obstacle (is_obstacle_named c.args.name.now) c.args.name.now (λ e. refl) (shifted_obstacle c.args.dx c.args.dy) c.self.inside.obstacles.entries (sym c.in_default.ensures.value) in
+    let same = none_changed obstacle_of_entry (is_obstacle_named c.args.name.now) c.args.name.now (λ e. refl) (shifted_obstacle c.args.dx c.args.dy) c.self.inside.obstacles.entries (sym c.in_default.ensures.value) in
     rw (← c.self.view_is, same) refl
 
 pub shifted_points-requires-clause-points_in : goal.shifted_points-requires-clause-points_in

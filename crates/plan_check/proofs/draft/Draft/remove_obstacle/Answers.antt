@@ -4,11 +4,11 @@ use Rattle.std.proofs.Common.{refl, rules}
 use Rattle.indexmap.proofs.CallerLemmas.{filter-RetainsPairs}
 use Rattle.plane_spec.specs.declared.Point.{Point}
 use Rattle.plan_spec.specs.Plan.{is_obstacle_named}
-use Rattle.plan_check.specs.Kept.{kept_obstacle}
+use Rattle.plan_check.specs.Kept.{obstacle_of_entry}
 use Rattle.plan_check.proofs.Tables.{others_kept}
 use Rattle.plan_check.proofs.draft.Draft.remove_obstacle.Goals as goal
 
 pub returns : goal.returns
 returns c =
     let kept = filter-RetainsPairs _ (λ (e : List ℕ × List Point). not (bytes_eq e.0 c.args.name.now)) _ (λ k v b w g call. search rules) _ _ c.retain.ensures.filtered in
-    rw (kept, others_kept kept_obstacle (is_obstacle_named c.args.name.now) c.args.name.now (λ e. refl) c.self.inside.obstacles.entries, ← c.self.view_is) refl
+    rw (kept, others_kept obstacle_of_entry (is_obstacle_named c.args.name.now) c.args.name.now (λ e. refl) c.self.inside.obstacles.entries, ← c.self.view_is) refl

@@ -1,8 +1,8 @@
 use Rattle.std.proofs.Common.{sym}
-use Rattle.plan_check.specs.Kept.{kept_screen}
+use Rattle.plan_check.specs.Kept.{screen_of_entry}
 use Rattle.plan_check.proofs.Kept.{kept_next}
 use Rattle.plan_check.proofs.draft.Draft.screen.Goals as goal
 
 pub returns : goal.returns
 returns c =
-    rw (← c.self.view_is, c.make_screen.ensures) (kept_next kept_screen c.self.inside.screens.entries c.args.k (c.in-Some.name.now, c.in-Some.line.now) (sym c.in-Some.ensures.entry))
+    rw (← c.self.view_is, c.make_screen.ensures) (kept_next screen_of_entry c.self.inside.screens.entries c.args.k (c.in-Some.name.now, c.in-Some.line.now) (sym c.in-Some.ensures.entry))

@@ -5,5 +5,5 @@ use Rattle.sight_core.proofs.scene.Scene.corners.Goals as goal
 pub returns-clause-in_range : goal.returns-clause-in_range
 returns-clause-in_range c = rw c.deref.ensures.value (corners-in_range _ c.self.invariant)
 
-pub returns-clause-few : goal.returns-clause-few
-returns-clause-few c = rw c.deref.ensures.value (few_corners _ c.self.invariant)
+pub returns-clause-at_most : goal.returns-clause-at_most
+returns-clause-at_most c = rw c.deref.ensures.value (few_corners _ c.self.invariant)

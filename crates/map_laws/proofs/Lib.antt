@@ -1,0 +1,3 @@
+pub mod MutualSight
+pub mod SimpleGraphs
+pub mod Visibility

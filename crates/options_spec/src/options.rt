@@ -1,0 +1,85 @@
+//! The options of the command: the texts that are given for them, and what these stand for.
+
+ghost use Rattle.std.specs.Prelude.{◌≡◌};
+
+use std::marker::Model;
+
+/// Which tables of a plan stand after the replies.
+#[derive(Clone, Copy, Debug, PartialEq, Eq)]
+pub enum Mode {
+    /// What the grid points see of one another, and what follows for each.
+    Vga,
+    /// What is seen from each open grid point.
+    Isovists,
+    /// The axial lines, and how they cross.
+    AxialMap,
+    /// The pieces of the routes.
+    Segments,
+    /// The plan alone.
+    Check,
+}
+
+/// How the fields of a record are joined: by a space, or by a comma.
+#[derive(Clone, Copy, Debug, PartialEq, Eq)]
+pub enum Form {
+    Text,
+    Csv,
+}
+
+/// A text that is given for an option. Contracts see its bytes.
+#[derive(Drop)]
+pub struct GivenText<'a> {
+    text: &'a str,
+}
+
+impl<'a> Model for GivenText<'a> {
+    ghost use Rattle.std.specs.Prelude.{List, ℕ};
+
+    ghost Value = { List ℕ };
+
+    ghost view = { λ a. a.text.now };
+}
+
+impl<'a> GivenText<'a> {
+    /// The text as one that is given.
+    pub fn of(text: &'a str) -> GivenText<'a>
+        ensures { result ≡ text.now }
+    {
+        GivenText { text }
+    }
+
+    /// The text itself.
+    pub fn as_str(&self) -> &'a str
+        ensures { result.now ≡ self.now }
+    {
+        self.text
+    }
+}
+
+/// The texts that are given for the options, each at most once.
+#[derive(Drop)]
+pub struct Given<'a> {
+    pub mode: Option<GivenText<'a>>,
+    pub file: Option<GivenText<'a>>,
+    pub workers: Option<GivenText<'a>>,
+    pub format: Option<GivenText<'a>>,
+    pub number: Option<GivenText<'a>>,
+}
+
+/// What the command is to do.
+#[derive(Drop)]
+pub enum Job<'a> {
+    /// Analyse the plan of the file of this name.
+    Analyse(Mode, GivenText<'a>),
+    /// Make the trial plan of so many boxes, and count in it.
+    Trial(u32),
+}
+
+/// What the command was asked for.
+#[derive(Drop)]
+pub struct Options<'a> {
+    pub job: Job<'a>,
+    /// How many threads may work at once, from 1 to 64.
+    pub workers: usize,
+    pub form: Form,
+}

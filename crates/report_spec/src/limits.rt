@@ -1,7 +1,0 @@
-//! How long the texts may be that are read.
-
-/// How many bytes a plan's file may have.
-pub const LONGEST_PLAN: usize = 1_048_576;
-
-/// How many bytes a script may have.
-pub const LONGEST_SCRIPT: u64 = 16_777_216;

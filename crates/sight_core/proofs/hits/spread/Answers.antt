@@ -1,6 +1,0 @@
-use Rattle.std.proofs.Common.{arith}
-use Rattle.std.proofs.lemmas.Int.{ints}
-use Rattle.sight_core.proofs.hits.spread.Goals as goal
-
-pub returns-clause-within : goal.returns-clause-within
-returns-clause-within c = record { low = omega (arith, ints); high = omega (arith, ints) }

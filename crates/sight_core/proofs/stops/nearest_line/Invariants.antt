@@ -1,9 +1,0 @@
-use Rattle.std.proofs.Common.{◌≡◌, drop}
-use Rattle.std.specs.List.{filter_map}
-use Rattle.plan_spec.specs.Stops.{line_hit}
-use Rattle.sight_core.specs.Hits.{least_from}
-use Rattle.sight_core.proofs.stops.nearest_line.Given as goal
-
-abbrev pub invariant-loop-line : goal.invariant-loop-line
-invariant-loop-line l =
-    least_from l.fn.best (filter_map (line_hit l.p l.d) l.lines) ≡ least_from l.nearest (filter_map (line_hit l.p l.d) (drop l.line-index l.lines))

@@ -1,0 +1,5 @@
+mod SightExamples
+mod IsovistExamples
+mod GraphExamples
+pub mod Laws
+pub mod Runs

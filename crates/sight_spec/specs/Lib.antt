@@ -1,0 +1,7 @@
+pub mod Scene
+pub mod Sight
+pub mod Visibility
+pub mod Stops
+pub mod Isovist
+pub mod Axial
+pub mod Dirty
