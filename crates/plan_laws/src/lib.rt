@@ -16,7 +16,7 @@
 //! Proofs of code cite the laws by the lemmas in `proofs/`, which state them kind by kind.
 #![tactic(auto)]
 
-ghost use Rattle.std.specs.Prelude.{◌≡◌, ◌≤◌, ◌*◌, ◌&&◌, IfSome, List, None, Ok, Some, is_none, is_ok, length, true, unsigned_abs};
+ghost use Rattle.std.specs.Prelude.{◌≡◌, ◌≤◌, ◌*◌, ◌&&◌, IfSome, List, None, Ok, Some, is_none, is_ok, length, true, unsigned_abs, ℕ, ◌<◌, ◌+◌, ◌≤ℤ◌, pos};
 ghost use Rattle.std.specs.List.{All};
 ghost use Rattle.plane_spec.specs.declared.Point.{Point};
 ghost use Rattle.plane_spec.specs.Vectors.{InRange};
@@ -30,7 +30,7 @@ ghost use Rattle.plan_spec.specs.Plan.{Plan, empty_plan, has_outer, items_of, wi
 ghost use Rattle.plan_spec.specs.Accepted.{is_accepted, is_sound, may_follow};
 ghost use Rattle.plan_spec.specs.Refusals.{check_of, why_not_item};
 ghost use Rattle.plan_spec.specs.Edits.{IsEditBetween, changed_boxes, plan_after_edit, is_there, why_not_edit};
-ghost use Rattle.plan_spec.specs.Grid.{grid_points};
+ghost use Rattle.plan_spec.specs.Grid.{grid_points, number_of_point, point_at, point_of_number};
 ghost use Rattle.plan_spec.specs.Ranges.{AreBoxesInRange, IsGridInRange, IsProperSegmentInRange, IsPolygonInRange, IsWithinLimits};
 
 /// An item may follow and leaves a sound plan exactly where the plan is sound and nothing refuses the item. The outer
