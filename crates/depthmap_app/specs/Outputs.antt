@@ -31,11 +31,11 @@ output_of plan = records_bytes Text (edges_table_of plan)
 abbrev pub IsAnswered : List ℕ → Option (List ℕ) → Option (List ℕ) → Type 0
 IsAnswered bytes before after = (plan : Plan) × HoldsPlan bytes plan × (after ≡ appended_to before (output_of plan))
 
--- the bytes hold a plan, and a front of its output was written
+-- the bytes hold a plan, and a prefix of its output was written
 abbrev pub IsAnsweredInPart : List ℕ → Option (List ℕ) → Option (List ℕ) → Type 0
 IsAnsweredInPart bytes before after = (plan : Plan) × HoldsPlan bytes plan × WritesPrefix before after (output_of plan)
 
--- a front of the output was written where there is a plan, and nothing where there is none
+-- a prefix of the output was written where there is a plan, and nothing where there is none
 abbrev pub WritesAtMost : PlanFound → Option (List ℕ) → Option (List ℕ) → Type 0
 WritesAtMost (Ok plan) before after = WritesPrefix before after (output_of plan)
 WritesAtMost (Err fault) before after = after ≡ before

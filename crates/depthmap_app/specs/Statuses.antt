@@ -57,7 +57,7 @@ TakesPlan known before left TooLong = TakesTooMany known left
 abbrev pub IsSilent : Option (List ℕ) → Option (List ℕ) → ℕ → ℕ → Type 0
 IsSilent before after faults faults_after = (after ≡ before) × (faults_after ≡ faults)
 
--- the message was written; or a front of it, and then the count of faults rose
+-- the message was written; or a prefix of it, and then the count of faults rose
 abbrev pub IsSaid : Option (List ℕ) → Option (List ℕ) → ℕ → ℕ → List ℕ → Type 0
 IsSaid before after faults faults_after message =
     ((after ≡ appended_to before message) × (faults_after ≡ faults))

@@ -13,6 +13,6 @@ name_in (flag ∷ name ∷ word ∷ words) = None
 abbrev pub file_in : List (String Global) → Option (List ℕ)
 file_in words = name_in (map string_bytes words)
 
--- the bytes of the file that the words name, where they are told
+-- the bytes of the file that the words name, where they are known
 abbrev pub known_file : List (String Global) → (List ℕ → Option (List ℕ)) → Option (List ℕ)
 known_file words holds = option_and_then holds (file_in words)

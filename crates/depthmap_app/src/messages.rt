@@ -18,7 +18,7 @@ use report_spec::Reason;
 const USAGE: &[u8] =
     b"depthmap: usage: depthmap -m VGA|ISOVIST|AXIAL|SEGMENT|CHECK -f FILE [--workers N] [--format text|csv] or depthmap -m TRIAL --number N [--workers N] [--format text|csv]\n";
 
-/// Writes all the pieces, one after the other. After `PutFailed` a front of them was written. Takes no memory.
+/// Writes all the pieces, one after the other. After `PutFailed` a prefix of them was written. Takes no memory.
 fn put_pieces<E: Sink>(err: &mut E, pieces: &[&[u8]]) -> Result<(), PutFailed>
     ensures all { OnOk result (E.written err.new ≡ appended_to (E.written err.old) (flat_map (λ piece. piece.now) pieces.now)) }
     ensures faults_stay { OnOk result (E.faults err.new ≡ E.faults err.old) }

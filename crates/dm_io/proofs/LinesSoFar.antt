@@ -9,7 +9,7 @@ use Rattle.dm_io.specs.Reader.{Cut, Last, LineRead, NothingAhead, Stopped, ahead
 use Rattle.dm_io.specs.Streams.{IsPrefix, IsIfKnown, prepended_to}
 use Rattle.dm_io.specs.declared.line_reader.LineReader.{LineReader}
 use Rattle.dm_io.proofs.LinesOf.{lines_of-cut, lines_of-last, lines_of-nil, split-cut, split-plain, split-some}
-use Rattle.dm_io.proofs.Told.{prepended_to-more, prepended_to-nothing}
+use Rattle.dm_io.proofs.Known.{prepended_to-more, prepended_to-nothing}
 
 -- ---- the whole lines of some bytes
 

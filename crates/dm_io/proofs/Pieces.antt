@@ -4,7 +4,7 @@ use Rattle.std.proofs.Math.Seq.{take-append-add}
 use Rattle.std.proofs.lemmas.List.{take-append-le}
 use Rattle.dm_io.specs.Streams.{WritesPrefix, appended_to}
 use Rattle.dm_io.specs.OutputBuffer.{WritesAndBuffers}
-use Rattle.dm_io.proofs.Told.{appended_to-nothing}
+use Rattle.dm_io.proofs.Known.{appended_to-nothing}
 
 pub appended_to-append : (old : Option (List ℕ)) (some more : List ℕ) → appended_to (appended_to old some) more ≡ appended_to old (some ++ more)
 appended_to-append None some more = refl
@@ -16,7 +16,7 @@ pub puts-then : (old mid new : Option (List ℕ)) (some more waiting : List ℕ)
 puts-then old mid new some more waiting first second none =
     (some ++ more, ap (λ w. (some ++ more) ++ w) none ∙ append-nil (some ++ more), second ∙ ap (λ o. appended_to o more) first ∙ appended_to-append old some more)
 
--- the bytes were put, and then a front of others
+-- the bytes were put, and then a prefix of others
 pub writes_prefix-then : (old mid new : Option (List ℕ)) (some more : List ℕ) → mid ≡ appended_to old some → WritesPrefix mid new more → WritesPrefix old new (some ++ more)
 writes_prefix-then old mid new some more first second = (
   length some + second.0,
@@ -41,7 +41,7 @@ keeps-more before mid now bytes waiting piece rest kept first second = (
   second.2 ∙ ap (λ o. appended_to o second.0) first.2 ∙ appended_to-append before first.0 second.0,
 )
 
--- a front of the piece was put
+-- a prefix of the piece was put
 pub keeps-prefix : (before mid now : Option (List ℕ)) (bytes waiting piece rest : List ℕ)
     → WritesAndBuffers before mid bytes (waiting ++ (piece ++ rest)) → WritesPrefix mid now (waiting ++ piece) → WritesPrefix before now bytes
 keeps-prefix before mid now bytes waiting piece rest first second =
@@ -64,7 +64,7 @@ pub keeps-all : (before mid now : Option (List ℕ)) (bytes waiting : List ℕ) 
 keeps-all before mid now bytes waiting first second =
     second ∙ ap (λ o. appended_to o waiting) first.2 ∙ appended_to-append before first.0 waiting ∙ ap (appended_to before) first.1
 
--- a front of what waits was put
+-- a prefix of what waits was put
 pub keeps_all-prefix : (before mid now : Option (List ℕ)) (bytes waiting : List ℕ) → WritesAndBuffers before mid bytes waiting → WritesPrefix mid now waiting → WritesPrefix before now bytes
 keeps_all-prefix before mid now bytes waiting first second = (
   length first.0 + second.0,

@@ -34,6 +34,6 @@ pub record BeginsLine (bytes : List ℕ) (count : ℕ) : Type 0 where
 abbrev pub next_of : Bool → Next
 next_of long = if long then Long else Line
 
--- at the end of the source so many bytes wait, or the front of a line that is too long was dropped
+-- at the end of the source so many bytes wait, or the beginning of a line that is too long was dropped
 abbrev pub next_at_end : Bool → ℕ → Next
 next_at_end long count = if long then Long else (if count == 0 then End else Line)

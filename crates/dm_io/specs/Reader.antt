@@ -37,7 +37,7 @@ saw_end r = r.ended
 abbrev pub ahead : LineReader → Option (List ℕ) → Option (List ℕ)
 ahead r left = prepended_to (waiting r) left
 
--- a line and its newline were cut from the front of what was ahead
+-- a line and its newline were cut from the beginning of what was ahead
 pub record Cut (old new : LineReader) (before after : Option (List ℕ)) (line : List ℕ) : Type 0 where
   pub goes_on : saw_end new ≡ false
   pub bytes : IsPrefix (ahead old before) (line ++ 10 ∷ []) (ahead new after)
@@ -67,7 +67,7 @@ pub record NothingAhead (old new : LineReader) (before after : Option (List ℕ)
   pub nothing_taken : after ≡ before
   pub nothing_left : saw_end old ≡ false → IsIfKnown [] after
 
--- no whole line came: this part of one waited or was taken, and all of it waits but for the front that was dropped where it is too long
+-- no whole line came: this part of one waited or was taken, and all of it waits but for the beginning that was dropped where it is too long
 pub record Stopped (old new : LineReader) (before after : Option (List ℕ)) (part : List ℕ) : Type 0 where
   pub was_open : saw_end old ≡ false
   pub goes_on : saw_end new ≡ false
@@ -90,7 +90,7 @@ Reads old new before after Over = (part extra : List ℕ) × (rest : Option (Lis
 abbrev pub Waits : LineReader → Option (List ℕ) → Option (List ℕ) → Next → Type 0
 Waits old before after next = has_newline (waiting old) ≡ true → (after ≡ before) × IsLine next
 
--- these bytes were dropped from the front of those that wait, which leaves room for more: all that waited where they were too many for a line, and else none
+-- these bytes were dropped from the beginning of those that wait, which leaves room for more: all that waited where they were too many for a line, and else none
 pub record Skips (old new : LineReader) (full : Bool) (gone : List ℕ) : Type 0 where
   pub bytes : waiting old ≡ gone ++ waiting new
   pub counted : bytes_read new ≡ bytes_read old + length gone

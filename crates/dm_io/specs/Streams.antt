@@ -9,34 +9,34 @@ use Rattle.dm_io.specs.declared.streams.Put.TheVariants.{Took, Failed as PutFail
 abbrev pub Rose : ℕ → ℕ → Type 0
 Rose before now = min (before + 1) (2 ^ 64 - 1) ≤ now
 
--- bytes that are told, with others before them
+-- bytes that are known, with others before them
 abbrev pub prepended_to : List ℕ → Option (List ℕ) → Option (List ℕ)
 prepended_to prefix None = None
 prepended_to prefix (Some rest) = Some (prefix ++ rest)
 
--- bytes that are told, with others after them
+-- bytes that are known, with others after them
 abbrev pub appended_to : Option (List ℕ) → List ℕ → Option (List ℕ)
 appended_to None more = None
 appended_to (Some bytes) more = Some (bytes ++ more)
 
--- no bytes are told, or these are
+-- no bytes are known, or these are
 abbrev pub IsIfKnown : List ℕ → Option (List ℕ) → Type 0
 IsIfKnown bytes None = Unit {0}
 IsIfKnown bytes (Some known) = known ≡ bytes
 
--- exactly these bytes were taken from the front of what was left
+-- exactly these bytes were taken from the beginning of what was left
 abbrev pub IsPrefix : Option (List ℕ) → List ℕ → Option (List ℕ) → Type 0
 IsPrefix before prefix after = before ≡ prepended_to prefix after
 
--- at most so many bytes were taken from the front of what was left
+-- at most so many bytes were taken from the beginning of what was left
 abbrev pub TakesAtMost : ℕ → Option (List ℕ) → Option (List ℕ) → Type 0
 TakesAtMost n before after = (prefix : List ℕ) × (length prefix ≤ n) × IsPrefix before prefix after
 
--- a front of the bytes was written, and nothing else
+-- a prefix of the bytes was written, and nothing else
 abbrev pub WritesPrefix : Option (List ℕ) → Option (List ℕ) → List ℕ → Type 0
 WritesPrefix before after bytes = (n : ℕ) × (n ≤ length bytes) × (after ≡ appended_to before (take n bytes))
 
--- bytes that were got were the front of what was left and stand at the front of the buffer; at the end nothing was left; a fault takes nothing
+-- bytes that were got were the beginning of what was left and stand at the beginning of the buffer; at the end nothing was left; a fault takes nothing
 abbrev pub Takes : Option (List ℕ) → Option (List ℕ) → List ℕ → Take → Type 0
 Takes before after into (Got n) = (1 ≤ n) × (n ≤ length into) × IsPrefix before (take n into) after
 Takes before after into End = (after ≡ before) × IsIfKnown [] before

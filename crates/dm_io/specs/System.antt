@@ -32,14 +32,14 @@ source_remaining {R} {reads} s = reads.remaining s.input
 abbrev pub sink_contents : {W : Type 0} {writes : Writers W} → StdSink W writes → Option (List ℕ)
 sink_contents {W} {writes} s = writes.contents s.output
 
--- by what the reader will give before and after: what was got came from its front, the end comes only at its end, and a
+-- by what the reader will give before and after: what was got came from its beginning, the end comes only at its end, and a
 -- fault takes nothing
 abbrev pub TakesFromReader : Option (List ℕ) → Option (List ℕ) → List ℕ → Take → Type 0
 TakesFromReader before after into (Got n) = Consumes before after (take n into)
 TakesFromReader before after into End = IsAtEnd after
 TakesFromReader before after into Failed = Keeps before after
 
--- by what the writer holds before and after: what was taken was appended, and at a fault a front of the piece at most
+-- by what the writer holds before and after: what was taken was appended, and at a fault a prefix of the piece at most
 abbrev pub PutsIntoWriter : Option (List ℕ) → Option (List ℕ) → List ℕ → Put → Type 0
 PutsIntoWriter before after piece (Took n) = Appends before after (take n piece)
 PutsIntoWriter before after piece PutFailed = (n : ℕ) × (n ≤ length piece) × Appends before after (take n piece)

@@ -100,7 +100,7 @@ impl LineReader {
 
     /// Reads the next line. It takes from the source only while no whole line waits, at most 4096 bytes at once, and takes
     /// no memory. After `End` comes `End` again. After `Failed` and `Over` it may be asked again, and goes on with the bytes
-    /// that wait; but the front of a line that is too long was dropped then, so that its rest may pass for a line.
+    /// that wait; but the beginning of a line that is too long was dropped then, so that its rest may pass for a line.
     ///
     /// Cost: one pass over the bytes of the line; each byte that is taken is copied at most twice.
     pub fn next<S: Source>(&mut self, source: &mut S) -> Next

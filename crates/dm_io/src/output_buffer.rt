@@ -33,7 +33,7 @@ impl OutputBuffer {
     }
 
     /// Adds a piece behind the bytes that wait. Where there is no room for it they are put first; a piece that is longer
-    /// than 64 KiB is put at once. After `PutFailed` a front of all that was to be put was written, and nothing waits.
+    /// than 64 KiB is put at once. After `PutFailed` a prefix of all that was to be put was written, and nothing waits.
     ///
     /// Cost: one copy of the piece, and a call of the sink for each 64 KiB.
     pub fn add<O: Sink>(&mut self, out: &mut O, piece: &[u8]) -> Result<(), PutFailed>
@@ -55,7 +55,7 @@ impl OutputBuffer {
         put_all(out, piece)
     }
 
-    /// Puts all that waits. After `PutFailed` a front of it was written. Nothing waits then.
+    /// Puts all that waits. After `PutFailed` a prefix of it was written. Nothing waits then.
     pub fn flush<O: Sink>(&mut self, out: &mut O) -> Result<(), PutFailed>
         ensures empty { self.new ≡ [] }
         ensures all { OnOk result (O.written out.new ≡ appended_to (O.written out.old) self.old) }

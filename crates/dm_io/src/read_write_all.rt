@@ -20,7 +20,7 @@ pub enum AllFault {
 #[derive(Clone, Copy, Debug, PartialEq, Eq)]
 pub struct PutFailed;
 
-/// Writes all the bytes. After `PutFailed` a front of them was written. Takes no memory.
+/// Writes all the bytes. After `PutFailed` a prefix of them was written. Takes no memory.
 ///
 /// Cost: one pass over the bytes, in as many calls of the sink as it asks for.
 pub fn put_all<O: Sink>(sink: &mut O, bytes: &[u8]) -> Result<(), PutFailed>
@@ -40,7 +40,7 @@ pub fn put_all<O: Sink>(sink: &mut O, bytes: &[u8]) -> Result<(), PutFailed>
 }
 
 /// Reads all that is left, at most `limit` bytes. `Over` comes exactly where the source gave one byte more; the source
-/// is never asked for a second. After a fault a front of what was left was taken.
+/// is never asked for a second. After a fault a prefix of what was left was taken.
 ///
 /// Cost: one pass over the bytes, taken in pieces of at most 4096.
 pub fn read_all<S: Source>(alloc: Global, source: &mut S, limit: usize) -> Result<Vec<u8>, AllFault>

@@ -5,7 +5,7 @@ ghost use Rattle.dm_io.specs.Streams.{Takes, TakeCounts, Puts, PutCounts, Rose};
 /// What a source answers.
 #[derive(Clone, Copy, Debug, PartialEq, Eq)]
 pub enum Take {
-    /// So many bytes, at least one, stand at the front of the buffer.
+    /// So many bytes, at least one, stand at the beginning of the buffer.
     Got(usize),
     /// Nothing is left.
     End,
@@ -16,7 +16,7 @@ pub enum Take {
 /// What a sink answers.
 #[derive(Clone, Copy, Debug, PartialEq, Eq)]
 pub enum Put {
-    /// So many bytes, at least one, were taken from the front of the piece.
+    /// So many bytes, at least one, were taken from the beginning of the piece.
     Took(usize),
     /// The sink failed; its count of faults rose.
     Failed,
@@ -34,7 +34,7 @@ pub trait Source {
     /// How often it has failed. The count stands still at its last value.
     ghost faults: { Self → ℕ };
 
-    /// Takes some of the bytes that are left into the front of `into`.
+    /// Takes some of the bytes that are left into the beginning of `into`.
     fn take(&mut self, into: &mut [u8]) -> Take
         requires { 0 < length into.old }
         ensures bytes { Takes (left self.old) (left self.new) into.new result }
@@ -46,7 +46,7 @@ pub trait Source {
 
 /// Files that are opened by name, one after the other. One count covers opening and reading.
 pub trait Files: Source {
-    /// What the file of a name holds, where that is told.
+    /// What the file of a name holds, where that is known.
     ghost holds: { Self → List ℕ → Option (List ℕ) };
 
     /// Whether a name may be asked for.
@@ -71,7 +71,7 @@ pub trait Sink {
     /// How often it has failed. The count stands still at its last value.
     ghost faults: { Self → ℕ };
 
-    /// Writes some of the piece, from its front.
+    /// Writes some of the piece, from its beginning.
     fn put(&mut self, piece: &[u8]) -> Put
         requires { 0 < length piece.now }
         ensures bytes { Puts (written self.old) (written self.new) piece.now result }

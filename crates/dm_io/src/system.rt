@@ -1,4 +1,4 @@
-//! The system's own streams and files. No bytes are told of them: what they give and take is up to the system. Each
+//! The system's own streams and files. No bytes are known of them: what they give and take is up to the system. Each
 //! failed call of the system is counted as a fault, whatever its cause.
 //!
 //! The clauses of the two streams speak of the reader or the writer that they stand on, in std's own terms: what it will
@@ -79,7 +79,7 @@ impl<W: Write + Drop> StdSink<W> {
     }
 
     /// Writes some of the piece and flushes it. None where a call failed or nothing was written; where the writing did its
-    /// work and the flushing failed, a front of the piece was written all the same.
+    /// work and the flushing failed, a prefix of the piece was written all the same.
     fn write_some(&mut self, piece: &[u8]) -> Option<usize>
         ensures same { sink_faults self.new ≡ sink_faults self.old }
         ensures within { IfSome result (λ n. (1 ≤ n) × (n ≤ length piece.now)) }

@@ -40,7 +40,7 @@ pub fn box_of(points: &[Point]) -> PlanBox
     area
 }
 
-/// Whether the stretch between `m` and `n` shares a number with the one from `low` to `high`.
+/// Whether the interval between `m` and `n` shares a number with the one from `low` to `high`.
 fn overlap(m: i64, n: i64, low: i64, high: i64) -> bool
     ensures { result ≡ do_intervals_overlap m n low high }
 {

@@ -36,7 +36,7 @@ fn ends_by(f: &Frac, z: i64) -> bool
     is_at_most(f.num(), wide_product(i128::from(z), f.den()))
 }
 
-/// Whether the stretch between `m` and `n` shares a number with the one from `low` to `high`.
+/// Whether the interval between `m` and `n` shares a number with the one from `low` to `high`.
 fn overlap(m: &Frac, n: &Frac, low: i64, high: i64) -> bool
     requires m_in { HasCoordinateParts m.now }
     requires n_in { HasCoordinateParts n.now }
@@ -109,7 +109,7 @@ mod tests {
         )
     }
 
-    /// Whether the stretch from `from` to `to` meets the box from (2,0) to (4,2) moved by `shift` to the right.
+    /// Whether the interval from `from` to `to` meets the box from (2,0) to (4,2) moved by `shift` to the right.
     fn meets(from: &RPoint, to: &RPoint, shift: i64) -> bool
         requires from_in { HasPlaceParts from.now }
         requires to_in { HasPlaceParts to.now }

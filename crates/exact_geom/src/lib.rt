@@ -3,7 +3,7 @@
 //! | item | what it is |
 //! |---|---|
 //! | [`Point`], [`Segment`], [`Corner`], [`PlanBox`] | the data of the plane |
-//! | [`Name`], [`NoMemory`] | a name; the answer for want of memory |
+//! | [`Name`], [`NoMemory`] | a name; the answer for out of memory |
 //! | [`is_coordinate`], [`in_range`] | whether a number is a coordinate, and whether both of a point are |
 //! | [`MAX_COORDINATE`], [`MAX_COMPONENT`] | how large coordinates and the components of directions are |
 //! | [`MAX_DIFFERENCE`], [`MAX_PRODUCT`], [`MAX_CROSS`], [`MAX_ORIENTATION`] | how large what is computed of them is |

@@ -10,7 +10,7 @@
 //! | [`Why`], [`Limit`] | why an item or an edit is refused |
 //! | [`MAX_OBSTACLES`], [`MAX_CORNERS`], .. | how much a plan may have |
 //! | [`Point`], [`PlanBox`] | a point, or a direction; a box with sides along the axes |
-//! | [`Name`], [`NoMemory`] | a name; the answer for want of memory |
+//! | [`Name`], [`NoMemory`] | a name; the answer for out of memory |
 #![tactic(auto)]
 
 mod boxes;

@@ -33,7 +33,7 @@ is_box_left_of_line p q area =
 abbrev pub reaches_line : Point → Point → PlanBox → Bool
 reaches_line p q area = not (is_box_left_of_line p q area) && not (is_box_left_of_line q p area)
 
--- the stretch from one of m and n to the other shares a number with the one from low to high
+-- the interval from one of m and n to the other shares a number with the one from low to high
 abbrev pub do_intervals_overlap : ℤ → ℤ → ℤ → ℤ → Bool
 do_intervals_overlap m n low high = (int_le low m || int_le low n) && (int_le m high || int_le n high)
 

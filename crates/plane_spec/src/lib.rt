@@ -7,7 +7,7 @@
 //! | [`Segment`] | a directed segment: an edge of a polygon, a wall or a screen |
 //! | [`Corner`] | a corner between the points before and after it |
 //! | [`PlanBox`] | a box with sides along the axes |
-//! | [`Orientation`] | which way a polygon goes round |
+//! | [`Orientation`] | which way round a polygon is given |
 //! | [`MAX_COORDINATE`], [`MAX_COMPONENT`] | how large coordinates and the components of directions are |
 //!
 //! The definitions stand in `specs/`: `Lists` (pairs, firsts, the least), `Vectors` (cross, dot, orientation, ranges, the
@@ -51,7 +51,7 @@ pub struct PlanBox {
     pub high: Point,
 }
 
-/// Which way a polygon goes round: what it bounds lies left of edges that go round it counterclockwise.
+/// Which way round a polygon's edges are directed: what it bounds lies left of counterclockwise ones.
 #[derive(Clone, Copy, Debug, PartialEq, Eq)]
 pub enum Orientation {
     Counterclockwise,

@@ -37,7 +37,7 @@ pub record Spot : Type 0 where
 abbrev pub spot_at : Point → Point → Fraction → Spot
 spot_at p d t = record { x = p.x *ℤ t.den +ℤ t.num *ℤ d.x; y = p.y *ℤ t.den +ℤ t.num *ℤ d.y; w = t.den }
 
--- the stretch from m/v or n/w to the other shares a number with the one from low to high
+-- the interval from m/v or n/w to the other shares a number with the one from low to high
 abbrev pub spots_overlap : ℤ → ℤ → ℤ → ℤ → ℤ → ℤ → Bool
 spots_overlap m v n w low high =
     (int_le (low *ℤ v) m || int_le (low *ℤ w) n) && (int_le m (high *ℤ v) || int_le n (high *ℤ w))

@@ -24,7 +24,7 @@ pub stripped : (line : List ℕ) (found : Option (Bor (List ℕ))) (whole : Bor 
 stripped line None whole h same = same ∙ sym (no_return line h)
 stripped line (Some front) whole h same = sym (ap without_return h ∙ return_dropped front.now)
 
--- ---- what is shown is a front of the line
+-- ---- what is shown is a prefix of the line
 
 one_front : (t : Bool) (b : ℕ) → take (length (cond t [] (b ∷ []))) (b ∷ []) ≡ cond t [] (b ∷ [])
 one_front true b = refl

@@ -1,6 +1,6 @@
 use Rattle.std.proofs.Common.{arith}
 use Rattle.std.proofs.lemmas.Grind.{common_steps}
-use Rattle.dm_io.proofs.Told.{appended_to-more}
+use Rattle.dm_io.proofs.Known.{appended_to-more}
 use Rattle.dm_io.proofs.read_write_all.put_all.Goals as goal
 
 pub loop-done-preserved : goal.loop-done-preserved

@@ -1,6 +1,6 @@
 use Rattle.std.proofs.Common.{◌++◌, take, arith}
 use Rattle.std.proofs.lemmas.Grind.{common_steps}
-use Rattle.dm_io.proofs.Told.{prepended_to-more}
+use Rattle.dm_io.proofs.Known.{prepended_to-more}
 use Rattle.dm_io.proofs.read_write_all.read_all.Goals as goal
 
 pub returns-then-is_err-clause-no_memory : goal.returns-then-is_err-clause-no_memory

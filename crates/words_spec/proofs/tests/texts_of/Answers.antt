@@ -12,7 +12,7 @@ returns-in-Ok-clause-texts c =
     ap Some c.texts_in.ensures.texts
     ∙ matches_are_given app words (rows_of (found_of c.in-Ok.matches)) is (c.in-Ok.ensures.kinds (is_free_command app is)) (c.in-Ok.ensures.matches (is_simple_command app is)).0
 
--- an error that isn't want of memory is one of words that aren't taken
+-- an error that isn't out of memory is one of words that aren't taken
 pub returns-in-Err-2-clause-texts : goal.returns-in-Err-2-clause-texts
 returns-in-Err-2-clause-texts c =
     let is = c.in_ok-five_options.ensures.app in

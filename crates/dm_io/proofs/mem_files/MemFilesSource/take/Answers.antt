@@ -1,7 +1,7 @@
 use Rattle.std.proofs.Common.{◌≡◌, ap, Some, drop, take, ℕ, List, arith}
 use Rattle.std.proofs.lemmas.Grind.{common_steps}
 use Rattle.dm_io.specs.Contents.{opened_content}
-use Rattle.dm_io.proofs.Told.{moved}
+use Rattle.dm_io.proofs.Known.{moved}
 use Rattle.dm_io.proofs.mem_files.MemFilesSource.take.Goals as goal
 
 pub returns-clause-bytes : goal.returns-clause-bytes

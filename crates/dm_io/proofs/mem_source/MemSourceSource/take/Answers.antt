@@ -1,6 +1,6 @@
 use Rattle.std.proofs.Common.{◌≡◌, ap, Some, drop, take, ℕ, List, arith}
 use Rattle.std.proofs.lemmas.Grind.{common_steps}
-use Rattle.dm_io.proofs.Told.{moved}
+use Rattle.dm_io.proofs.Known.{moved}
 use Rattle.dm_io.proofs.mem_source.MemSourceSource.take.Goals as goal
 
 pub returns-clause-bytes : goal.returns-clause-bytes

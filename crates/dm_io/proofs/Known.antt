@@ -1,4 +1,4 @@
--- Fronts and ends of bytes that are told.
+-- Beginnings and ends of bytes that are known.
 use Rattle.std.proofs.Common.{◌≡◌, ◌+◌, ℕ, List, [], ◌++◌, take, drop, Option, Some, None, refl, sym, ap, ◌∙◌, append_assoc, append-nil}
 use Rattle.std.proofs.Math.Seq.{take-add}
 use Rattle.std.proofs.lemmas.List.{take-append-drop, drop-drop}
@@ -22,6 +22,6 @@ pub prepended_to-nothing : (new : Option (List ℕ)) → new ≡ prepended_to []
 prepended_to-nothing None = refl
 prepended_to-nothing (Some rest) = refl
 
--- what was copied to the front of a buffer is no longer left
+-- what was copied to the beginning of a buffer is no longer left
 pub moved : (bytes into : List ℕ) (at n : ℕ) → take n into ≡ take n (drop at bytes) → drop at bytes ≡ take n into ++ drop (at + n) bytes
 moved bytes into at n same = rw (same, ← drop-drop n at bytes) (sym (take-append-drop n (drop at bytes)))
