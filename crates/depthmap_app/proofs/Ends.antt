@@ -6,7 +6,7 @@ use Rattle.report_spec.specs.declared.reason.Reason.{Reason}
 use Rattle.report_spec.specs.PlanFile.{PlanFound, plan_in_file}
 use Rattle.depthmap_app.specs.Outputs.{HoldsPlan, IsAnswered, IsAnsweredInPart, IsRefused, WritesAtMost, output_of}
 use Rattle.depthmap_app.specs.Statuses.{Counts, Faults, IsComplete, SaysWhy, TakesPlan, TakesTooMany, Writes}
-use Rattle.depthmap_app.specs.declared.plan_file.TheConstants.{MAX_PLAN_BYTES}
+use Rattle.grammar_spec.specs.declared.limits.TheConstants.{MAX_PLAN_BYTES}
 use Rattle.depthmap_app.specs.declared.status.Status.{Status}
 use Rattle.depthmap_app.specs.declared.status.Status.TheVariants.{Done, DoneWithRefusals, BadWords, BadPlan, ReadFault, WriteFault, NoMemory, TooLong}
 

@@ -7,7 +7,7 @@ use Rattle.report_spec.specs.declared.reason.Reason.{Reason}
 use Rattle.report_spec.specs.PlanFile.{PlanFound, plan_in_file}
 use Rattle.report_spec.specs.Records.{records_bytes}
 use Rattle.report_spec.specs.Tables.{edges_table_of}
-use Rattle.depthmap_app.specs.declared.plan_file.TheConstants.{MAX_PLAN_BYTES}
+use Rattle.grammar_spec.specs.declared.limits.TheConstants.{MAX_PLAN_BYTES}
 
 -- ---- the bytes of a plan file
 

@@ -6,7 +6,7 @@ use Rattle.report_spec.specs.PlanFile.{plan_in_file}
 use Rattle.dm_io.specs.Streams.{IsPrefix, IsIfKnown, WritesPrefix, TakesAtMost, appended_to}
 use Rattle.plan_spec.specs.Plan.{Plan}
 use Rattle.depthmap_app.specs.Outputs.{HoldsPlan, IsAnswered, IsAnsweredInPart, IsRefused, WritesAtMost}
-use Rattle.depthmap_app.specs.declared.plan_file.TheConstants.{MAX_PLAN_BYTES}
+use Rattle.grammar_spec.specs.declared.limits.TheConstants.{MAX_PLAN_BYTES}
 use Rattle.depthmap_app.specs.declared.status.Status.{Status}
 use Rattle.depthmap_app.specs.declared.status.Status.TheVariants.{Done, DoneWithRefusals, BadWords, BadPlan, ReadFault, WriteFault, NoMemory, TooLong}
 

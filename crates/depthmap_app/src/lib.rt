@@ -5,7 +5,6 @@
 //! |---|---|
 //! | [`run`] | does all that the program does |
 //! | [`Status`] | how a run ended, with the number that the program ends with |
-//! | [`MAX_PLAN_BYTES`] | how many bytes a plan file may have |
 //! | [`start`], [`exit`], [`NO_WORDS`] | what a program's `main` does: [`run`] over the system's own files and streams |
 //!
 //! Data goes one way: words and bytes, plan, grid points and scene, edges, records (`edges`), bytes. The definitions that
@@ -24,7 +23,6 @@ mod status;
 mod words;
 
 pub use host::{NO_WORDS, exit, start};
-pub use plan_file::MAX_PLAN_BYTES;
 pub use program::run;
 pub use status::Status;
 

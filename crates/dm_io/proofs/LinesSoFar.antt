@@ -2,9 +2,9 @@
 use Rattle.std.proofs.Common.{◌≡◌, ◌⊎◌, inl, inr, ◌<◌, ◌≤◌, ◌+◌, ◌-◌, ◌^◌, ℕ, min, true, false, List, [], ◌∷◌, ◌++◌, length, length-append, Option, refl, ap, sym, subst, ◌∙◌, append_assoc, append-nil, arith}
 use Rattle.std.specs.List.{slice_split}
 use Rattle.std.proofs.lemmas.Bool.{cases_Bool, false≢true}
-use Rattle.text_spec.specs.Lines.{is_newline, lines_of}
+use Rattle.text_spec.specs.Lines.{is_newline, lines_of, whole_lines_of, without_last}
 use Rattle.dm_io.specs.Lines.{has_newline}
-use Rattle.dm_io.specs.LinesRead.{AreLines, HasRead, whole_lines_of, without_last}
+use Rattle.dm_io.specs.LinesRead.{AreLines, HasRead}
 use Rattle.dm_io.specs.Reader.{Cut, Last, LineRead, NothingAhead, Stopped, ahead, bytes_read, lines_read, saw_end, waiting}
 use Rattle.dm_io.specs.Streams.{IsPrefix, IsIfKnown, prepended_to}
 use Rattle.dm_io.specs.declared.line_reader.LineReader.{LineReader}

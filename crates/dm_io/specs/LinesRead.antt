@@ -1,20 +1,9 @@
 -- What a reader of lines has read so far: these bytes of the source, as these lines.
 use Rattle.std.specs.Prelude.{◌≡◌, ◌≤◌, ℕ, List, [], ◌∷◌, ◌++◌, true, false, length, Option}
-use Rattle.std.specs.List.{slice_split}
-use Rattle.text_spec.specs.Lines.{is_newline, lines_of}
+use Rattle.text_spec.specs.Lines.{lines_of, whole_lines_of}
 use Rattle.dm_io.specs.Reader.{ahead, bytes_read, lines_read, saw_end, waiting}
 use Rattle.dm_io.specs.Streams.{IsPrefix, IsIfKnown}
 use Rattle.dm_io.specs.declared.line_reader.LineReader.{LineReader}
-
--- the parts but for the last
-unfoldable pub without_last : List (List ℕ) → List (List ℕ)
-without_last [] = []
-without_last (part ∷ []) = []
-without_last (part ∷ next ∷ parts) = part ∷ without_last (next ∷ parts)
-
--- the lines whose newline is among the bytes, each as it stands before its newline
-abbrev pub whole_lines_of : List ℕ → List (List ℕ)
-whole_lines_of bytes = without_last (slice_split is_newline bytes)
 
 -- the bytes are these lines, each with its newline: whatever follows, they come first among its lines and its whole lines
 pub record AreLines (bytes : List ℕ) (lines : List (List ℕ)) : Type 0 where

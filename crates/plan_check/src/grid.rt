@@ -7,10 +7,10 @@ ghost use Rattle.plan_spec.specs.declared.limits.TheConstants.{MAX_STEP};
 ghost use Rattle.plan_spec.specs.Accepted as accepted;
 
 use plan_spec::{GridSpec, MAX_GRID_POINTS, MAX_STEP};
+use plane_spec::MAX_COORDINATE;
 
-const LEAST_COORDINATE: i128 = -100_000;
-
-const MOST_COORDINATE: i128 = 100_000;
+/// Coordinates of a grid are computed, and may pass 64 bits before they are tested.
+const LARGEST: i128 = MAX_COORDINATE as i128;
 
 /// The product, which always fits twice as many bits.
 fn product(a: i64, b: i64) -> i128
@@ -47,7 +47,7 @@ fn last_coordinate(first: i64, step: i64, count: i64) -> i128
 fn is_coordinate(z: i128) -> bool
     ensures { result ≡ vectors.is_coordinate z }
 {
-    LEAST_COORDINATE <= z && z <= MOST_COORDINATE
+    -LARGEST <= z && z <= LARGEST
 }
 
 /// Whether the first and the last of `count` coordinates are in range.

@@ -63,7 +63,7 @@ pub(crate) fn why_not_polygon_in(draft: &Draft, points: &[Point]) -> Option<Why>
 // ---- a screen
 
 /// The first obstacle that meets the line.
-fn obstacle_met_by_line(draft: &Draft, from: Point, to: Point) -> Option<Why>
+fn obstacle_met_by_segment(draft: &Draft, from: Point, to: Point) -> Option<Why>
     requires sound { IsTrue (is_sound draft.now) }
     requires from_in { InRange from }
     requires to_in { InRange to }
@@ -78,7 +78,7 @@ fn obstacle_met_by_line(draft: &Draft, from: Point, to: Point) -> Option<Why>
 }
 
 /// The first screen that touches the line.
-fn screen_met_by_line(draft: &Draft, from: Point, to: Point) -> Option<Why>
+fn screen_met_by_segment(draft: &Draft, from: Point, to: Point) -> Option<Why>
     requires sound { IsTrue (is_sound draft.now) }
     requires from_in { InRange from }
     requires to_in { InRange to }
@@ -94,20 +94,20 @@ fn screen_met_by_line(draft: &Draft, from: Point, to: Point) -> Option<Why>
 }
 
 /// What a screen is refused for where it stands.
-#[tactic(auto, unfolding(plan_spec::specs::Refusals::why_not_line_in))]
-pub(crate) fn why_not_line_in(draft: &Draft, from: Point, to: Point) -> Option<Why>
+#[tactic(auto, unfolding(plan_spec::specs::Refusals::why_not_segment_in))]
+pub(crate) fn why_not_segment_in(draft: &Draft, from: Point, to: Point) -> Option<Why>
     requires sound { IsTrue (is_sound draft.now) }
     requires from_in { InRange from }
     requires to_in { InRange to }
-    ensures { result ≡ refusals.why_not_line_in draft.now from to }
+    ensures { result ≡ refusals.why_not_segment_in draft.now from to }
 {
     if !segment_lies_within(draft.outer(), from, to) {
         return Some(Why::Outside);
     }
-    if let Some(why) = obstacle_met_by_line(draft, from, to) {
+    if let Some(why) = obstacle_met_by_segment(draft, from, to) {
         return Some(why);
     }
-    screen_met_by_line(draft, from, to)
+    screen_met_by_segment(draft, from, to)
 }
 
 // ---- a route

@@ -6,7 +6,7 @@ ghost use Rattle.plan_check.specs.Kept.{IsDraft};
 
 use crate::draft::Draft;
 use crate::grid::{is_grid_in_range, is_grid_small};
-use crate::place_refusals::{route_overlapped, why_not_line_in, why_not_polygon_in};
+use crate::place_refusals::{route_overlapped, why_not_segment_in, why_not_polygon_in};
 use crate::shape_refusals::{why_not_segment, why_not_polygon};
 use plan_spec::{GridSpec, Item, Limit, MAX_CORNERS, MAX_OBSTACLES, MAX_ROUTES, MAX_SCREENS, Why};
 use plane_spec::Point;
@@ -86,7 +86,7 @@ pub(crate) fn why_not_screen(draft: &Draft, name: &Name, from: Point, to: Point)
     if let Some(why) = why_not_segment(from, to) {
         return Some(why);
     }
-    if let Some(why) = why_not_line_in(draft, from, to) {
+    if let Some(why) = why_not_segment_in(draft, from, to) {
         return Some(why);
     }
     if draft.has_screen(name) {

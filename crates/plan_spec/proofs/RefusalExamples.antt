@@ -8,7 +8,7 @@ use Rattle.plan_spec.specs.declared.why.Why.TheVariants.{Order, Count, Range, Re
 use Rattle.plan_spec.specs.declared.why.Limit.TheVariants.{Points as GridPoints}
 use Rattle.plan_spec.specs.Plan.{Plan, obstacle, screen, route, with_screens, with_routes, with_item, with_items}
 use Rattle.plan_spec.specs.Accepted.{lies_within, polygons_meet, segment_lies_within, segment_meets_polygon, do_segments_overlap, is_grid_in_range, are_obstacles_sound, are_screens_sound, are_routes_sound, is_within_limits, is_sound, are_in_order, is_accepted}
-use Rattle.plan_spec.specs.Refusals.{why_not_polygon, why_not_segment, why_not_polygon_in, why_not_line_in, why_not_outer, why_not_grid, why_not_obstacle, why_not_screen, why_not_route, check_from, check_of}
+use Rattle.plan_spec.specs.Refusals.{why_not_polygon, why_not_segment, why_not_polygon_in, why_not_segment_in, why_not_outer, why_not_grid, why_not_obstacle, why_not_screen, why_not_route, check_from, check_of}
 use Rattle.plan_spec.specs.Edits.{why_not_moved, why_not_edit, plan_after_edit}
 use Rattle.plan_spec.proofs.Figures.{at, box, room, room_with, room_with_two, grid}
 
@@ -90,23 +90,23 @@ abbrev screened : Plan
 screened = with_screens (room_with (obstacle (codes "A") (box 4 4 6 6))) (screen (codes "S") (at 1 1) (at 1 9) ∷ [])
 
 a_screen_from_the_outer_wall_is_outside : why_not_edit screened (AddScreen (codes "T") (at 0 5) (at 2 5)) ≡ Some Outside
-unfolding why_not_edit why_not_screen why_not_segment why_not_line_in segment_lies_within segment_meets_polygon edges_to is_inside passes_right do_touch cross_properly is_on_segment
+unfolding why_not_edit why_not_screen why_not_segment why_not_segment_in segment_lies_within segment_meets_polygon edges_to is_inside passes_right do_touch cross_properly is_on_segment
 a_screen_from_the_outer_wall_is_outside = refl
 
 a_screen_into_a_box_touches_it : why_not_edit screened (AddScreen (codes "T") (at 3 5) (at 5 5)) ≡ Some (Touch (codes "A"))
-unfolding why_not_edit why_not_screen why_not_segment why_not_line_in segment_lies_within segment_meets_polygon edges_to is_inside passes_right do_touch cross_properly is_on_segment
+unfolding why_not_edit why_not_screen why_not_segment why_not_segment_in segment_lies_within segment_meets_polygon edges_to is_inside passes_right do_touch cross_properly is_on_segment
 a_screen_into_a_box_touches_it = refl
 
 a_screen_that_ends_on_another_touches_it : why_not_edit screened (AddScreen (codes "T") (at 1 5) (at 3 5)) ≡ Some (TouchesScreen (codes "S"))
-unfolding why_not_edit why_not_screen why_not_segment why_not_line_in segment_lies_within segment_meets_polygon edges_to is_inside passes_right do_touch cross_properly is_on_segment
+unfolding why_not_edit why_not_screen why_not_segment why_not_segment_in segment_lies_within segment_meets_polygon edges_to is_inside passes_right do_touch cross_properly is_on_segment
 a_screen_that_ends_on_another_touches_it = refl
 
 a_screen_of_a_name_in_use_is_taken : why_not_edit screened (AddScreen (codes "S") (at 2 2) (at 2 8)) ≡ Some NameTaken
-unfolding why_not_edit why_not_screen why_not_segment why_not_line_in segment_lies_within segment_meets_polygon edges_to is_inside passes_right do_touch cross_properly is_on_segment
+unfolding why_not_edit why_not_screen why_not_segment why_not_segment_in segment_lies_within segment_meets_polygon edges_to is_inside passes_right do_touch cross_properly is_on_segment
 a_screen_of_a_name_in_use_is_taken = refl
 
 a_screen_of_one_point_repeats_it : why_not_edit screened (AddScreen (codes "T") (at 3 3) (at 3 3)) ≡ Some Repeat
-unfolding why_not_edit why_not_screen why_not_segment why_not_line_in
+unfolding why_not_edit why_not_screen why_not_segment why_not_segment_in
 a_screen_of_one_point_repeats_it = refl
 
 a_screen_that_is_not_there_is_missing : why_not_edit screened (RemoveScreen (codes "Z")) ≡ Some Missing

@@ -97,7 +97,7 @@ are_obstacles_sound plan =
 abbrev pub screens_apart : Screen → Screen → Bool
 screens_apart s t = not (do_touch s.from s.to t.from t.to) && not (bytes_eq s.name t.name)
 
--- lines within the outer polygon that meet no obstacle and no other screen, with different names
+-- segments within the outer polygon that meet no obstacle and no other screen, with different names
 unfoldable pub are_screens_sound : Plan → Bool
 are_screens_sound plan =
     list_all (λ s. is_proper_segment s.from s.to && segment_lies_within plan.outer s.from s.to) plan.screens
@@ -108,7 +108,7 @@ are_screens_sound plan =
 abbrev pub routes_apart : Route → Route → Bool
 routes_apart r q = not (do_segments_overlap r.from r.to q.from q.to) && not (bytes_eq r.name q.name)
 
--- lines of which each two share at most one point, with different names
+-- segments of which each two share at most one point, with different names
 unfoldable pub are_routes_sound : Plan → Bool
 are_routes_sound plan = list_all (λ r. is_proper_segment r.from r.to) plan.routes && each_two routes_apart plan.routes
 

@@ -1,6 +1,7 @@
 -- What the numbers of a plan are within, as premises of what is computed with them.
 use Rattle.std.specs.Prelude.{◌≤◌, ◌≡◌, IfSome, List, length, ℤ, pos, ◌+ℤ◌, ◌-ℤ◌, ◌*ℤ◌, ◌≤ℤ◌, false}
 use Rattle.std.specs.List.{All}
+use Rattle.plane_spec.specs.declared.TheConstants.{MAX_COORDINATE}
 use Rattle.plane_spec.specs.declared.Point.{Point}
 use Rattle.plane_spec.specs.declared.PlanBox.{PlanBox}
 use Rattle.plane_spec.specs.Vectors.{IsWithin, InRange, same_point}
@@ -43,10 +44,10 @@ pub record IsGridInRange (g : GridSpec) : Type 0 where
   pub cols : IsFromTo (pos 1) (pos MAX_GRID_POINTS) g.cols
   pub rows : IsFromTo (pos 1) (pos MAX_GRID_POINTS) g.rows
   pub count : (g.cols *ℤ g.rows) ≤ℤ pos MAX_GRID_POINTS
-  pub first_col : IsWithin (pos 100000) g.x0
-  pub last_col : IsWithin (pos 100000) (g.x0 +ℤ g.step *ℤ (g.cols -ℤ pos 1))
-  pub first_row : IsWithin (pos 100000) g.y0
-  pub last_row : IsWithin (pos 100000) (g.y0 +ℤ g.step *ℤ (g.rows -ℤ pos 1))
+  pub first_col : IsWithin MAX_COORDINATE g.x0
+  pub last_col : IsWithin MAX_COORDINATE (g.x0 +ℤ g.step *ℤ (g.cols -ℤ pos 1))
+  pub first_row : IsWithin MAX_COORDINATE g.y0
+  pub last_row : IsWithin MAX_COORDINATE (g.y0 +ℤ g.step *ℤ (g.rows -ℤ pos 1))
 
 -- no more obstacles, screens, routes and corners than a plan may have
 pub record IsWithinLimits (p : Plan) : Type 0 where

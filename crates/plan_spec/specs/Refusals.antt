@@ -95,8 +95,8 @@ why_not_polygon_in plan points = first_cause (
     ∷ [])
 
 -- what a screen is refused for where it stands: it isn't within the outer polygon, or meets an obstacle or a screen
-unfoldable pub why_not_line_in : Plan → Point → Point → Option Why
-why_not_line_in plan from to = first_cause (
+unfoldable pub why_not_segment_in : Plan → Point → Point → Option Why
+why_not_segment_in plan from to = first_cause (
     when (not (segment_lies_within plan.outer from to)) Outside
     ∷ first_obstacle (obstacles_met_by_segment from to plan.obstacles)
     ∷ first_screen (screens_met_by_segment from to plan.screens)
@@ -136,7 +136,7 @@ unfoldable pub why_not_screen : Plan → List ℕ → Point → Point → Option
 why_not_screen plan name from to = first_cause (
     when (not (has_outer plan)) Order
     ∷ why_not_segment from to
-    ∷ why_not_line_in plan from to
+    ∷ why_not_segment_in plan from to
     ∷ when (list_any (is_screen_named name) plan.screens) NameTaken
     ∷ when (nat_le MAX_SCREENS (length plan.screens)) (Full Screens)
     ∷ when (nat_lt MAX_CORNERS (corner_count plan + 2)) (Full Corners)

@@ -9,6 +9,7 @@ use Rattle.plan_spec.specs.declared.why.Why.{Why}
 use Rattle.plan_spec.specs.declared.why.Why.TheVariants.{Order, Count, Range, Repeat, Cross, Outside, Touch, Screen, NameTaken, Missing, Full, Overlap}
 use Rattle.plan_spec.specs.declared.why.Limit.{Limit}
 use Rattle.plan_spec.specs.declared.why.Limit.TheVariants.{Obstacles, Corners, Screens, Routes, Points as GridPoints}
+use Rattle.plan_spec.specs.declared.limits.TheConstants.{MAX_AXIAL_LINES}
 use Rattle.plan_spec.specs.Plan.{Plan, is_route_named}
 use Rattle.plan_spec.specs.Edits.{why_not_edit, plan_after_edit}
 use Rattle.sight_spec.specs.Scene.{Scene, scene_of}
@@ -82,9 +83,9 @@ refused_record number reason = codes "refused" ∷ decimal number ∷ reason_wor
 abbrev pub Answer : Type 0
 Answer = Result (List (List (List ℕ))) Reason
 
--- more than 16384 axial lines are too many
+-- there are more axial lines than are listed
 abbrev pub has_too_many_lines : Scene → Bool
-has_too_many_lines scene = nat_lt 16384 (length (axial_lines scene))
+has_too_many_lines scene = nat_lt MAX_AXIAL_LINES (length (axial_lines scene))
 
 -- the depths from the grid point at p, of this number: refused where no grid point stands there, or it isn't open
 abbrev pub answer_depth : Plan → Point → Option ℕ → Answer

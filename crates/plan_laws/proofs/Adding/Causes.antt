@@ -13,7 +13,7 @@ use Rattle.plan_spec.specs.declared.item.Route.{Route}
 use Rattle.plan_spec.specs.declared.why.Why.{Why}
 use Rattle.plan_spec.specs.Plan.{Obstacle, Plan, has_outer}
 use Rattle.plan_spec.specs.Accepted.{is_polygon, is_proper_segment, lies_within, polygons_meet, segment_lies_within, segment_meets_polygon, is_sound}
-use Rattle.plan_spec.specs.Refusals.{when, first_cause, first_obstacle, first_screen, first_route, why_not_polygon, why_not_segment, why_not_polygon_in, why_not_line_in}
+use Rattle.plan_spec.specs.Refusals.{when, first_cause, first_obstacle, first_screen, first_route, why_not_polygon, why_not_segment, why_not_polygon_in, why_not_segment_in}
 use Rattle.list_laws.proofs.Conditions.{and_left_comm}
 
 -- ---- tests on numbers
@@ -92,10 +92,10 @@ none_of_polygon_in p points =
     rw none_refuses (simp (none_when, none_of_obstacles, none_of_screens, not-not, and-true))
 
 pub none_of_line_in : (p : Plan) (from to : Point)
-    → is_none (why_not_line_in p from to)
+    → is_none (why_not_segment_in p from to)
     ≡ (segment_lies_within p.outer from to && (not (list_any (λ o. segment_meets_polygon from to o.points) p.obstacles)
     && not (list_any (λ s. do_touch s.from s.to from to) p.screens)))
-unfolding why_not_line_in
+unfolding why_not_segment_in
 none_of_line_in p from to =
     rw none_refuses (simp (none_when, none_of_obstacles, none_of_screens, not-not, and-true))
 

@@ -1,6 +1,6 @@
 use Rattle.std.specs.Prelude.{◌≡◌, drop}
 use Rattle.plan_spec.specs.Refusals.{first_screen, screens_met_by_segment}
-use Rattle.plan_check.proofs.place_refusals.screen_met_by_line.Given as goal
+use Rattle.plan_check.proofs.place_refusals.screen_met_by_segment.Given as goal
 
 abbrev pub invariant-loop-k : goal.invariant-loop-k
 invariant-loop-k l =
