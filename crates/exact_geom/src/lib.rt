@@ -14,7 +14,7 @@
 //! | [`is_zero`], [`is_positive`], [`is_at_least_zero`], [`are_opposite`], [`is_less`] | comparisons |
 //! | [`wide_product`] | a product of two parts of fractions |
 //! | [`orient_laws`] | how three points turn in another order |
-//! | [`on_segment`], [`crosses`], [`touch`] | what lies on a segment, and what two of them share |
+//! | [`on_segment`], [`cross_properly`], [`touch`] | what lies on a segment, and what two of them share |
 //! | [`edge`], [`on_border`], [`inside`] | an edge of a polygon; what lies on its border and inside |
 //! | [`turn_order`], [`turn_order_laws`] | the order of directions counterclockwise from (1,0), and that it is one |
 //! | [`box_of`], [`meets_box`] | the least box round points, and which segments meet a box |
@@ -52,7 +52,7 @@ pub use places::{RPoint, along_is_by_value, place_order_laws, places_are_small};
 pub use plane_spec::{Corner, MAX_COMPONENT, MAX_COORDINATE, PlanBox, Point, Segment};
 pub use polygons::{edge, inside, on_border};
 pub use products::{cross, dot, orient, orient_laws};
-pub use segments::{crosses, on_segment, touch};
+pub use segments::{cross_properly, on_segment, touch};
 pub use text_spec::{Name, NoMemory};
 pub use vectors::{in_range, is_coordinate, turns_left, is_left_of_line, same_point, vector};
 

@@ -30,7 +30,7 @@ pub fn on_segment(x: Point, a: Point, b: Point) -> bool
 /// Whether the segments `ab` and `cd` cross properly: the ends of each lie strictly on different sides of the other.
 ///
 /// Cost: four orientations.
-pub fn crosses(a: Point, b: Point, c: Point, d: Point) -> bool
+pub fn cross_properly(a: Point, b: Point, c: Point, d: Point) -> bool
     requires a_in { InRange a }
     requires b_in { InRange b }
     requires c_in { InRange c }
@@ -51,7 +51,7 @@ pub fn touch(a: Point, b: Point, c: Point, d: Point) -> bool
     requires d_in { InRange d }
     ensures { result ≡ do_touch a b c d }
 {
-    crosses(a, b, c, d)
+    cross_properly(a, b, c, d)
         || on_segment(a, c, d)
         || on_segment(b, c, d)
         || on_segment(c, a, b)

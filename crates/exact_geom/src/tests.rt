@@ -2,7 +2,7 @@
 
 ghost use Rattle.plane_spec.specs.Vectors.{InRange};
 
-use crate::{box_of, cross, crosses, dot, edge, in_range, inside, meets_box, on_border, on_segment, orient, touch, turn_order};
+use crate::{box_of, cross, cross_properly, dot, edge, in_range, inside, meets_box, on_border, on_segment, orient, touch, turn_order};
 use plane_spec::{PlanBox, Point};
 use std::cmp::Ordering;
 use std::process::Abort;
@@ -57,7 +57,7 @@ fn segments(rt: &impl Abort) {
     ];
     for (a, b, c, d, proper, touching) in pairs {
         let (a, b, c, d) = (known(rt, a), known(rt, b), known(rt, c), known(rt, d));
-        assert!(rt; crosses(a, b, c, d) == proper);
+        assert!(rt; cross_properly(a, b, c, d) == proper);
         assert!(rt; touch(a, b, c, d) == touching);
     }
 }

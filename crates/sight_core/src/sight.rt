@@ -13,7 +13,7 @@ ghost use Rattle.plane_spec.specs.Cones.{IsCornerInRange};
 
 use crate::cone::in_cone;
 use crate::scene::Scene;
-use exact_geom::{crosses, is_left_of_line, on_segment, orient, same_point, vector};
+use exact_geom::{cross_properly, is_left_of_line, on_segment, orient, same_point, vector};
 use plane_spec::{Corner, Point, Segment as Wall};
 
 /// Whether `p` lies on the wall, not at its ends.
@@ -72,7 +72,7 @@ fn wall_blocks(p: Point, q: Point, wall: &Wall) -> bool
     requires wall_in { IsSegmentInRange wall.now }
     ensures { result ≡ blocks.wall_blocks p q wall.now }
 {
-    !is_strictly_on_one_side(p, q, wall) && (crosses(wall.a, wall.b, p, q) || starts_or_ends_in_wall(p, q, wall))
+    !is_strictly_on_one_side(p, q, wall) && (cross_properly(wall.a, wall.b, p, q) || starts_or_ends_in_wall(p, q, wall))
 }
 
 /// Whether the corner isn't `to` and has the direction to it in its cone.
@@ -114,7 +114,7 @@ fn any_screen_blocks(screens: &[Wall], p: Point, q: Point) -> bool
 {
     screens
         .iter()
-        .any(|screen| crosses(screen.a, screen.b, p, q))
+        .any(|screen| cross_properly(screen.a, screen.b, p, q))
 }
 
 /// Whether one of the corners is in the way.

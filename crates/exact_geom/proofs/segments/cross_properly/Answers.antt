@@ -1,6 +1,6 @@
 use Rattle.std.proofs.Common.{rules}
 use Rattle.plane_spec.specs.Segments.{cross_properly}
-use Rattle.exact_geom.proofs.segments.crosses.Goals as goal
+use Rattle.exact_geom.proofs.segments.cross_properly.Goals as goal
 
 pub returns-then-are_opposite : goal.returns-then-are_opposite
 unfolding cross_properly
