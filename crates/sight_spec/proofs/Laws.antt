@@ -6,7 +6,8 @@ use Rattle.plane_spec.specs.declared.Point.{Point}
 use Rattle.plane_spec.specs.Lists.{pairs, with_each}
 use Rattle.plan_spec.specs.Plan.{Plan}
 use Rattle.sight_spec.specs.Scene.{Scene, scene_of}
-use Rattle.sight_spec.specs.Isovist.{sum_of, ray_hit, wall_between, sector_in, sectors_by}
+use Rattle.sight_spec.specs.Stops.{ray_hit}
+use Rattle.sight_spec.specs.Isovist.{sum_of, wall_between, sector_in, sectors_by}
 use Rattle.plan_spec.specs.Grid.{grid_points}
 use Rattle.sight_spec.specs.Visibility.{is_visible_pair, numbers_of_pair, visibility_edges}
 

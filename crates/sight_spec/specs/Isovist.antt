@@ -11,7 +11,7 @@ use Rattle.plane_spec.specs.Fractions.{Fraction, RPoint, reduced, floor_of, ceil
 use Rattle.plan_spec.specs.Plan.{Plan}
 use Rattle.sight_spec.specs.Scene.{Scene, scene_of, blockers_of_scene}
 use Rattle.sight_spec.specs.Sight.{is_open}
-use Rattle.sight_spec.specs.Stops.{wall_parameter, stop_of, near_wall_of}
+use Rattle.sight_spec.specs.Stops.{wall_parameter, RayHit, ray_hit}
 
 -- ---- the directions in which corners lie
 
@@ -46,15 +46,6 @@ gaps_of (e ∷ directions) = gaps_to e (e ∷ directions)
 -- the direction in which a gap is looked into, the sum of its two
 abbrev pub sum_of : Point → Point → Point
 sum_of e f = point (e.x +ℤ f.x) (e.y +ℤ f.y)
-
--- what a ray meets: the t at which it is stopped, and the number of the nearest wall or screen
-pub record RayHit : Type 0 where
-  pub stop : Option Fraction
-  pub wall : Option ℕ
-
--- what the ray from p in direction d meets
-abbrev pub ray_hit : Scene → Point → Point → RayHit
-ray_hit scene p d = record { stop = stop_of scene p d; wall = near_wall_of scene p d }
 
 -- the ray goes into what is blocked at p itself
 abbrev pub stops_at_once : Option Fraction → Bool

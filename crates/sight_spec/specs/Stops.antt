@@ -60,3 +60,12 @@ is_nearest p d lines w = is_first (blocker_hit p d w)
 -- the number of the first wall, or screen after them, that is hit nearest, or none
 unfoldable pub near_wall_of : Scene → Point → Point → Option ℕ
 near_wall_of scene p d = position (is_nearest p d (blockers_of_scene scene)) (blockers_of_scene scene)
+
+-- what a ray meets: the t at which it is stopped, and the number of the nearest wall or screen
+pub record RayHit : Type 0 where
+  pub stop : Option Fraction
+  pub wall : Option ℕ
+
+-- what the ray from p in direction d meets
+abbrev pub ray_hit : Scene → Point → Point → RayHit
+ray_hit scene p d = record { stop = stop_of scene p d; wall = near_wall_of scene p d }
