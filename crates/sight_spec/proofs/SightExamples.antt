@@ -10,6 +10,8 @@ use Rattle.sight_spec.specs.Sight.{starts_into_wall, corner_stops, is_blocked, a
 use Rattle.sight_spec.specs.Stops.{blocker_hit, corner_hit, start_hit, stop_of, near_wall_of}
 use Rattle.plan_spec.specs.Grid.{grid_points}
 use Rattle.sight_spec.specs.Visibility.{visibility_edges}
+use Rattle.sight_spec.specs.declared.target.Target.TheVariants.{Point as ToPoint, Ray as AlongRay}
+use Rattle.sight_spec.specs.Sweep.{Seen, Reach, answers_to}
 use Rattle.plan_spec.proofs.Figures.{at, box, room, room_with, room_with_two, grid, with_this_grid, middle}
 
 -- ---- a box whose corner lies on the way: past it is free, into it isn't
@@ -99,6 +101,14 @@ the_nearest_wall_is_that_of_the_box = refl
 screens_are_numbered_after_walls : near_wall_of (scene_of screened) (at 0 5) (at 1 0) ≡ Some 4
 unfolding near_wall_of blocker_hit oriented_walls is_counterclockwise edges_to
 screens_are_numbered_after_walls = refl
+
+-- ---- targets of one station
+
+what_is_asked_is_answered_in_order :
+    answers_to (scene_of (room_with middle)) (at 0 5) (ToPoint (at 4 5) ∷ AlongRay (at 2 0) ∷ ToPoint (at 6 5) ∷ [])
+    ≡ Seen true ∷ Reach (record { stop = Some (whole (pos 2)); wall = Some 7 }) ∷ Seen false ∷ []
+unfolding are_in_sight is_blocked starts_into_wall corner_stops stop_of near_wall_of blocker_hit corner_hit start_hit is_in_cone oriented_walls oriented_corners is_counterclockwise edges_to is_on_segment cross_properly reduced common_divisor
+what_is_asked_is_answered_in_order = refl
 
 -- ---- edges
 
