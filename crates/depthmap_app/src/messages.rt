@@ -9,9 +9,9 @@ ghost use Rattle.depthmap_app.specs.Statuses.{IsSaid, IsSilent, message_of};
 
 use crate::status::Status;
 use dm_io::{PutFailed, Sink, put_all};
+use grammar_spec::TextWhy;
 use itoa::Buffer;
 use plan_spec::{Limit, Why};
-use grammar_spec::TextWhy;
 use report_spec::Reason;
 
 /// How the command is used.

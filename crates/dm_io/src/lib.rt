@@ -23,12 +23,12 @@ mod lines;
 mod mem_files;
 mod mem_sink;
 mod mem_source;
+mod output_buffer;
 mod read_write_all;
 mod streams;
 mod system;
 #[cfg(test)]
 mod tests;
-mod output_buffer;
 
 pub use gate::{Gate, NoGate};
 pub use line_reader::LineReader;
@@ -36,8 +36,8 @@ pub use lines::Next;
 pub use mem_files::MemFiles;
 pub use mem_sink::MemSink;
 pub use mem_source::MemSource;
+pub use output_buffer::OutputBuffer;
 pub use read_write_all::{AllFault, PutFailed, put_all, read_all};
 pub use streams::{Files, OpenFailed, Put, Sink, Source, Take};
 pub use system::{DirFiles, StdSink, StdSource};
 pub use text_spec::NoMemory;
-pub use output_buffer::OutputBuffer;

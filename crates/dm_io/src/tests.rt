@@ -2,7 +2,10 @@
 
 ghost use Rattle.std.specs.Prelude.{ℕ, List, IsTrue};
 
-use crate::{AllFault, DirFiles, Files, LineReader, MemFiles, MemSink, MemSource, Next, Put, PutFailed, Sink, Source, StdSink, StdSource, Take, OutputBuffer, put_all, read_all};
+use crate::{
+    AllFault, DirFiles, Files, LineReader, MemFiles, MemSink, MemSource, Next, OutputBuffer, Put,
+    PutFailed, Sink, Source, StdSink, StdSource, Take, put_all, read_all,
+};
 use std::alloc::{AllocError, Global};
 use std::fs;
 use std::test::Fail;

@@ -47,14 +47,17 @@ pub use compare::{are_opposite, is_at_least_zero, is_less, is_positive, is_zero}
 pub use directions::{turn_order, turn_order_laws};
 pub use extents::{extent_meets_box, on_extent};
 pub use fractions::{Frac, lowest_terms};
-pub use limits::{MAX_COORDINATE_PART, MAX_CROSS, MAX_DIFFERENCE, MAX_FRACTION_PART, MAX_ORIENTATION, MAX_PRODUCT, MAX_STOP_PART};
+pub use limits::{
+    MAX_COORDINATE_PART, MAX_CROSS, MAX_DIFFERENCE, MAX_FRACTION_PART, MAX_ORIENTATION,
+    MAX_PRODUCT, MAX_STOP_PART,
+};
 pub use places::{RPoint, along_is_by_value, place_order_laws, places_are_small};
 pub use plane_spec::{Corner, MAX_COMPONENT, MAX_COORDINATE, PlanBox, Point, Segment};
 pub use polygons::{edge, inside, on_border};
 pub use products::{cross, dot, orient, orient_laws};
 pub use segments::{cross_properly, on_segment, touch};
 pub use text_spec::{Name, NoMemory};
-pub use vectors::{in_range, is_coordinate, turns_left, is_left_of_line, same_point, vector};
+pub use vectors::{in_range, is_coordinate, is_left_of_line, same_point, turns_left, vector};
 
 fn is_shared<T: Send + Sync>() {}
 

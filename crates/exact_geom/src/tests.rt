@@ -2,7 +2,10 @@
 
 ghost use Rattle.plane_spec.specs.Vectors.{InRange};
 
-use crate::{box_of, cross, cross_properly, dot, edge, in_range, inside, meets_box, on_border, on_segment, orient, touch, turn_order};
+use crate::{
+    box_of, cross, cross_properly, dot, edge, in_range, inside, meets_box, on_border, on_segment,
+    orient, touch, turn_order,
+};
 use plane_spec::{PlanBox, Point};
 use std::cmp::Ordering;
 use std::process::Abort;

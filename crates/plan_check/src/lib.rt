@@ -30,7 +30,10 @@ mod shifts;
 pub use checking::{CheckFault, check};
 pub use editing::EditFault;
 pub use plan::Plan;
-pub use plan_spec::{Changed, Edit, GridSpec, Item, Items, Limit, MAX_CORNERS, MAX_GRID_POINTS, MAX_OBSTACLES, MAX_ROUTES, MAX_SCREENS, MAX_SHIFT, MAX_STEP, PlanData, Points, Route, Screen, Why};
+pub use plan_spec::{
+    Changed, Edit, GridSpec, Item, Items, Limit, MAX_CORNERS, MAX_GRID_POINTS, MAX_OBSTACLES,
+    MAX_ROUTES, MAX_SCREENS, MAX_SHIFT, MAX_STEP, PlanData, Points, Route, Screen, Why,
+};
 pub use plane_spec::{PlanBox, Point};
 pub use sharing::types_are_shared;
 pub use text_spec::{Name, NoMemory};

@@ -7,7 +7,7 @@ ghost use Rattle.plan_spec.specs.Refusals as refusals;
 
 use crate::draft::Draft;
 use crate::polygons::{
-    lies_within, segment_lies_within, segment_meets_polygon, lines_overlap, polygons_meet,
+    lies_within, lines_overlap, polygons_meet, segment_lies_within, segment_meets_polygon,
 };
 use exact_geom::touch;
 use plan_spec::Why;

@@ -6,8 +6,8 @@ ghost use Rattle.plan_check.specs.Kept.{IsDraft};
 
 use crate::draft::Draft;
 use crate::grid::{is_grid_in_range, is_grid_small};
-use crate::place_refusals::{route_overlapped, why_not_segment_in, why_not_polygon_in};
-use crate::shape_refusals::{why_not_segment, why_not_polygon};
+use crate::place_refusals::{route_overlapped, why_not_polygon_in, why_not_segment_in};
+use crate::shape_refusals::{why_not_polygon, why_not_segment};
 use plan_spec::{GridSpec, Item, Limit, MAX_CORNERS, MAX_OBSTACLES, MAX_ROUTES, MAX_SCREENS, Why};
 use plane_spec::Point;
 use text_spec::Name;

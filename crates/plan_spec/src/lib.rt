@@ -22,6 +22,9 @@ mod why;
 
 pub use edit::{Changed, Edit};
 pub use item::{GridSpec, Item, PlanData, Route, Screen};
-pub use limits::{MAX_AXIAL_LINES, MAX_CORNERS, MAX_GRID_POINTS, MAX_OBSTACLES, MAX_ROUTES, MAX_SCREENS, MAX_SHIFT, MAX_STEP};
+pub use limits::{
+    MAX_AXIAL_LINES, MAX_CORNERS, MAX_GRID_POINTS, MAX_OBSTACLES, MAX_ROUTES, MAX_SCREENS,
+    MAX_SHIFT, MAX_STEP,
+};
 pub use lists::{Items, Points};
 pub use why::{Limit, Why};

@@ -10,9 +10,9 @@ ghost use Rattle.plan_text.specs.Answers.{Answers};
 use crate::faults::ReadLineFault;
 use crate::fields::{grid_spec, name_and_numbers, numbers_alone, one_point, two_points};
 use crate::polygons::points;
+use grammar_spec::{Count, TextWhy};
 use plan_spec::{GridSpec, Points};
 use plane_spec::Point;
-use grammar_spec::{Count, TextWhy};
 use std::alloc::Global;
 use text_spec::Name;
 

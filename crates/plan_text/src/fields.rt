@@ -7,9 +7,9 @@ ghost use Rattle.grammar_spec.specs.PlanText.{grid_of};
 
 use crate::numbers::number;
 use crate::words::{count_words, next_word};
+use grammar_spec::{Count, TextWhy};
 use plan_spec::GridSpec;
 use plane_spec::Point;
-use grammar_spec::{Count, TextWhy};
 use text_spec::Name;
 
 /// Whether the number of words fits.

@@ -31,11 +31,11 @@ mod script_lines;
 mod words;
 
 pub use faults::{ReadLineFault, ReadPlanFault};
+pub use grammar_spec::{Line, LineNumbers, MAX_PLAN_BYTES, Query, TextWhy};
 pub use plan_spec::{Edit, GridSpec, Item, Items, PlanData, Points};
 pub use plane_spec::Point;
 pub use plans::{PlanText, read_plan};
 pub use printing::{accepted_plans_are_printable, print_plan, prints_and_reads};
-pub use grammar_spec::{MAX_PLAN_BYTES, Line, LineNumbers, Query, TextWhy};
 pub use script_lines::{read_line, shown_lines_are_read};
 pub use text_spec::{Name, NoMemory};
 

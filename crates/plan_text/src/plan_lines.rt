@@ -10,8 +10,8 @@ use crate::arguments::{corners, grid, named_corners, named_polygon, polygon};
 use crate::faults::ReadLineFault;
 use crate::polygons::box_points;
 use crate::words::{begins_comment, is_long, is_word, next_word};
-use plan_spec::Item;
 use grammar_spec::{PlanLine, PlanWord, TextWhy, Version};
+use plan_spec::Item;
 use std::alloc::Global;
 use text_spec::without_return;
 

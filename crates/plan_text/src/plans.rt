@@ -9,8 +9,8 @@ ghost use Rattle.plan_text.specs.Readings.{ReadsPlan};
 use crate::faults::{ReadLineFault, ReadPlanFault};
 use crate::plan_lines::read_plan_line;
 use crate::words::next_line;
-use plan_spec::{Items, PlanData};
 use grammar_spec::{LineNumbers, PlanLine, TextWhy, Version};
+use plan_spec::{Items, PlanData};
 use std::alloc::Global;
 use text_spec::NoMemory;
 

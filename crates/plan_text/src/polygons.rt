@@ -10,9 +10,9 @@ use crate::faults::ReadLineFault;
 use crate::fields::next_point;
 use crate::numbers::number;
 use crate::words::next_word;
+use grammar_spec::{Count, TextWhy};
 use plan_spec::Points;
 use plane_spec::Point;
-use grammar_spec::{Count, TextWhy};
 use std::alloc::Global;
 use text_spec::NoMemory;
 

@@ -12,8 +12,8 @@ use crate::arguments::{named, named_corners, named_place, named_polygon, place};
 use crate::faults::ReadLineFault;
 use crate::polygons::box_points;
 use crate::words::{begins_comment, is_long, is_word, next_word};
-use plan_spec::Edit;
 use grammar_spec::{Line, Query, ScriptWord, TextWhy};
+use plan_spec::Edit;
 use std::alloc::Global;
 
 /// The kind of line that a word begins.

@@ -4,7 +4,7 @@ ghost use Rattle.std.specs.Prelude.{◌≡◌};
 ghost use Rattle.plane_spec.specs.Vectors.{IsDirection};
 ghost use Rattle.plane_spec.specs.Cones.{IsCornerInRange, is_in_cone};
 
-use exact_geom::{turns_left, is_left_of_line, vector};
+use exact_geom::{is_left_of_line, turns_left, vector};
 use plane_spec::{Corner, Point};
 
 /// Whether `d` leads from the corner into what is blocked: strictly left of both of its walls where the corner turns

@@ -13,7 +13,10 @@ ghost use Rattle.plane_spec.specs.Cones.{IsCornerInRange};
 
 use crate::cone::in_cone;
 use crate::sight::is_in_interior;
-use exact_geom::{Frac, are_opposite, cross, dot, is_at_least_zero, turns_left, is_less, is_zero, vector, wide_product};
+use exact_geom::{
+    Frac, are_opposite, cross, dot, is_at_least_zero, is_less, is_zero, turns_left, vector,
+    wide_product,
+};
 use plane_spec::{Corner, Point, Segment as Wall};
 use std::marker::Model;
 
@@ -175,7 +178,10 @@ pub fn wall_parameter(p: Point, d: Point, wall: &Wall) -> Hit
     requires turned { cross_of d (vectors.vector wall.now.a wall.now.b) ≢ pos 0 }
     ensures { result ≡ stops.wall_parameter p d wall.now }
 {
-    Hit::new(wall_parameter_numerator(p, wall), wall_parameter_denominator(p, d, wall))
+    Hit::new(
+        wall_parameter_numerator(p, wall),
+        wall_parameter_denominator(p, d, wall),
+    )
 }
 
 /// Where the ray meets the wall or screen between its ends, if it does so after its beginning.

@@ -41,7 +41,7 @@ mod stops;
 mod tests;
 
 pub use cone::in_cone;
-pub use hits::{Hit, corner_hit, blocker_hit, wall_parameter, nearer, start_hit};
+pub use hits::{Hit, blocker_hit, corner_hit, nearer, start_hit, wall_parameter};
 pub use openness::is_open;
 pub use plane_spec::{Corner, Segment as Wall};
 pub use scene::{Scene, scene_of, types_are_shared};

@@ -72,7 +72,8 @@ fn wall_blocks(p: Point, q: Point, wall: &Wall) -> bool
     requires wall_in { IsSegmentInRange wall.now }
     ensures { result ≡ blocks.wall_blocks p q wall.now }
 {
-    !is_strictly_on_one_side(p, q, wall) && (cross_properly(wall.a, wall.b, p, q) || starts_or_ends_in_wall(p, q, wall))
+    !is_strictly_on_one_side(p, q, wall)
+        && (cross_properly(wall.a, wall.b, p, q) || starts_or_ends_in_wall(p, q, wall))
 }
 
 /// Whether the corner isn't `to` and has the direction to it in its cone.

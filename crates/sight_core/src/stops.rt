@@ -15,7 +15,7 @@ ghost use Rattle.sight_core.specs.Scenes.{IsOfSoundPlan};
 ghost use Rattle.plane_spec.specs.Segments.{IsSegmentInRange};
 ghost use Rattle.plane_spec.specs.Cones.{IsCornerInRange};
 
-use crate::hits::{Hit, corner_hit, is_no_later, blocker_hit, nearer, start_hit};
+use crate::hits::{Hit, blocker_hit, corner_hit, is_no_later, nearer, start_hit};
 use crate::scene::Scene;
 use exact_geom::Frac;
 use plane_spec::{Corner, Point, Segment as Wall};

@@ -39,5 +39,11 @@ mod obstacles;
 mod plans;
 
 pub use inside::{inside_is_strictly_inside, strictly_inside_is_inside};
-pub use obstacles::{a_convex_obstacle_blocks_no_more, a_convex_outer_polygon_blocks_nothing, no_sight_through_a_convex_obstacle};
-pub use plans::{no_sight_between_open_points_through_a_convex_obstacle, seeing_past_is_seeing_over_open_points, sight_among_convex_polygons, what_is_seen_among_convex_polygons};
+pub use obstacles::{
+    a_convex_obstacle_blocks_no_more, a_convex_outer_polygon_blocks_nothing,
+    no_sight_through_a_convex_obstacle,
+};
+pub use plans::{
+    no_sight_between_open_points_through_a_convex_obstacle, seeing_past_is_seeing_over_open_points,
+    sight_among_convex_polygons, what_is_seen_among_convex_polygons,
+};

@@ -23,5 +23,5 @@ mod sequence;
 pub use lines::{MAX_LINE_BYTES, lines_are_whole_but_for_the_last, without_return};
 pub use name::{MAX_NAME_BYTES, Name};
 pub use no_memory::NoMemory;
-pub use numbers::{MAX_NUMBER, MAX_DIGITS};
+pub use numbers::{MAX_DIGITS, MAX_NUMBER};
 pub use sequence::Sequence;
