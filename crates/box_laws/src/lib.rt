@@ -12,7 +12,7 @@
 //!
 //! The first rests on the box of points, the others on when a segment meets a box (`plane_spec`, `Boxes`). Besides,
 //! the second breaks if a point is inside a polygon otherwise (`plane_spec`, `Polygons`), and the last if a wall, a
-//! screen or a corner blocks a segment otherwise (`plan_spec`, `Sight`).
+//! screen or a corner blocks a segment otherwise (`sight_spec`, `Sight`).
 //!
 //! Proofs cite the laws by the lemmas in `proofs/`: `Held`, `Within`, `Touching`, `Crossing` and `Blocking`. `Parts`
 //! says that what holds of all points of a polygon holds of the ends of its walls and of its corners.

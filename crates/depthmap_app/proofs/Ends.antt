@@ -4,7 +4,7 @@ use Rattle.dm_io.specs.Streams.{IsPrefix, WritesPrefix, appended_to}
 use Rattle.plan_spec.specs.Plan.{Plan}
 use Rattle.report_spec.specs.declared.reason.Reason.{Reason}
 use Rattle.report_spec.specs.PlanFile.{PlanFound, plan_in_file}
-use Rattle.depthmap_app.specs.Outputs.{HoldsPlan, IsAnswered, IsAnsweredInPart, IsRefused, WritesAtMost, output_of}
+use Rattle.depthmap_app.specs.Outputs.{HoldsPlan, IsAnswered, IsAnsweredInPart, IsRefused, edges_output_of}
 use Rattle.depthmap_app.specs.Statuses.{Counts, Faults, IsComplete, SaysWhy, TakesPlan, TakesTooMany, Writes}
 use Rattle.grammar_spec.specs.declared.limits.TheConstants.{MAX_PLAN_BYTES}
 use Rattle.depthmap_app.specs.declared.status.Status.{Status}
@@ -32,25 +32,18 @@ refused-known known bytes line reason read refused =
     of-known known bytes (λ known. IsRefused known line reason) read (record { short = read.short; refused = refused })
 
 pub answered-known : (known before after : Option (List ℕ)) (bytes : List ℕ) (plan : Plan) → IsRead known bytes
-    → plan_in_file bytes ≡ Ok plan → after ≡ appended_to before (output_of plan)
+    → plan_in_file bytes ≡ Ok plan → after ≡ appended_to before (edges_output_of plan)
     → IfSome known (λ known. IsAnswered known before after)
 answered-known known before after bytes plan read held written =
     of-known known bytes (λ known. IsAnswered known before after) read
     (plan, record { short = read.short; held = held }, written)
 
 pub part-known : (known before after : Option (List ℕ)) (bytes : List ℕ) (plan : Plan) → IsRead known bytes
-    → plan_in_file bytes ≡ Ok plan → WritesPrefix before after (output_of plan)
+    → plan_in_file bytes ≡ Ok plan → WritesPrefix before after (edges_output_of plan)
     → IfSome known (λ known. IsAnsweredInPart known before after)
 part-known known before after bytes plan read held written =
     of-known known bytes (λ known. IsAnsweredInPart known before after) read
     (plan, record { short = read.short; held = held }, written)
-
-pub at_most-known : (known before after : Option (List ℕ)) (bytes : List ℕ) (plan : Plan) → IsRead known bytes
-    → plan_in_file bytes ≡ Ok plan → WritesPrefix before after (output_of plan)
-    → IfSome known (λ known. WritesAtMost (plan_in_file known) before after)
-at_most-known known before after bytes plan read held written =
-    of-known known bytes (λ known. WritesAtMost (plan_in_file known) before after) read
-    (subst (λ found. WritesAtMost found before after) (sym held) written)
 
 -- ---- where the bytes hold a plan and nothing failed
 

@@ -4,7 +4,7 @@ use Rattle.dm_io.specs.Streams.{WritesPrefix, appended_to}
 use Rattle.plan_spec.specs.Plan.{Plan}
 use Rattle.options_spec.specs.declared.options.Form.TheVariants.{Text}
 use Rattle.report_spec.specs.declared.reason.Reason.{Reason}
-use Rattle.report_spec.specs.PlanFile.{PlanFound, plan_in_file}
+use Rattle.report_spec.specs.PlanFile.{plan_in_file}
 use Rattle.report_spec.specs.Records.{records_bytes}
 use Rattle.report_spec.specs.Tables.{edges_table_of}
 use Rattle.grammar_spec.specs.declared.limits.TheConstants.{MAX_PLAN_BYTES}
@@ -24,18 +24,13 @@ pub record IsRefused (bytes : List ℕ) (line : ℕ) (reason : Reason) : Type 0 
 -- ---- what was written
 
 -- the output for a plan: the table of its edges, as it is printed
-unfoldable pub output_of : Plan → List ℕ
-output_of plan = records_bytes Text (edges_table_of plan)
+unfoldable pub edges_output_of : Plan → List ℕ
+edges_output_of plan = records_bytes Text (edges_table_of plan)
 
 -- the bytes hold a plan, and its whole output was written
 abbrev pub IsAnswered : List ℕ → Option (List ℕ) → Option (List ℕ) → Type 0
-IsAnswered bytes before after = (plan : Plan) × HoldsPlan bytes plan × (after ≡ appended_to before (output_of plan))
+IsAnswered bytes before after = (plan : Plan) × HoldsPlan bytes plan × (after ≡ appended_to before (edges_output_of plan))
 
 -- the bytes hold a plan, and a prefix of its output was written
 abbrev pub IsAnsweredInPart : List ℕ → Option (List ℕ) → Option (List ℕ) → Type 0
-IsAnsweredInPart bytes before after = (plan : Plan) × HoldsPlan bytes plan × WritesPrefix before after (output_of plan)
-
--- a prefix of the output was written where there is a plan, and nothing where there is none
-abbrev pub WritesAtMost : PlanFound → Option (List ℕ) → Option (List ℕ) → Type 0
-WritesAtMost (Ok plan) before after = WritesPrefix before after (output_of plan)
-WritesAtMost (Err fault) before after = after ≡ before
+IsAnsweredInPart bytes before after = (plan : Plan) × HoldsPlan bytes plan × WritesPrefix before after (edges_output_of plan)

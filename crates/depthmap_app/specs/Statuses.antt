@@ -2,10 +2,9 @@
 use Rattle.std.specs.Prelude.{◌≡◌, ◌⊎◌, ◌<◌, ◌+◌, ℕ, List, [], length, Option, Some, None, IfSome}
 use Rattle.report_spec.specs.declared.reason.Reason.{Reason}
 use Rattle.report_spec.specs.Messages.{usage_message, plan_message, read_message, write_message, memory_message, length_message}
-use Rattle.report_spec.specs.PlanFile.{plan_in_file}
 use Rattle.dm_io.specs.Streams.{IsPrefix, IsIfKnown, WritesPrefix, TakesAtMost, appended_to}
 use Rattle.plan_spec.specs.Plan.{Plan}
-use Rattle.depthmap_app.specs.Outputs.{HoldsPlan, IsAnswered, IsAnsweredInPart, IsRefused, WritesAtMost}
+use Rattle.depthmap_app.specs.Outputs.{HoldsPlan, IsAnswered, IsAnsweredInPart, IsRefused}
 use Rattle.grammar_spec.specs.declared.limits.TheConstants.{MAX_PLAN_BYTES}
 use Rattle.depthmap_app.specs.declared.status.Status.{Status}
 use Rattle.depthmap_app.specs.declared.status.Status.TheVariants.{Done, DoneWithRefusals, BadWords, BadPlan, ReadFault, WriteFault, NoMemory, TooLong}
@@ -31,7 +30,7 @@ Writes known before after BadWords = after ≡ before
 Writes known before after BadPlan = after ≡ before
 Writes known before after ReadFault = after ≡ before
 Writes known before after WriteFault = IfSome known (λ bytes. IsAnsweredInPart bytes before after)
-Writes known before after NoMemory = IfSome known (λ bytes. WritesAtMost (plan_in_file bytes) before after)
+Writes known before after NoMemory = (after ≡ before) ⊎ IfSome known (λ bytes. IsAnsweredInPart bytes before after)
 Writes known before after TooLong = after ≡ before
 
 -- ---- the plan's file
@@ -69,7 +68,7 @@ SaysWhy known before after faults faults_after =
     (line : ℕ) × (reason : Reason) × IfSome known (λ bytes. IsRefused bytes line reason)
     × IsSaid before after faults faults_after (plan_message line reason)
 
--- what was said
+-- what was said on standard error, by the status
 abbrev pub Says : Option (List ℕ) → Option (List ℕ) → Option (List ℕ) → ℕ → ℕ → Status → Type 0
 Says known before after faults faults_after Done = IsSilent before after faults faults_after
 Says known before after faults faults_after DoneWithRefusals = IsSilent before after faults faults_after
@@ -93,12 +92,13 @@ message_of TooLong = Some length_message
 
 -- ---- faults
 
--- how often the files failed, the script and the output
+-- how often the files, the script and the output failed
 pub record Faults : Type 0 where
   pub files : ℕ
   pub script : ℕ
   pub out : ℕ
 
+-- these counts
 abbrev pub faults : ℕ → ℕ → ℕ → Faults
 faults files script out = record { files = files; script = script; out = out }
 

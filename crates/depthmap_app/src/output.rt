@@ -2,7 +2,7 @@
 
 ghost use Rattle.std.specs.Prelude.{◌≡◌, ◌⊎◌, IsErrOf, OnErr, OnOk};
 ghost use Rattle.dm_io.specs.Streams.{WritesPrefix, Rose, appended_to};
-ghost use Rattle.depthmap_app.specs.Outputs.{output_of};
+ghost use Rattle.depthmap_app.specs.Outputs.{edges_output_of};
 
 use crate::edges::put_edges;
 use crate::grid::open_points;
@@ -22,8 +22,8 @@ pub enum PrintFault {
 
 /// Prints the output for a plan: the table of its edges.
 pub fn put_output<O: Sink>(alloc: Global, out: &mut O, plan: &Plan) -> Result<(), PrintFault>
-    ensures all { OnOk result (O.written out.new ≡ appended_to (O.written out.old) (output_of plan.now)) }
-    ensures prefix { OnErr result (WritesPrefix (O.written out.old) (O.written out.new) (output_of plan.now)) }
+    ensures all { OnOk result (O.written out.new ≡ appended_to (O.written out.old) (edges_output_of plan.now)) }
+    ensures prefix { OnErr result (WritesPrefix (O.written out.old) (O.written out.new) (edges_output_of plan.now)) }
     ensures only_on_fault { IsErrOf result PrintFault.Write → Rose (O.faults out.old) (O.faults out.new) }
     ensures faults_stay { IsErrOf result PrintFault.Write ⊎ (O.faults out.new ≡ O.faults out.old) }
 {

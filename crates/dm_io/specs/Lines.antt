@@ -1,6 +1,7 @@
 -- Newlines among bytes, and what a reader tells of lines.
 use Rattle.std.specs.Prelude.{◌≡◌, ◌<◌, ◌≤◌, ◌+◌, ◌-◌, ◌^◌, ℕ, List, Bool, false, length, take, min, slice_index, if◌then◌else◌, ◌==◌}
 use Rattle.std.specs.List.{list_any}
+use Rattle.text_spec.specs.declared.lines.TheConstants.{MAX_LINE_BYTES}
 use Rattle.text_spec.specs.Lines.{is_newline}
 use Rattle.dm_io.specs.declared.lines.Next.{Next}
 use Rattle.dm_io.specs.declared.lines.Next.TheVariants.{Line, Long, End, Failed, Over}
@@ -28,7 +29,7 @@ pub record BeginsLine (bytes : List ℕ) (count : ℕ) : Type 0 where
   pub within : count < length bytes
   pub plain : has_newline (take count bytes) ≡ false
   pub ends : slice_index bytes count ≡ 10
-  pub short : count ≤ 20000
+  pub short : count ≤ MAX_LINE_BYTES
 
 -- a line is told as what it is
 abbrev pub next_of : Bool → Next

@@ -1,5 +1,6 @@
 -- What a reader of lines holds, takes and tells.
 use Rattle.std.specs.Prelude.{◌≡◌, ◌⊎◌, ◌<◌, ◌≤◌, ◌+◌, ℕ, List, [], ◌∷◌, ◌++◌, Bool, true, false, length, take, drop, option_map, Option}
+use Rattle.text_spec.specs.declared.lines.TheConstants.{MAX_LINE_BYTES}
 use Rattle.text_spec.specs.Lines.{is_long, lines_of, without_return}
 use Rattle.dm_io.specs.Lines.{has_newline, IsLine}
 use Rattle.dm_io.specs.Streams.{IsPrefix, IsIfKnown, prepended_to}
@@ -76,7 +77,7 @@ pub record Stopped (old new : LineReader) (before after : Option (List ℕ)) (pa
   pub gone : List ℕ
   pub waits : part ≡ gone ++ waiting new
   pub counted : bytes_read new ≡ bytes_read old + length gone
-  pub dropped : (gone ≡ []) ⊎ (20000 < length gone)
+  pub dropped : (gone ≡ []) ⊎ (MAX_LINE_BYTES < length gone)
 
 -- what each `Next` says of the bytes
 abbrev pub Reads : LineReader → LineReader → Option (List ℕ) → Option (List ℕ) → Next → Type 0
@@ -94,9 +95,9 @@ Waits old before after next = has_newline (waiting old) ≡ true → (after ≡ 
 pub record Skips (old new : LineReader) (full : Bool) (gone : List ℕ) : Type 0 where
   pub bytes : waiting old ≡ gone ++ waiting new
   pub counted : bytes_read new ≡ bytes_read old + length gone
-  pub when_full : full ≡ true → 20000 < length gone
+  pub when_full : full ≡ true → MAX_LINE_BYTES < length gone
   pub when_not : full ≡ false → gone ≡ []
-  pub room : length (waiting new) ≤ 20000
+  pub room : length (waiting new) ≤ MAX_LINE_BYTES
 
 -- what asking the source for more leaves
 abbrev pub Gets : LineReader → LineReader → Option (List ℕ) → Option (List ℕ) → More → Type 0

@@ -32,11 +32,11 @@ source_remaining {R} {reads} s = reads.remaining s.input
 abbrev pub sink_contents : {W : Type 0} {writes : Writers W} → StdSink W writes → Option (List ℕ)
 sink_contents {W} {writes} s = writes.contents s.output
 
--- by what the reader will give before and after: what was got came from its beginning, the end comes only at its end, and a
--- fault takes nothing
+-- by what the reader will give before and after: what was got came from its beginning, the end comes only at its end and
+-- takes nothing, as a fault does
 abbrev pub TakesFromReader : Option (List ℕ) → Option (List ℕ) → List ℕ → Take → Type 0
 TakesFromReader before after into (Got n) = Consumes before after (take n into)
-TakesFromReader before after into End = IsAtEnd after
+TakesFromReader before after into End = Keeps before after × IsAtEnd after
 TakesFromReader before after into Failed = Keeps before after
 
 -- by what the writer holds before and after: what was taken was appended, and at a fault a prefix of the piece at most

@@ -2,14 +2,16 @@
 ghost use Rattle.std.specs.Prelude.{◌≡◌, ◌⊎◌, ◌≤◌, ◌<◌, ◌+◌, ◌-◌, ◌^◌, [], ℕ, length, false, true, IsTrue, List, take, drop, min, IfSome, IfNone};
 ghost use Rattle.arrayvec.specs.ArrayVec.{array_vec_len};
 ghost use Rattle.text_spec.specs.Lines.{without_return};
+ghost use Rattle.text_spec.specs.declared.lines.TheConstants.{MAX_LINE_BYTES};
 ghost use Rattle.dm_io.specs.Lines.{next_at_end, BeginsLine, has_newline, number_after};
 ghost use Rattle.dm_io.specs.Streams.{Rose};
 
 use crate::lines::{Next, newline_after, next_of, shown_length};
 use crate::streams::{Source, Take};
 use arrayvec::ArrayVec;
+use text_spec::MAX_LINE_BYTES;
 
-/// Reads the lines of a source as they come. It holds at most 20001 bytes that were taken and belong to no line that was
+/// Reads the lines of a source as they come. It holds at most one byte more than [`MAX_LINE_BYTES`] that were taken and belong to no line that was
 /// read, and takes more only while no whole line waits among them.
 ///
 /// A line ends at a newline or at the end of the source; what ends right after a newline has no further line. One carriage
@@ -47,7 +49,7 @@ enum More {
 }
 
 /// Drops the first bytes.
-fn drop_front(held: &mut ArrayVec<u8, 20001>, count: usize)
+fn drop_prefix(held: &mut ArrayVec<u8, 20001>, count: usize)
     requires { count ≤ array_vec_len held.old }
     ensures { held.new.items ≡ drop count held.old.items }
 {
@@ -152,7 +154,7 @@ impl LineReader {
         ensures goes_on { saw_end self.new ≡ saw_end self.old }
     {
         let count = self.held.len() - self.start;
-        if count <= 20000 {
+        if count <= MAX_LINE_BYTES {
             return false;
         }
         self.bytes_read += count as u64;
@@ -201,7 +203,7 @@ impl LineReader {
 
     /// Takes more bytes from the source: one at the limit, and else at most up to the limit.
     fn more<S: Source>(&mut self, source: &mut S) -> More
-        requires room { length (waiting self.old) ≤ 20000 }
+        requires room { length (waiting self.old) ≤ MAX_LINE_BYTES }
         requires goes_on { saw_end self.old ≡ false }
         ensures gets { Gets self.old self.new (S.left source.old) (S.left source.new) result }
         ensures bytes_read { bytes_read self.new ≡ bytes_read self.old }
@@ -215,7 +217,7 @@ impl LineReader {
         self.line_length = 0;
         let start = self.start;
         self.start = 0;
-        drop_front(&mut self.held, start);
+        drop_prefix(&mut self.held, start);
         let rest = self.limit - self.bytes_read - self.held.len() as u64;
         let mut chunk = [0; 4096];
         if rest == 0 {

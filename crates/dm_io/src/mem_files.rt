@@ -3,7 +3,7 @@ ghost use Rattle.std.specs.Prelude.{◌≡◌, ◌<◌, ◌≤◌, Some, OnOk, O
 ghost use Rattle.std.specs.Option.{ForSome};
 ghost use Rattle.dm_io.specs.Contents.{opened_content, place_of};
 
-use crate::calls::{Calls, copy_front};
+use crate::calls::{Calls, copy_prefix};
 use crate::streams::{Files, OpenFailed, Source, Take};
 
 /// Files in memory. The openings and takes whose numbers are listed, counted together from 0, fail, and so do openings
@@ -88,7 +88,7 @@ impl Source for MemFiles {
             self.calls.fail();
             return Take::Failed;
         }
-        let count = copy_front(self.rest(), self.most, into);
+        let count = copy_prefix(self.rest(), self.most, into);
         if count == 0 {
             return Take::End;
         }

@@ -1,7 +1,7 @@
 //! A source in memory.
 ghost use Rattle.std.specs.Prelude.{◌≡◌, ◌<◌, ◌≤◌, Some, length, vec_len};
 
-use crate::calls::{Calls, copy_front};
+use crate::calls::{Calls, copy_prefix};
 use crate::streams::{Source, Take};
 
 /// Gives bytes from memory. The calls whose numbers are listed, counted from 0, fail, and no others: with none listed the
@@ -57,7 +57,7 @@ impl Source for MemSource {
             self.calls.fail();
             return Take::Failed;
         }
-        let count = copy_front(&self.bytes[self.at..], self.most, into);
+        let count = copy_prefix(&self.bytes[self.at..], self.most, into);
         if count == 0 {
             return Take::End;
         }

@@ -14,7 +14,7 @@ use Rattle.int_laws.proofs.Ring.{product_turned, minus_times}
 use Rattle.int_laws.proofs.Signs.{not_negative_product}
 use Rattle.int_laws.proofs.Tests.{tested_less, less_tested, tested_equal, equal_tested, smaller_factor, smaller_product, same_test}
 use Rattle.plane_spec.specs.Fractions.{Fraction, RPoint, is_before, same_value, same_rpoint, value_order_of}
-use Rattle.exact_geom.specs.Places.{IsOverPositive, place_order_of}
+use Rattle.exact_geom.specs.RPoints.{IsOverPositive, rpoint_order_of}
 
 -- ---- values
 
@@ -136,14 +136,14 @@ value_alike_too a b c b_up c_up h =
 
 -- ---- points
 
-pub place_reversed : (p q : RPoint) → place_order_of q p ≡ ordering_reverse (place_order_of p q)
+pub place_reversed : (p q : RPoint) → rpoint_order_of q p ≡ ordering_reverse (rpoint_order_of p q)
 place_reversed p q =
     ap (λ t. ordering_then t (value_order_of q.y p.y)) (value_reversed p.x q.x)
     ∙ ap (λ t. ordering_then (ordering_reverse (value_order_of p.x q.x)) t) (value_reversed p.y q.y)
     ∙ then_flip (value_order_of p.x q.x) (value_order_of p.y q.y)
 
 pub place_transitive : (p q r : RPoint) → IsOverPositive p → IsOverPositive q → IsOverPositive r
-    → place_order_of p q ≡ Less → place_order_of q r ≡ Less → place_order_of p r ≡ Less
+    → rpoint_order_of p q ≡ Less → rpoint_order_of q r ≡ Less → rpoint_order_of p r ≡ Less
 place_transitive p q r p_up q_up r_up = by_first (value_order_of p.x q.x) (value_order_of q.x r.x) refl refl
   where
     by_first : (o w : Ordering) → value_order_of p.x q.x ≡ o → value_order_of q.x r.x ≡ w
@@ -168,7 +168,7 @@ both_equal Less w h = cc
 both_equal Greater w h = cc
 
 pub place_alike : (p q r : RPoint) → IsOverPositive p → IsOverPositive q → IsOverPositive r
-    → place_order_of p q ≡ Equal → place_order_of p r ≡ place_order_of q r
+    → rpoint_order_of p q ≡ Equal → rpoint_order_of p r ≡ rpoint_order_of q r
 place_alike p q r p_up q_up r_up h =
     let parts = both_equal (value_order_of p.x q.x) (value_order_of p.y q.y) h in
     ap (λ t. ordering_then t (value_order_of p.y r.y)) (value_alike p.x q.x r.x p_up.x q_up.x parts.0)
@@ -179,17 +179,17 @@ both true true h = (refl, refl)
 both true false h = cc
 both false y h = cc
 
-pub place_equal : (p q : RPoint) → (place_order_of p q ≡ Equal) ↔ (same_rpoint p q ≡ true)
+pub place_equal : (p q : RPoint) → (rpoint_order_of p q ≡ Equal) ↔ (same_rpoint p q ≡ true)
 place_equal p q = (there, back)
   where
-    there : place_order_of p q ≡ Equal → same_rpoint p q ≡ true
+    there : rpoint_order_of p q ≡ Equal → same_rpoint p q ≡ true
     there h =
         let parts = both_equal (value_order_of p.x q.x) (value_order_of p.y q.y) h in
         let one : same_value p.x q.x ≡ true = equal_tested _ _ (equal_is p.x q.x parts.0) in
         let two : same_value p.y q.y ≡ true = equal_tested _ _ (equal_is p.y q.y parts.1) in
         ap (λ t. t && same_value p.y q.y) one ∙ two
 
-    back : same_rpoint p q ≡ true → place_order_of p q ≡ Equal
+    back : same_rpoint p q ≡ true → rpoint_order_of p q ≡ Equal
     back h =
         let parts = both (same_value p.x q.x) (same_value p.y q.y) h in
         ap (λ t. ordering_then t (value_order_of p.y q.y)) (is_equal p.x q.x (tested_equal _ _ parts.0))

@@ -28,5 +28,5 @@ abbrev pub HasCoordinateParts : Fraction → Type 0
 HasCoordinateParts f = HasPartsWithin MAX_COORDINATE_PART f
 
 -- a point with such coordinates
-abbrev pub HasPlaceParts : RPoint → Type 0
-HasPlaceParts p = HasCoordinatesWithin MAX_COORDINATE_PART p
+abbrev pub HasRPointParts : RPoint → Type 0
+HasRPointParts p = HasCoordinatesWithin MAX_COORDINATE_PART p

@@ -4,18 +4,18 @@ ghost use Rattle.std.specs.Prelude.{◌≡◌, ◌≢◌, pos};
 ghost use Rattle.plane_spec.specs.Vectors.{InRange, IsWithin};
 ghost use Rattle.plane_spec.specs.Fractions.{is_at_least, is_at_most};
 ghost use Rattle.plane_spec.specs.Boxes.{does_extent_meet_box, is_on_extent};
-ghost use Rattle.plane_spec.specs.Places.{fractions_overlap, is_between_fractions};
+ghost use Rattle.plane_spec.specs.RPoints.{fractions_overlap, is_between_fractions};
 ghost use Rattle.plane_spec.specs.Fractions.{whole};
 ghost use Rattle.plane_spec.specs.declared.TheConstants.{MAX_COORDINATE};
-ghost use Rattle.exact_geom.specs.Parts.{HasCoordinateParts, HasPlaceParts};
+ghost use Rattle.exact_geom.specs.Parts.{HasCoordinateParts, HasRPointParts};
 ghost use Rattle.exact_geom.specs.declared.limits.TheConstants.{MAX_STOP_PART};
 
 use crate::arithmetic::wide_product;
 use crate::boxes::line_reaches_box;
 use crate::compare::{is_at_most, is_zero};
 use crate::fractions::Frac;
-use crate::places::RPoint;
 use crate::products::orient;
+use crate::rpoints::RPoint;
 use plane_spec::{PlanBox, Point};
 
 /// Whether the whole number is at most the fraction.
@@ -54,8 +54,8 @@ fn overlap(m: &Frac, n: &Frac, low: i64, high: i64) -> bool
 pub fn extent_meets_box(a: Point, b: Point, from: &RPoint, to: &RPoint, area: PlanBox) -> bool
     requires a_in { InRange a }
     requires b_in { InRange b }
-    requires from_in { HasPlaceParts from.now }
-    requires to_in { HasPlaceParts to.now }
+    requires from_in { HasRPointParts from.now }
+    requires to_in { HasRPointParts to.now }
     requires low_in { InRange area.low }
     requires high_in { InRange area.high }
     ensures { result ≡ does_extent_meet_box a b from.now to.now area }
@@ -82,8 +82,8 @@ pub fn on_extent(x: Point, a: Point, b: Point, from: &RPoint, to: &RPoint) -> bo
     requires x_in { InRange x }
     requires a_in { InRange a }
     requires b_in { InRange b }
-    requires from_in { HasPlaceParts from.now }
-    requires to_in { HasPlaceParts to.now }
+    requires from_in { HasRPointParts from.now }
+    requires to_in { HasRPointParts to.now }
     ensures { result ≡ is_on_extent x a b from.now to.now }
 {
     is_zero(orient(a, b, x))
@@ -100,7 +100,7 @@ mod tests {
         requires num_in { IsWithin MAX_STOP_PART num }
         requires den_in { IsWithin MAX_STOP_PART den }
         requires nonzero { den ≢ pos 0 }
-        ensures { HasPlaceParts result }
+        ensures { HasRPointParts result }
     {
         RPoint::along(
             Point { x: 1, y: 0 },
@@ -111,8 +111,8 @@ mod tests {
 
     /// Whether the interval from `from` to `to` meets the box from (2,0) to (4,2) moved by `shift` to the right.
     fn meets(from: &RPoint, to: &RPoint, shift: i64) -> bool
-        requires from_in { HasPlaceParts from.now }
-        requires to_in { HasPlaceParts to.now }
+        requires from_in { HasRPointParts from.now }
+        requires to_in { HasRPointParts to.now }
         requires shift_in { IsWithin (pos 100) shift }
     {
         let area = PlanBox {

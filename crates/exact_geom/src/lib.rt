@@ -20,8 +20,8 @@
 //! | [`box_of`], [`meets_box`] | the least box round points, and which segments meet a box |
 //! | [`Frac`], [`RPoint`] | a fraction in lowest terms, and a point whose coordinates are fractions |
 //! | [`lowest_terms`] | the laws of lowest terms: one form for each value |
-//! | [`places_are_small`], [`along_is_by_value`] | how large the parts of a point on a ray are, and what it depends on |
-//! | [`place_order_laws`] | the order of points whose coordinates are fractions is one |
+//! | [`rpoints_are_small`], [`along_is_by_value`] | how large the parts of a point on a ray are, and what it depends on |
+//! | [`rpoint_order_laws`] | the order of points whose coordinates are fractions is one |
 //! | [`extent_meets_box`], [`on_extent`] | whether a part of a line meets a box, and what lies on it |
 //! | [`types_are_shared`] | every type here may be moved to a thread and shared between threads |
 #![tactic(auto)]
@@ -33,9 +33,9 @@ mod directions;
 mod extents;
 mod fractions;
 mod limits;
-mod places;
 mod polygons;
 mod products;
+mod rpoints;
 mod segments;
 #[cfg(test)]
 mod tests;
@@ -51,10 +51,10 @@ pub use limits::{
     MAX_COORDINATE_PART, MAX_CROSS, MAX_DIFFERENCE, MAX_FRACTION_PART, MAX_ORIENTATION,
     MAX_PRODUCT, MAX_STOP_PART,
 };
-pub use places::{RPoint, along_is_by_value, place_order_laws, places_are_small};
 pub use plane_spec::{Corner, MAX_COMPONENT, MAX_COORDINATE, PlanBox, Point, Segment};
 pub use polygons::{edge, inside, on_border};
 pub use products::{cross, dot, orient, orient_laws};
+pub use rpoints::{RPoint, along_is_by_value, rpoint_order_laws, rpoints_are_small};
 pub use segments::{cross_properly, on_segment, touch};
 pub use text_spec::{Name, NoMemory};
 pub use vectors::{in_range, is_coordinate, is_left_of_line, same_point, turns_left, vector};

@@ -27,7 +27,7 @@ use Rattle.plane_spec.specs.Fractions.{along, shifted}
 use Rattle.plane_spec.specs.Boxes.{does_extent_meet_box}
 use Rattle.exact_geom.proofs.Lowest.{reduced_is_reduced}
 use Rattle.exact_geom.proofs.Values.{reduced_keeps_value}
-use Rattle.plane_spec.specs.Places.{is_between_fractions}
+use Rattle.plane_spec.specs.RPoints.{is_between_fractions}
 use Rattle.sight_spec.specs.Axial.{end_by}
 use Rattle.box_laws.proofs.Touching.{line_turned}
 use Rattle.spot_laws.proofs.Spots.{Spot, spot_at, spots_meet_box}

@@ -13,8 +13,8 @@
 //! | [`lines_with_the_same_ends_have_the_same_points`] | the same points lie on them |
 //! | [`both_corners_lie_on_their_line`] | both corners of a pair lie on the extent of its line |
 //!
-//! All rest on how a line is made of its stops (`plan_spec`, `Axial` and `Stops`), and on what lies on its extent or
-//! meets it (`plan_spec`, `Dirty`; `plane_spec`, `Boxes` and `Fractions`). They break if a stop is another multiple of
+//! All rest on how a line is made of its stops (`sight_spec`, `Axial` and `Stops`), and on what lies on its extent or
+//! meets it (`sight_spec`, `Dirty`; `plane_spec`, `Boxes` and `Fractions`). They break if a stop is another multiple of
 //! the direction than one of at least 0, or if an extent meets a box by more than its ends and its line.
 //!
 //! Proofs cite the laws by the lemmas in `proofs/SameLines`; `Hits` and `Reaches` have what is known of stops, and

@@ -16,6 +16,7 @@ pub record Shape : Type 0 where
   pub named : Bool
   pub numbers : Count
 
+-- the shape with these parts
 abbrev pub shape : Bool → Count → Shape
 shape named numbers = record { named = named; numbers = numbers }
 

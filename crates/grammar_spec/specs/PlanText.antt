@@ -7,6 +7,7 @@ use Rattle.plane_spec.specs.declared.Point.{Point}
 use Rattle.text_spec.specs.declared.numbers.TheConstants.{MAX_NUMBER}
 use Rattle.text_spec.specs.Lines.{lines_of, without_return, is_long}
 use Rattle.text_spec.specs.Words.{words_of, are_blank}
+use Rattle.plan_spec.specs.declared.limits.TheConstants.{MAX_CORNERS}
 use Rattle.plan_spec.specs.declared.item.GridSpec.{GridSpec}
 use Rattle.plan_spec.specs.declared.item.Item.{Item}
 use Rattle.plan_spec.specs.declared.item.Item.TheVariants.{Grid, Outer, Obstacle, Screen, Route}
@@ -219,13 +220,13 @@ plan_text_of items = flat_map ended_line (plan_words items)
 abbrev pub is_below : ℕ → ℤ → Bool
 is_below most z = nat_le (nat_abs z) most
 
--- a coordinate of at most six digits
+-- a point whose coordinates have at most six digits
 abbrev pub is_short_point : Point → Bool
 is_short_point p = is_below 999999 p.x && is_below 999999 p.y
 
--- 1 to 1024 points whose coordinates have at most six digits
+-- 1 to `MAX_CORNERS` points whose coordinates have at most six digits
 abbrev pub is_short_list : List Point → Bool
-is_short_list points = (nat_le 1 (length points) && nat_le (length points) 1024) && list_all is_short_point points
+is_short_list points = (nat_le 1 (length points) && nat_le (length points) MAX_CORNERS) && list_all is_short_point points
 
 -- a point whose coordinates have few enough digits
 abbrev pub is_number_point : Point → Bool
@@ -241,7 +242,7 @@ is_printable (Obstacle name points) = is_short_list points
 is_printable (Screen name from to) = is_number_point from && is_number_point to
 is_printable (Route name from to) = is_number_point from && is_number_point to
 
--- how many corners the item has
+-- how many points the item's polygon has, and 0 where it has none
 abbrev pub points_in : Item → ℕ
 points_in (Grid g) = 0
 points_in (Outer points) = length points

@@ -4,7 +4,7 @@ use Rattle.std.specs.List.{Contains}
 use Rattle.std.proofs.Common.{refl, sym, ◌⊎◌, inl, inr, arith, subst}
 use Rattle.std.proofs.lemmas.Bool.{cond_both, ltb-true, ltb-false}
 use Rattle.std.proofs.lemmas.Option.{none-some, same_Some}
-use Rattle.route_spec.specs.Routes.{lesser, least_of, raised}
+use Rattle.route_spec.specs.Routes.{lesser, min_of, raised}
 use Rattle.graph_laws.proofs.Members.{contains_first, contains_later, contains_none, first_or_later}
 
 -- there is a cost, and it is no more than so much
@@ -40,16 +40,16 @@ lesser_is_one (Some a) (Some b) cost e = by_test (nat_lt b a) e
 
 -- ---- the least of a list
 
-pub least_at_most : (costs : List (Option ℕ)) (a : Option ℕ) (most : ℕ) → Contains costs a → IsAtMost a most → IsAtMost (least_of costs) most
+pub least_at_most : (costs : List (Option ℕ)) (a : Option ℕ) (most : ℕ) → Contains costs a → IsAtMost a most → IsAtMost (min_of costs) most
 least_at_most [] a most here h = absurd (contains_none a here)
 least_at_most (c ∷ costs) a most here h = elim (first_or_later c costs a here) [
-  | inl first ↦ lesser_at_most_first c (least_of costs) most (subst (λ o. IsAtMost o most) (sym first) h)
-  | inr later ↦ lesser_at_most_second c (least_of costs) most (least_at_most costs a most later h)
+  | inl first ↦ lesser_at_most_first c (min_of costs) most (subst (λ o. IsAtMost o most) (sym first) h)
+  | inr later ↦ lesser_at_most_second c (min_of costs) most (least_at_most costs a most later h)
 ]
 
-pub least_is_one : (costs : List (Option ℕ)) (cost : ℕ) → least_of costs ≡ Some cost → Contains costs (Some cost)
+pub least_is_one : (costs : List (Option ℕ)) (cost : ℕ) → min_of costs ≡ Some cost → Contains costs (Some cost)
 least_is_one [] cost e = absurd (none-some cost e)
-least_is_one (c ∷ costs) cost e = elim (lesser_is_one c (least_of costs) cost e) [
+least_is_one (c ∷ costs) cost e = elim (lesser_is_one c (min_of costs) cost e) [
   | inl first ↦ subst (λ o. Contains (c ∷ costs) o) first (contains_first c costs)
   | inr later ↦ contains_later c costs (Some cost) (least_is_one costs cost later)
 ]

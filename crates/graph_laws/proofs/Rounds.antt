@@ -4,7 +4,7 @@ use Rattle.std.specs.List.{Contains}
 use Rattle.std.proofs.Common.{refl, sym, ap, ◌∙◌, inl, inr, arith, subst}
 use Rattle.std.proofs.lemmas.Bool.{cond-true, eqb-true, eq-eqb}
 use Rattle.std.proofs.lemmas.Option.{same_Some}
-use Rattle.route_spec.specs.Routes.{Piece, DirectedPiece, TurnWalk, directed_pieces, can_follow, turn_between, lesser, least_of, raised, cost_by_way, improved, at_source, costs_within}
+use Rattle.route_spec.specs.Routes.{Piece, DirectedPiece, TurnWalk, directed_pieces, can_follow, turn_between, lesser, min_of, raised, cost_by_way, improved, at_source, costs_within}
 use Rattle.graph_laws.proofs.Members.{contains_mapped, mapped_from}
 use Rattle.graph_laws.proofs.Least.{IsAtMost, lesser_at_most_first, lesser_at_most_second, lesser_is_one, least_at_most, least_is_one, raised_at_most, raised_from, none_unless}
 
@@ -51,7 +51,7 @@ module _ (pieces : List Piece) (source : ℕ) where
       let known = cost_at_most k zero t cost (omega arith) walk in (
         (improved (costs_within pieces source k) (t, known.0)).1,
         improved_has_cost k t known.0 known.1,
-        lesser_at_most_first known.0 (least_of (map (cost_by_way t) (costs_within pieces source k))) cost known.2,
+        lesser_at_most_first known.0 (min_of (map (cost_by_way t) (costs_within pieces source k))) cost known.2,
       )
   cost_at_most (suc k) (suc more) t cost few walk =
       let last = walk.1 in
@@ -65,7 +65,7 @@ module _ (pieces : List Piece) (source : ℕ) where
       (contains_mapped (cost_by_way t) (costs_within pieces source k) (last.0, before.0) before.1) there in (
         (improved (costs_within pieces source k) (t, known.0)).1,
         improved_has_cost k t known.0 known.1,
-        lesser_at_most_second known.0 (least_of (map (cost_by_way t) (costs_within pieces source k))) cost by_it,
+        lesser_at_most_second known.0 (min_of (map (cost_by_way t) (costs_within pieces source k))) cost by_it,
       )
 
   -- ---- each cost is that of a walk
@@ -77,13 +77,13 @@ module _ (pieces : List Piece) (source : ℕ) where
       (subst (Contains (directed_pieces pieces)) same found.1, ap (λ (u : DirectedPiece). (at_source source u).1) (sym same) ∙ ap (λ c. c.1) found.2)
 
   improved_from : (k : ℕ) (t : DirectedPiece) (cost : Option ℕ) → HasCost (suc k) t cost
-      → (old : Option ℕ) × HasCost k t old × (lesser old (least_of (map (cost_by_way t) (costs_within pieces source k))) ≡ cost)
+      → (old : Option ℕ) × HasCost k t old × (lesser old (min_of (map (cost_by_way t) (costs_within pieces source k))) ≡ cost)
   improved_from k t cost h =
       let found = mapped_from (improved (costs_within pieces source k)) (costs_within pieces source k) (t, cost) (subst (λ known. Contains known (t, cost)) (round_more pieces source k) h) in
       let same : found.0.0 ≡ t = ap (λ c. c.0) found.2 in (
         found.0.1,
         subst (λ (u : DirectedPiece). HasCost k u found.0.1) same found.1,
-        ap (λ (u : DirectedPiece). lesser found.0.1 (least_of (map (cost_by_way u) (costs_within pieces source k)))) (sym same) ∙ ap (λ c. c.1) found.2,
+        ap (λ (u : DirectedPiece). lesser found.0.1 (min_of (map (cost_by_way u) (costs_within pieces source k)))) (sym same) ∙ ap (λ c. c.1) found.2,
       )
 
   pub cost_is_of_step : (k : ℕ) (t : DirectedPiece) (cost : Option ℕ) → HasCost k t cost → Contains (directed_pieces pieces) t
@@ -97,7 +97,7 @@ module _ (pieces : List Piece) (source : ℕ) where
       (zero, (begun.0, eqb-true t.0.0 source nothing.0, sym (same_Some 0 cost nothing.1)))
   cost_is_of_walk (suc k) t cost h =
       let old = improved_from k t (Some cost) h in
-      elim (lesser_is_one old.0 (least_of (map (cost_by_way t) (costs_within pieces source k))) cost old.2) [
+      elim (lesser_is_one old.0 (min_of (map (cost_by_way t) (costs_within pieces source k))) cost old.2) [
         | inl kept ↦ cost_is_of_walk k t cost (subst (HasCost k t) kept old.1)
         | inr less ↦
             let found = mapped_from (cost_by_way t) (costs_within pieces source k) (Some cost) (least_is_one (map (cost_by_way t) (costs_within pieces source k)) cost less) in

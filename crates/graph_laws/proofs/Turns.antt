@@ -5,7 +5,7 @@ use Rattle.std.proofs.Common.{refl, sym, ap, ◌∙◌, arith, subst}
 use Rattle.std.proofs.lemmas.Bool.{cond-true, eqb-true, eq-eqb}
 use Rattle.std.proofs.lemmas.List.{get_or-map, length-map}
 use Rattle.std.proofs.lemmas.List.FromFn.{length-enumerate_from}
-use Rattle.route_spec.specs.Routes.{Piece, DirectedPiece, TurnWalk, IsTurnDepth, least_of, costs_within, cost_on, turn_depths_of}
+use Rattle.route_spec.specs.Routes.{Piece, DirectedPiece, TurnWalk, IsTurnDepth, min_of, costs_within, cost_on, turn_depths_of}
 use Rattle.graph_laws.proofs.Members.{contains_mapped, mapped_from, number_is_place, same_numbered}
 use Rattle.graph_laws.proofs.Least.{IsAtMost, least_at_most, least_is_one, none_unless}
 use Rattle.graph_laws.proofs.Steps.{piece_of_step, shorter_walk}
@@ -16,7 +16,7 @@ abbrev last_costs : List Piece → ℕ → List (DirectedPiece × Option ℕ)
 last_costs pieces source = costs_within pieces source (2 * length pieces)
 
 abbrev least_at : List (DirectedPiece × Option ℕ) → ℕ × Piece → Option ℕ
-least_at known e = least_of (map (cost_on e) known)
+least_at known e = min_of (map (cost_on e) known)
 
 depths_are : (pieces : List Piece) (source : ℕ) → turn_depths_of pieces source ≡ map (least_at (last_costs pieces source)) (enumerate_from 0 pieces)
 unfolding turn_depths_of

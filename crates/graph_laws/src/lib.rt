@@ -18,8 +18,8 @@
 //! | [`turn_depth_is_least`] | the computed turn depth of a piece is the least cost of a walk to it, or none where there is no walk | `Routes` |
 //! | [`turn_depth_is_unique`] | a piece has one turn depth | `Routes` |
 //!
-//! Proofs of code cite the laws by the lemmas in `proofs/`: `Depths`, `Bounds`, `SameGraphs`, `SameEdges`,
-//! `GridPoints`, `SimpleGraphs`, `Visibility` and `Turns`.
+//! Proofs of code cite the laws by the lemmas in `proofs/`: `Depths`, `Bounds`, `SameGraphs`, `SameEdges`
+//! and `Turns`.
 #![tactic(auto)]
 
 ghost use Rattle.std.specs.Prelude.{◌≡◌, ◌<◌, ◌≤◌, ◌+◌, ◌-◌, ◌*◌, ◌≤ℤ◌, pos, unsigned_abs, ℕ, List, Option, None, Some, length, get_or};

@@ -13,12 +13,12 @@ use Rattle.sight_spec.specs.Scene.{Scene, scene_of, oriented_walls, oriented_cor
 use Rattle.sight_spec.specs.Sight.{are_in_sight, is_blocked, starts_into_wall, corner_stops}
 use Rattle.sight_spec.specs.Stops.{stop_of, blocker_hit, corner_hit, start_hit}
 use Rattle.sight_spec.specs.Axial.{axial_lines}
-use Rattle.sight_spec.specs.Dirty.{is_dirty_pair, is_dirty_line, is_dirty_corner}
+use Rattle.sight_spec.specs.Dirty.{is_dirty_pair, is_dirty_line, is_dirty_corner, dirty_corners}
 use Rattle.plan_spec.proofs.Figures.{at, room}
 use Rattle.dirty_laws.specs.Scenes.{removal_of, ClosesUp}
 use Rattle.list_laws.specs.Merged.{merged}
 use Rattle.dirty_laws.proofs.Removal.{removal_is_without}
-use Rattle.line_laws.specs.Lines.{kept_lines, dirty_corners, fresh_lines, are_fresh_stopped, comes_before}
+use Rattle.line_laws.specs.Lines.{kept_lines, fresh_lines, are_fresh_stopped, comes_before}
 use Rattle.line_laws.proofs.Laws.{lines_after_removal}
 
 -- the room with a screen across its middle

@@ -10,7 +10,7 @@ use Rattle.sight_spec.specs.Scene.{Scene}
 use Rattle.sight_spec.specs.Sight.{are_in_sight}
 use Rattle.sight_spec.specs.Stops.{stop_of}
 use Rattle.sight_spec.specs.Axial.{AxialLine, here_of, line_through, is_seen_pair, same_ends}
-use Rattle.sight_spec.specs.Dirty.{is_dirty_line, is_dirty_corner}
+use Rattle.sight_spec.specs.Dirty.{is_dirty_line, dirty_corners}
 use Rattle.list_laws.specs.Gaps.{closed_up}
 
 -- ---- the same line
@@ -34,11 +34,6 @@ kept_lines boxes old lines start count =
     map (renumbered start count) (filter (λ l. not (is_dirty_line boxes old l)) lines)
 
 -- ---- fresh lines
-
--- the dirty corners of the new scene, each with its number
-abbrev pub dirty_corners : Changed → Scene → List AxialLine → Scene → List (ℕ × Point)
-dirty_corners boxes old lines new =
-    filter (λ c. is_dirty_corner boxes old lines new c.1) (enumerate_from 0 (map here_of new.corners))
 
 -- the pairs of dirty corners that see each other
 abbrev pub fresh_pairs : Changed → Scene → List AxialLine → Scene → List ((ℕ × Point) × (ℕ × Point))

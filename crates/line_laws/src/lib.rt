@@ -14,7 +14,7 @@
 //! | [`a_new_line_that_misses_the_box_was_there`] | so did it, where something stops it at both ends |
 //! | [`the_axial_lines_after_a_removal`] | they are the old ones whose extent misses the box, renumbered, merged with those of pairs of dirty corners whose extent meets it |
 //!
-//! All break if sight, stops or axial lines change (`plan_spec`, `Sight`, `Stops`, `Axial`), or what makes a line or a
+//! All break if sight, stops or axial lines change (`sight_spec`, `Sight`, `Stops`, `Axial`), or what makes a line or a
 //! corner dirty (`Dirty`). The last breaks, too, if axial lines come in another order than that of their numbers.
 //!
 //! Proofs cite the laws by the lemmas in `proofs/Laws`; `Without` and `Updated` have their parts.

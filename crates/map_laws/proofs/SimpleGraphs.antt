@@ -13,7 +13,7 @@ use Rattle.sight_spec.specs.Visibility.{are_visible, visibility_graph}
 use Rattle.sight_spec.specs.Axial.{AxialLine, do_meet, line_of_number, crossing_graph}
 use Rattle.plane_spec.specs.Segments.{are_opposite}
 use Rattle.plane_spec.specs.Fractions.{RPoint}
-use Rattle.plane_spec.specs.Places.{orient_of_rpoints, is_rpoint_on_segment, do_rpoints_cross, do_rsegments_touch}
+use Rattle.plane_spec.specs.RPoints.{orient_of_rpoints, is_rpoint_on_segment, do_rpoints_cross, do_rsegments_touch}
 use Rattle.map_laws.proofs.MutualSight.{sight_turned}
 
 -- both numbers are below the count and differ

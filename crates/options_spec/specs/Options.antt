@@ -1,6 +1,7 @@
 -- The options of the command, from the texts that are given for them.
 use Rattle.std.specs.Prelude.{ℕ, nat_le, ◌&&◌, List, codes, bytes_eq, Option, Some, None, if◌then◌else◌}
 use Rattle.text_spec.specs.Numbers.{natural_of}
+use Rattle.options_spec.specs.declared.options.TheConstants.{MAX_TRIAL_BOXES, MAX_WORKERS}
 use Rattle.options_spec.specs.declared.options.Form.{Form}
 use Rattle.options_spec.specs.declared.options.Form.TheVariants.{Text, Csv}
 use Rattle.options_spec.specs.declared.options.Mode.{Mode}
@@ -36,9 +37,9 @@ abbrev pub trial_of_number : Option ℕ → Option Job
 trial_of_number None = None
 trial_of_number (Some n) = Some (Trial n)
 
--- a trial asks for a number from 1 to 250 and takes no file
+-- a trial asks for a number from 1 to `MAX_TRIAL_BOXES` and takes no file
 abbrev pub trial_job : Option (List ℕ) → Option (List ℕ) → Option Job
-trial_job None (Some number) = trial_of_number (number_up_to 250 (natural_of number))
+trial_job None (Some number) = trial_of_number (number_up_to MAX_TRIAL_BOXES (natural_of number))
 trial_job None None = None
 trial_job (Some file) number = None
 
@@ -48,10 +49,10 @@ job_of None file number = None
 job_of (Some mode) file number =
     if bytes_eq mode (codes "TRIAL") then trial_job file number else analyse (mode_of mode) file number
 
--- 1 to 64 workers, and 1 where nothing is said
+-- 1 to `MAX_WORKERS` workers, and 1 where nothing is said
 abbrev pub workers_of : Option (List ℕ) → Option ℕ
 workers_of None = Some 1
-workers_of (Some word) = number_up_to 64 (natural_of word)
+workers_of (Some word) = number_up_to MAX_WORKERS (natural_of word)
 
 -- text or csv, and text where nothing is said
 abbrev pub form_of_word : Option (List ℕ) → Option Form

@@ -4,6 +4,12 @@ ghost use Rattle.std.specs.Prelude.{◌≡◌};
 
 use std::marker::Model;
 
+/// How many threads may work at once.
+pub const MAX_WORKERS: usize = 64;
+
+/// How many boxes the trial plan may have.
+pub const MAX_TRIAL_BOXES: u32 = 250;
+
 /// Which tables of a plan stand after the replies.
 #[derive(Clone, Copy, Debug, PartialEq, Eq)]
 pub enum Mode {
@@ -71,7 +77,7 @@ pub struct Given<'a> {
 pub enum Job<'a> {
     /// Analyse the plan of the file of this name.
     Analyse(Mode, GivenText<'a>),
-    /// Make the trial plan of so many boxes, and count in it.
+    /// Make the trial plan of so many boxes, from 1 to [`MAX_TRIAL_BOXES`], and count in it.
     Trial(u32),
 }
 
@@ -79,7 +85,7 @@ pub enum Job<'a> {
 #[derive(Drop)]
 pub struct Options<'a> {
     pub job: Job<'a>,
-    /// How many threads may work at once, from 1 to 64.
+    /// How many threads may work at once, from 1 to [`MAX_WORKERS`].
     pub workers: usize,
     pub form: Form,
 }

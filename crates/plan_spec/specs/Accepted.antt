@@ -37,17 +37,17 @@ is_from_one most z = int_le (pos 1) z && int_le z most
 abbrev pub is_row_in_range : ℤ → ℤ → ℤ → Bool
 is_row_in_range first step count = is_coordinate first && is_coordinate (first +ℤ step *ℤ (count -ℤ pos 1))
 
--- a step of at least 1 that isn't too long, at least one column and one row, and all points in range
+-- a step of 1 to `MAX_STEP`, at least one column and one row, and all points in range
 unfoldable pub is_grid_in_range : GridSpec → Bool
 is_grid_in_range g =
     (is_from_one MAX_STEP g.step && (int_le (pos 1) g.cols && int_le (pos 1) g.rows))
     && (is_row_in_range g.x0 g.step g.cols && is_row_in_range g.y0 g.step g.rows)
 
--- no more points than a grid may have
+-- at most `MAX_GRID_POINTS` points
 abbrev pub is_grid_small : GridSpec → Bool
 is_grid_small g = int_le (g.cols *ℤ g.rows) (pos MAX_GRID_POINTS)
 
--- there is no grid, or its points are in range and not too many
+-- there is no grid, or its points are in range and at most `MAX_GRID_POINTS`
 abbrev pub is_grid_sound : Option GridSpec → Bool
 is_grid_sound None = true
 is_grid_sound (Some g) = is_grid_in_range g && is_grid_small g
@@ -114,7 +114,7 @@ are_routes_sound plan = list_all (λ r. is_proper_segment r.from r.to) plan.rout
 
 -- ---- the plan
 
--- no more obstacles, screens, routes and corners than a plan may have
+-- at most `MAX_OBSTACLES`, `MAX_SCREENS`, `MAX_ROUTES` and `MAX_CORNERS`
 unfoldable pub is_within_limits : Plan → Bool
 is_within_limits plan =
     (nat_le (length plan.obstacles) MAX_OBSTACLES && nat_le (length plan.screens) MAX_SCREENS)
@@ -139,7 +139,7 @@ abbrev pub is_grid : Item → Bool
 is_grid (Grid spec) = true
 is_grid _ = false
 
--- behind the plan's outer polygon the item is no other one, and no second grid
+-- the item may stand after the outer polygon: it is no outer polygon, and no second grid
 abbrev pub may_follow : Plan → Item → Bool
 may_follow plan (Grid spec) = is_none plan.grid
 may_follow plan (Outer points) = false

@@ -31,12 +31,12 @@ shifted_box dx dy area = record { low = shifted_point dx dy area.low; high = shi
 abbrev pub shifted_obstacle : ℤ → ℤ → Obstacle → Obstacle
 shifted_obstacle dx dy o = obstacle o.name (map (shifted_point dx dy) o.points)
 
--- a shift that isn't too far in either coordinate
+-- a shift of at most `MAX_SHIFT` in each coordinate
 pub record IsShift (dx dy : ℤ) : Type 0 where
   pub x : IsWithin MAX_SHIFT dx
   pub y : IsWithin MAX_SHIFT dy
 
--- where the edit is a move, its shift isn't too far
+-- where the edit is a move, its shift is at most `MAX_SHIFT` in each coordinate
 abbrev pub HasShift : Edit → Type 0
 HasShift (Move name dx dy) = IsShift dx dy
 HasShift _ = ⊤

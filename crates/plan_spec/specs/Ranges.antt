@@ -10,7 +10,7 @@ use Rattle.plan_spec.specs.declared.edit.Changed.{Changed}
 use Rattle.plan_spec.specs.declared.limits.TheConstants.{MAX_OBSTACLES, MAX_SCREENS, MAX_ROUTES, MAX_CORNERS, MAX_GRID_POINTS, MAX_STEP}
 use Rattle.plan_spec.specs.Plan.{Plan, corner_count}
 
--- at least three points, as many as a plan may have corners, all in range
+-- at least three points and at most `MAX_CORNERS`, all in range
 pub record IsPolygonInRange (points : List Point) : Type 0 where
   pub in_range : All InRange points
   pub at_least : 3 ≤ length points
@@ -37,8 +37,8 @@ pub record IsFromTo (low high z : ℤ) : Type 0 where
   pub from : low ≤ℤ z
   pub to : z ≤ℤ high
 
--- a step that isn't too long, at least one column and one row, not too many points, the first and the last column and
--- row in range
+-- a step of 1 to `MAX_STEP`, at least one column and one row, at most `MAX_GRID_POINTS` points, the first and the last
+-- column and row in range
 pub record IsGridInRange (g : GridSpec) : Type 0 where
   pub step : IsFromTo (pos 1) MAX_STEP g.step
   pub cols : IsFromTo (pos 1) (pos MAX_GRID_POINTS) g.cols
@@ -49,7 +49,7 @@ pub record IsGridInRange (g : GridSpec) : Type 0 where
   pub first_row : IsWithin MAX_COORDINATE g.y0
   pub last_row : IsWithin MAX_COORDINATE (g.y0 +ℤ g.step *ℤ (g.rows -ℤ pos 1))
 
--- no more obstacles, screens, routes and corners than a plan may have
+-- at most `MAX_OBSTACLES`, `MAX_SCREENS`, `MAX_ROUTES` and `MAX_CORNERS`
 pub record IsWithinLimits (p : Plan) : Type 0 where
   pub obstacles : length p.obstacles ≤ MAX_OBSTACLES
   pub screens : length p.screens ≤ MAX_SCREENS

@@ -27,15 +27,15 @@ obstacles_met points obstacles = filter (λ o. polygons_meet o.points points) ob
 abbrev pub screens_met : List Point → List Screen → List Screen
 screens_met points screens = filter (λ s. segment_meets_polygon s.from s.to points) screens
 
--- the obstacles that a line meets
+-- the obstacles that a segment meets
 abbrev pub obstacles_met_by_segment : Point → Point → List Obstacle → List Obstacle
 obstacles_met_by_segment from to obstacles = filter (λ o. segment_meets_polygon from to o.points) obstacles
 
--- the screens that a line touches
+-- the screens that a segment touches
 abbrev pub screens_met_by_segment : Point → Point → List Screen → List Screen
 screens_met_by_segment from to screens = filter (λ s. do_touch s.from s.to from to) screens
 
--- the routes that share more than one point with a line
+-- the routes that share more than one point with a segment
 abbrev pub routes_overlapped : Point → Point → List Route → List Route
 routes_overlapped from to routes = filter (λ r. do_segments_overlap r.from r.to from to) routes
 
@@ -77,7 +77,7 @@ why_not_polygon points = first_cause (
     ∷ when (not (crosses_nowhere points)) Cross
     ∷ [])
 
--- what the ends of a line are refused for by themselves
+-- what the ends of a segment are refused for by themselves
 unfoldable pub why_not_segment : Point → Point → Option Why
 why_not_segment from to = first_cause (
     when (not (is_in_range from && is_in_range to)) Range
@@ -167,8 +167,8 @@ abbrev pub refused_at : ℕ → Option Why → Result Plan (ℕ × Why) → Resu
 refused_at number None next = next
 refused_at number (Some why) next = Err (number, why)
 
--- the items from `number` on, each added to the plan of the items before it; where there is no outer polygon behind the
--- last one, the number after it and Order
+-- the items from `number` on, each added to the plan of the items before it; where no outer polygon has come by the end,
+-- the number after the last item, and Order
 unfoldable pub check_from : ℕ → Plan → List Item → Result Plan (ℕ × Why)
 check_from number plan [] = if has_outer plan then Ok plan else Err (number, Order)
 check_from number plan (item ∷ items) = refused_at number (why_not_item plan item) (check_from (number + 1) (with_item plan item) items)

@@ -6,7 +6,7 @@ use Rattle.plane_spec.specs.declared.Point.{Point}
 use Rattle.plane_spec.specs.declared.PlanBox.{PlanBox}
 use Rattle.plane_spec.specs.Vectors.{point, is_left_of_line, orient_of}
 use Rattle.plane_spec.specs.Fractions.{RPoint, whole}
-use Rattle.plane_spec.specs.Places.{fractions_overlap, is_between_fractions}
+use Rattle.plane_spec.specs.RPoints.{fractions_overlap, is_between_fractions}
 
 -- the least box that has a box and a point in it
 abbrev pub with_point : PlanBox → Point → PlanBox

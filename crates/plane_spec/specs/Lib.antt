@@ -4,5 +4,5 @@ pub mod Segments
 pub mod Polygons
 pub mod Cones
 pub mod Fractions
-pub mod Places
+pub mod RPoints
 pub mod Boxes

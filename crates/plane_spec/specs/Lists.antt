@@ -2,6 +2,7 @@
 use Rattle.std.specs.Prelude.{ℕ, List, [], ◌∷◌, ◌++◌, map, Bool, if◌then◌else◌, Option, Some, None}
 use Rattle.std.specs.List.{list_any, enumerate_from, best_of}
 
+-- the pair of two elements
 abbrev pub with_each : {X : Type 0} → X → X → X × X
 with_each x y = (x, y)
 
@@ -29,7 +30,7 @@ abbrev pub min_by : {X : Type 0} → (X → X → Bool) → List X → Option X
 min_by comes_before [] = None
 min_by comes_before (x ∷ xs) = Some (best_of comes_before x xs)
 
--- the element before the first that it doesn't come after
+-- the list with the element put before the first that doesn't come before it
 abbrev pub inserted_by : {X : Type 0} → (X → X → Bool) → X → List X → List X
 inserted_by comes_before x [] = x ∷ []
 inserted_by comes_before x (y ∷ ys) = if comes_before y x then y ∷ inserted_by comes_before x ys else x ∷ y ∷ ys

@@ -20,6 +20,7 @@ abbrev pub edges_of : List Point → List Segment
 edges_of [] = []
 edges_of (p ∷ points) = edges_to p (p ∷ points)
 
+-- x lies on the edge, its ends counted
 abbrev pub is_on_edge : Point → Segment → Bool
 is_on_edge x e = is_on_segment x e.a e.b
 
@@ -27,6 +28,7 @@ is_on_edge x e = is_on_segment x e.a e.b
 abbrev pub is_on_border : Point → List Point → Bool
 is_on_border x points = list_any (is_on_edge x) (edges_of points)
 
+-- the two edges share a point
 abbrev pub edges_touch : Segment → Segment → Bool
 edges_touch e f = do_touch e.a e.b f.a f.b
 

@@ -8,6 +8,7 @@ use Rattle.plane_spec.specs.declared.TheConstants.{MAX_COORDINATE, MAX_COMPONENT
 
 -- ---- products
 
+-- the point, or direction, with these coordinates
 abbrev pub point : ℤ → ℤ → Point
 point x y = record { x = x; y = y }
 
@@ -27,6 +28,7 @@ dot_of d e = d.x *ℤ e.x +ℤ d.y *ℤ e.y
 abbrev pub orient_of : Point → Point → Point → ℤ
 orient_of a b c = (b.x -ℤ a.x) *ℤ (c.y -ℤ a.y) -ℤ (b.y -ℤ a.y) *ℤ (c.x -ℤ a.x)
 
+-- both coordinates are the same
 abbrev pub same_point : Point → Point → Bool
 same_point p q = int_eq p.x q.x && int_eq p.y q.y
 

@@ -6,7 +6,7 @@ use Rattle.plane_spec.specs.Segments.{is_on_segment, cross_properly, do_touch}
 use Rattle.plane_spec.specs.Polygons.{edges_to, passes_right, is_inside, is_counterclockwise}
 use Rattle.plane_spec.specs.Cones.{is_in_cone}
 use Rattle.plane_spec.specs.Fractions.{common_divisor, reduced, along}
-use Rattle.plane_spec.specs.Places.{do_rsegments_touch}
+use Rattle.plane_spec.specs.RPoints.{do_rsegments_touch}
 use Rattle.plan_spec.specs.Plan.{Obstacle, Plan, obstacle, screen, route, empty_plan, with_outer, with_obstacles, with_screens, with_routes}
 use Rattle.sight_spec.specs.Scene.{oriented_walls, oriented_corners, scene_of}
 use Rattle.sight_spec.specs.Sight.{starts_into_wall, corner_stops, is_blocked, are_in_sight, is_open}

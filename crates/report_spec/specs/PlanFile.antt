@@ -23,6 +23,6 @@ plan_read bytes (Err fault) = Err (fault.0, TextReason fault.1)
 plan_read bytes (Ok items) = plan_or_fault (numbers_read bytes items) (check_of (items_read items))
 
 -- the whole text is read first: the first line outside the grammar is told, and otherwise the first item that is
--- refused. No length is too long here: a file of more than `MAX_PLAN_BYTES` bytes is refused before its text is read
+-- refused. Bytes of any number are read here: a file of more than `MAX_PLAN_BYTES` is refused before its text is read
 unfoldable pub plan_in_file : List ℕ → PlanFound
 plan_in_file bytes = plan_read bytes (read_plan_text bytes)

@@ -61,7 +61,7 @@ why_words Missing = codes "missing" ∷ []
 why_words (Full limit) = codes "full" ∷ limit_word limit ∷ []
 why_words (Overlap name) = codes "overlap" ∷ name ∷ []
 
--- why a line of a script is refused
+-- why a line of a plan or of a script is refused
 abbrev pub reason_words : Reason → List (List ℕ)
 reason_words (TextReason why) = text_why_word why ∷ []
 reason_words (EditReason why) = why_words why
@@ -83,7 +83,7 @@ refused_record number reason = codes "refused" ∷ decimal number ∷ reason_wor
 abbrev pub Answer : Type 0
 Answer = Result (List (List (List ℕ))) Reason
 
--- there are more axial lines than are listed
+-- there are more than `MAX_AXIAL_LINES` axial lines
 abbrev pub has_too_many_lines : Scene → Bool
 has_too_many_lines scene = nat_lt MAX_AXIAL_LINES (length (axial_lines scene))
 

@@ -128,7 +128,7 @@ plan_table items = table (codes "plan") (plan_words items)
 
 -- ---- the tables of a plan
 
--- the pairs of grid points that see each other
+-- the pairs of open grid points that see each other
 abbrev pub edges_table_of : Plan → List (List (List ℕ))
 edges_table_of plan = edges_table (visibility_edges plan)
 

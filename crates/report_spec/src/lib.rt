@@ -2,7 +2,7 @@
 //!
 //! | item | what it is |
 //! |---|---|
-//! | [`Reason`] | why a line of a script is refused |
+//! | [`Reason`] | why a line of a plan or of a script is refused |
 //!
 //! The definitions stand in `specs/`, in the order in which they are read: `Records`, `Tables`, `Replies`, `Trial`,
 //! `PlanFile`, `Output`, `Messages`.

@@ -1,14 +1,14 @@
-//! Why a line of a script is refused.
+//! Why a line of a plan or of a script is refused.
 
 use grammar_spec::TextWhy;
 use plan_spec::Why;
 
-/// Why a line of a script is refused.
+/// Why a line of a plan or of a script is refused.
 #[derive(Drop)]
 pub enum Reason {
     /// It is outside the grammar.
     Text(TextWhy),
-    /// Its edit or its question is refused for a cause of plans.
+    /// Its item, its edit or its question is refused for a cause of plans.
     Edit(Why),
     /// No grid point stands there.
     NoPoint,

@@ -29,7 +29,7 @@ abbrev pub crossing_at : Route → Route → Fraction
 crossing_at r q =
     fraction (cross_of (vector r.from q.from) (vector_of_route q)) (cross_of (vector_of_route r) (vector_of_route q))
 
--- t is strictly between 0 and 1, so the point from + t (to - from) strictly between a segment's ends
+-- t is strictly between 0 and 1, so the point from + t (to - from) lies strictly between a segment's ends
 abbrev pub is_between_ends : Fraction → Bool
 is_between_ends t = int_lt (pos 0) t.num && int_lt t.num t.den
 
@@ -173,9 +173,9 @@ lesser (Some a) None = Some a
 lesser (Some a) (Some b) = if nat_lt b a then Some b else Some a
 
 -- the least of the costs that there are
-abbrev pub least_of : List (Option ℕ) → Option ℕ
-least_of [] = None
-least_of (a ∷ costs) = lesser a (least_of costs)
+abbrev pub min_of : List (Option ℕ) → Option ℕ
+min_of [] = None
+min_of (a ∷ costs) = lesser a (min_of costs)
 
 -- a cost with a turn more
 abbrev pub raised : ℕ → Option ℕ → Option ℕ
@@ -188,7 +188,7 @@ cost_by_way t s = if can_follow s.0 t then raised (turn_between s.0 t) s.1 else 
 
 -- a directed piece with the lesser of its cost and the least by way of another
 abbrev pub improved : List (DirectedPiece × Option ℕ) → DirectedPiece × Option ℕ → DirectedPiece × Option ℕ
-improved known t = (t.0, lesser t.1 (least_of (map (cost_by_way t.0) known)))
+improved known t = (t.0, lesser t.1 (min_of (map (cost_by_way t.0) known)))
 
 -- the source, in both headings, costs nothing
 abbrev pub at_source : ℕ → DirectedPiece → DirectedPiece × Option ℕ
@@ -210,4 +210,4 @@ cost_on e t = if t.0.0.0 == e.0 then t.1 else None
 -- piece twice, so walks of more further pieces than there are of these needn't be tried
 unfoldable pub turn_depths_of : List Piece → ℕ → List (Option ℕ)
 turn_depths_of pieces source =
-    map (λ e. least_of (map (cost_on e) (costs_within pieces source (2 * length pieces)))) (enumerate_from 0 pieces)
+    map (λ e. min_of (map (cost_on e) (costs_within pieces source (2 * length pieces)))) (enumerate_from 0 pieces)

@@ -10,72 +10,72 @@ use Rattle.plane_spec.specs.Lists.{min_by}
 use Rattle.plane_spec.specs.Fractions.{Fraction, is_before}
 use Rattle.sight_spec.specs.Scene.{Scene, blockers_of_scene}
 use Rattle.sight_spec.specs.Stops.{blocker_hit, corner_hit, start_hit, hits_of}
-use Rattle.sight_core.specs.Hits.{nearer, least_from, nearest_line_of, nearest_of}
+use Rattle.sight_core.specs.Hits.{nearer, min_from, nearest_line_of, nearest_of}
 
 -- with none before
-from_none : (hits : List Fraction) → least_from None hits ≡ min_by is_before hits
-unfolding least_from
+from_none : (hits : List Fraction) → min_from None hits ≡ min_by is_before hits
+unfolding min_from
 from_none hits = refl
 
 -- none is left
-pub least_from-nil : (best : Option Fraction) → least_from best [] ≡ best
-unfolding least_from
-least_from-nil None = refl
-least_from-nil (Some best) = refl
+pub min_from-nil : (best : Option Fraction) → min_from best [] ≡ best
+unfolding min_from
+min_from-nil None = refl
+min_from-nil (Some best) = refl
 
 -- the next hit
-least_from-cons : (best : Option Fraction) (hit : Fraction) (hits : List Fraction) → least_from best (hit ∷ hits) ≡ least_from (nearer best (Some hit)) hits
-unfolding least_from
-least_from-cons None hit hits = refl
-least_from-cons (Some best) hit hits = refl
+min_from-cons : (best : Option Fraction) (hit : Fraction) (hits : List Fraction) → min_from best (hit ∷ hits) ≡ min_from (nearer best (Some hit)) hits
+unfolding min_from
+min_from-cons None hit hits = refl
+min_from-cons (Some best) hit hits = refl
 
 nearer-none : (best : Option Fraction) → nearer best None ≡ best
 nearer-none None = refl
 nearer-none (Some best) = refl
 
-least_from-option : {X : Type 0} (f : X → Option Fraction) (best : Option Fraction) (x : X) (xs : List X)
-    → least_from best (filter_map f (x ∷ xs)) ≡ least_from (nearer best (f x)) (filter_map f xs)
-least_from-option f best x xs = by_hit (f x)
+min_from-option : {X : Type 0} (f : X → Option Fraction) (best : Option Fraction) (x : X) (xs : List X)
+    → min_from best (filter_map f (x ∷ xs)) ≡ min_from (nearer best (f x)) (filter_map f xs)
+min_from-option f best x xs = by_hit (f x)
   where
-    by_hit : (hit : Option Fraction) → least_from best (cons_option hit (filter_map f xs)) ≡ least_from (nearer best hit) (filter_map f xs)
-    by_hit None = ap (λ t. least_from t (filter_map f xs)) (sym (nearer-none best))
-    by_hit (Some hit) = least_from-cons best hit (filter_map f xs)
+    by_hit : (hit : Option Fraction) → min_from best (cons_option hit (filter_map f xs)) ≡ min_from (nearer best hit) (filter_map f xs)
+    by_hit None = ap (λ t. min_from t (filter_map f xs)) (sym (nearer-none best))
+    by_hit (Some hit) = min_from-cons best hit (filter_map f xs)
 
 -- the next element of a list
 pub least_from_more : {X : Type 0} (f : X → Option Fraction) (best : Option Fraction) (xs : List X) (k : ℕ) (d : X) → k < length xs
-    → least_from best (filter_map f (drop k xs)) ≡ least_from (nearer best (f (get_or xs k d))) (filter_map f (drop (k + 1) xs))
+    → min_from best (filter_map f (drop k xs)) ≡ min_from (nearer best (f (get_or xs k d))) (filter_map f (drop (k + 1) xs))
 least_from_more f best xs k d h =
-    rw (drop-cons xs k d) (rw (add-one) (least_from-option f best (get_or xs k d) (drop (suc k) xs)))
+    rw (drop-cons xs k d) (rw (add-one) (min_from-option f best (get_or xs k d) (drop (suc k) xs)))
 
 -- no element is left
 pub least_from_all : {X : Type 0} (f : X → Option Fraction) (best : Option Fraction) (xs : List X) (k : ℕ) → length xs ≤ k
-    → least_from best (filter_map f (drop k xs)) ≡ best
-least_from_all f best xs k h = rw (drop_all k xs h) (least_from-nil best)
+    → min_from best (filter_map f (drop k xs)) ≡ best
+least_from_all f best xs k h = rw (drop_all k xs h) (min_from-nil best)
 
 -- two lists, one after the other
-pub least_from-append : (best : Option Fraction) (xs ys : List Fraction) → least_from best (xs ++ ys) ≡ least_from (least_from best xs) ys
-least_from-append best [] ys = ap (λ t. least_from t ys) (sym (least_from-nil best))
-least_from-append best (x ∷ xs) ys =
-    least_from-cons best x (xs ++ ys) ∙ least_from-append (nearer best (Some x)) xs ys ∙ ap (λ t. least_from t ys) (sym (least_from-cons best x xs))
+pub min_from-append : (best : Option Fraction) (xs ys : List Fraction) → min_from best (xs ++ ys) ≡ min_from (min_from best xs) ys
+min_from-append best [] ys = ap (λ t. min_from t ys) (sym (min_from-nil best))
+min_from-append best (x ∷ xs) ys =
+    min_from-cons best x (xs ++ ys) ∙ min_from-append (nearer best (Some x)) xs ys ∙ ap (λ t. min_from t ys) (sym (min_from-cons best x xs))
 
 -- the walls and then the screens
 pub nearest_line_of_parts : (scene : Scene) (p d : Point) → nearest_line_of scene p d
-    ≡ least_from (least_from None (filter_map (blocker_hit p d) scene.walls)) (filter_map (blocker_hit p d) scene.screens)
+    ≡ min_from (min_from None (filter_map (blocker_hit p d) scene.walls)) (filter_map (blocker_hit p d) scene.screens)
 nearest_line_of_parts scene p d =
     sym (from_none (filter_map (blocker_hit p d) (blockers_of_scene scene)))
-    ∙ ap (λ t. least_from None t) (filter_map-append (blocker_hit p d) scene.walls scene.screens)
-    ∙ least_from-append None (filter_map (blocker_hit p d) scene.walls) (filter_map (blocker_hit p d) scene.screens)
+    ∙ ap (λ t. min_from None t) (filter_map-append (blocker_hit p d) scene.walls scene.screens)
+    ∙ min_from-append None (filter_map (blocker_hit p d) scene.walls) (filter_map (blocker_hit p d) scene.screens)
 
 -- the walls, the screens, the corners, and the walls again
 pub nearest_of_parts : (scene : Scene) (p d : Point) → nearest_of scene p d
-    ≡ least_from (least_from (least_from (least_from None (filter_map (blocker_hit p d) scene.walls)) (filter_map (blocker_hit p d) scene.screens))
+    ≡ min_from (min_from (min_from (min_from None (filter_map (blocker_hit p d) scene.walls)) (filter_map (blocker_hit p d) scene.screens))
     (filter_map (corner_hit p d) scene.corners)) (filter_map (start_hit p d) scene.walls)
 nearest_of_parts scene p d =
     let lines = filter_map-append (blocker_hit p d) scene.walls scene.screens in
     let corners = filter_map (corner_hit p d) scene.corners in
     let starts = filter_map (start_hit p d) scene.walls in
     sym (from_none (hits_of scene p d))
-    ∙ least_from-append None (filter_map (blocker_hit p d) (scene.walls ++ scene.screens)) (corners ++ starts)
-    ∙ least_from-append (least_from None (filter_map (blocker_hit p d) (scene.walls ++ scene.screens))) corners starts
-    ∙ ap (λ t. least_from (least_from (least_from None t) corners) starts) lines
-    ∙ ap (λ t. least_from (least_from t corners) starts) (least_from-append None (filter_map (blocker_hit p d) scene.walls) (filter_map (blocker_hit p d) scene.screens))
+    ∙ min_from-append None (filter_map (blocker_hit p d) (scene.walls ++ scene.screens)) (corners ++ starts)
+    ∙ min_from-append (min_from None (filter_map (blocker_hit p d) (scene.walls ++ scene.screens))) corners starts
+    ∙ ap (λ t. min_from (min_from (min_from None t) corners) starts) lines
+    ∙ ap (λ t. min_from (min_from t corners) starts) (min_from-append None (filter_map (blocker_hit p d) scene.walls) (filter_map (blocker_hit p d) scene.screens))

@@ -12,7 +12,7 @@ use Rattle.plane_spec.specs.Segments.{is_between, is_on_segment}
 use Rattle.plane_spec.specs.Cones.{is_in_cone}
 use Rattle.sight_spec.specs.Scene.{Scene}
 use Rattle.sight_spec.specs.Sight.{crosses, starts_or_ends_in_wall, corner_stops, corner_blocks, is_blocked}
-use Rattle.sight_core.specs.Blocks.{wall_blocks, turns_from}
+use Rattle.sight_core.specs.Blocks.{wall_blocks, blocks_towards}
 use Rattle.exact_geom.proofs.Orientation.{orient_of_first_exchanged}
 
 pub or_turned : (x y : Bool) → (x || y) ≡ (y || x)
@@ -46,14 +46,14 @@ and_or : (x y z : Bool) → ((x && y) || (x && z)) ≡ (x && (y || z))
 and_or true y z = refl
 and_or false y z = refl
 
-stops_is : (p q : Point) (c : Corner) → corner_stops p q c ≡ (is_on_segment c.here p q && turns_from q c)
-unfolding corner_stops turns_from
+stops_is : (p q : Point) (c : Corner) → corner_stops p q c ≡ (is_on_segment c.here p q && blocks_towards q c)
+unfolding corner_stops blocks_towards
 stops_is p q c = stops_by (not (same_point c.here q)) (is_on_segment c.here p q) (is_in_cone c (vector c.here q))
 
 -- a corner is in the way where it is on the segment, and has the direction to one of the ends in its cone
-pub corner_blocks_is : (p q : Point) (c : Corner) → corner_blocks p q c ≡ (is_on_segment c.here p q && (turns_from q c || turns_from p c))
+pub corner_blocks_is : (p q : Point) (c : Corner) → corner_blocks p q c ≡ (is_on_segment c.here p q && (blocks_towards q c || blocks_towards p c))
 corner_blocks_is p q c =
-    rw (stops_is p q c, stops_is q p c, on-turned c.here p q) (and_or (is_on_segment c.here p q) (turns_from q c) (turns_from p c))
+    rw (stops_is p q c, stops_is q p c, on-turned c.here p q) (and_or (is_on_segment c.here p q) (blocks_towards q c) (blocks_towards p c))
 
 -- ---- one pass for two tests
 

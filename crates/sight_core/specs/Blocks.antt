@@ -20,5 +20,5 @@ abbrev pub wall_blocks : Point → Point → Segment → Bool
 wall_blocks p q w = crosses p q w || starts_or_ends_in_wall p q w
 
 -- the corner isn't the point, and has the direction to it in its cone
-unfoldable pub turns_from : Point → Corner → Bool
-turns_from to c = not (same_point c.here to) && is_in_cone c (vector c.here to)
+unfoldable pub blocks_towards : Point → Corner → Bool
+blocks_towards to c = not (same_point c.here to) && is_in_cone c (vector c.here to)

@@ -23,9 +23,9 @@ nearer (Some best) None = Some best
 nearer (Some best) (Some hit) = Some (if is_before hit best then hit else best)
 
 -- the first of the least among the best so far and the hits after it
-unfoldable pub least_from : Option Fraction → List Fraction → Option Fraction
-least_from None hits = min_by is_before hits
-least_from (Some best) hits = Some (best_of is_before best hits)
+unfoldable pub min_from : Option Fraction → List Fraction → Option Fraction
+min_from None hits = min_by is_before hits
+min_from (Some best) hits = Some (best_of is_before best hits)
 
 -- the first of the least t at which the ray meets a wall or a screen, not reduced
 abbrev pub nearest_line_of : Scene → Point → Point → Option Fraction

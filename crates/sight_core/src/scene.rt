@@ -4,6 +4,7 @@ ghost use Rattle.std.specs.Prelude.{All, IfOk, IsTrue, OnOk, length, ◌≡◌, 
 ghost use Rattle.std.specs.List.{flat_map};
 ghost use Rattle.plane_spec.specs.Vectors.{InRange};
 ghost use Rattle.plan_spec.specs.Accepted.{is_sound};
+ghost use Rattle.plan_spec.specs.declared.limits.TheConstants.{MAX_CORNERS, MAX_SCREENS};
 ghost use Rattle.sight_spec.specs.Scene as scenes;
 ghost use Rattle.plane_spec.specs.Segments.{IsSegmentInRange};
 ghost use Rattle.plane_spec.specs.Cones.{IsCornerInRange};
@@ -41,7 +42,7 @@ impl Scene {
     pub fn walls(&self) -> &[Wall]
         ensures walls { result.now ≡ self.now.walls }
         ensures in_range { All IsSegmentInRange result.now }
-        ensures at_most { length result.now ≤ 1024 }
+        ensures at_most { length result.now ≤ MAX_CORNERS }
         ensures of_plan { IsOfSoundPlan self.now }
     {
         &self.walls
@@ -51,7 +52,7 @@ impl Scene {
     pub fn screens(&self) -> &[Wall]
         ensures screens { result.now ≡ self.now.screens }
         ensures in_range { All IsSegmentInRange result.now }
-        ensures at_most { length result.now ≤ 256 }
+        ensures at_most { length result.now ≤ MAX_SCREENS }
         ensures of_plan { IsOfSoundPlan self.now }
     {
         &self.screens
@@ -61,7 +62,7 @@ impl Scene {
     pub fn corners(&self) -> &[Corner]
         ensures corners { result.now ≡ self.now.corners }
         ensures in_range { All IsCornerInRange result.now }
-        ensures at_most { length result.now ≤ 1024 }
+        ensures at_most { length result.now ≤ MAX_CORNERS }
         ensures of_plan { IsOfSoundPlan self.now }
     {
         &self.corners

@@ -77,11 +77,11 @@ fn wall_blocks(p: Point, q: Point, wall: &Wall) -> bool
 }
 
 /// Whether the corner isn't `to` and has the direction to it in its cone.
-#[tactic(auto, unfolding(crate::specs::Blocks::turns_from))]
-fn turns_from(to: Point, corner: &Corner) -> bool
+#[tactic(auto, unfolding(crate::specs::Blocks::blocks_towards))]
+fn blocks_towards(to: Point, corner: &Corner) -> bool
     requires to_in { InRange to }
     requires corner_in { IsCornerInRange corner.now }
-    ensures { result ≡ blocks.turns_from to corner.now }
+    ensures { result ≡ blocks.blocks_towards to corner.now }
 {
     !same_point(corner.here, to) && in_cone(*corner, vector(corner.here, to))
 }
@@ -93,7 +93,7 @@ fn corner_blocks(p: Point, q: Point, corner: &Corner) -> bool
     requires corner_in { IsCornerInRange corner.now }
     ensures { result ≡ sight.corner_blocks p q corner.now }
 {
-    on_segment(corner.here, p, q) && (turns_from(q, corner) || turns_from(p, corner))
+    on_segment(corner.here, p, q) && (blocks_towards(q, corner) || blocks_towards(p, corner))
 }
 
 /// Whether one of the walls is in the way.

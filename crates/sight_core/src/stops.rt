@@ -25,7 +25,7 @@ fn nearest_blocker(best: Option<Hit>, lines: &[Wall], p: Point, d: Point) -> Opt
     requires lines_in { All IsSegmentInRange lines.now }
     requires p_in { InRange p }
     requires d_in { IsDirection d }
-    ensures { result ≡ hits.least_from best (filter_map (stops.blocker_hit p d) lines.now) }
+    ensures { result ≡ hits.min_from best (filter_map (stops.blocker_hit p d) lines.now) }
 {
     let mut nearest = best;
     for line in lines {
@@ -40,7 +40,7 @@ fn nearest_corner(best: Option<Hit>, corners: &[Corner], p: Point, d: Point) -> 
     requires p_in { InRange p }
     requires d_in { IsDirection d }
     requires directed { IsDirected d }
-    ensures { result ≡ hits.least_from best (filter_map (stops.corner_hit p d) corners.now) }
+    ensures { result ≡ hits.min_from best (filter_map (stops.corner_hit p d) corners.now) }
 {
     let mut nearest = best;
     for corner in corners {
@@ -54,7 +54,7 @@ fn nearest_start(best: Option<Hit>, walls: &[Wall], p: Point, d: Point) -> Optio
     requires walls_in { All IsSegmentInRange walls.now }
     requires p_in { InRange p }
     requires d_in { IsDirection d }
-    ensures { result ≡ hits.least_from best (filter_map (stops.start_hit p d) walls.now) }
+    ensures { result ≡ hits.min_from best (filter_map (stops.start_hit p d) walls.now) }
 {
     let mut nearest = best;
     for wall in walls {

@@ -77,10 +77,10 @@ bare_lines = axial_lines bare
 -- the old corners see the new ones
 a_new_box_makes_each_corner_dirty :
     dirty_corner_count (changed_boxes room (Add [] (box 4 4 6 6))) bare bare_lines (scene_of (room_with middle)) ≡ 8
-unfolding dirty_corners is_dirty_corner is_dirty_line is_dirty_pair changed_boxes with_points does_meet_box does_extent_meet_box is_box_left_of_line axial_lines are_in_sight is_blocked starts_into_wall corner_stops stop_of blocker_hit corner_hit start_hit is_in_cone oriented_walls oriented_corners is_counterclockwise edges_to is_on_segment cross_properly along reduced common_divisor
+unfolding is_dirty_corner is_dirty_line is_dirty_pair changed_boxes with_points does_meet_box does_extent_meet_box is_box_left_of_line axial_lines are_in_sight is_blocked starts_into_wall corner_stops stop_of blocker_hit corner_hit start_hit is_in_cone oriented_walls oriented_corners is_counterclockwise edges_to is_on_segment cross_properly along reduced common_divisor
 a_new_box_makes_each_corner_dirty = refl
 
 a_new_route_makes_no_corner_dirty :
     dirty_corners (changed_boxes room (AddRoute [] (at 1 1) (at 9 9))) bare bare_lines bare ≡ []
-unfolding dirty_corners is_dirty_corner is_dirty_line is_dirty_pair changed_boxes with_points does_meet_box does_extent_meet_box is_box_left_of_line axial_lines are_in_sight is_blocked starts_into_wall corner_stops stop_of blocker_hit corner_hit start_hit is_in_cone oriented_walls oriented_corners is_counterclockwise edges_to is_on_segment cross_properly along reduced common_divisor
+unfolding is_dirty_corner is_dirty_line is_dirty_pair changed_boxes with_points does_meet_box does_extent_meet_box is_box_left_of_line axial_lines are_in_sight is_blocked starts_into_wall corner_stops stop_of blocker_hit corner_hit start_hit is_in_cone oriented_walls oriented_corners is_counterclockwise edges_to is_on_segment cross_properly along reduced common_divisor
 a_new_route_makes_no_corner_dirty = refl

@@ -102,7 +102,7 @@ screens_are_numbered_after_walls : near_wall_of (scene_of screened) (at 0 5) (at
 unfolding near_wall_of blocker_hit oriented_walls is_counterclockwise edges_to
 screens_are_numbered_after_walls = refl
 
--- ---- targets of one station
+-- ---- targets of one point
 
 what_is_asked_is_answered_in_order :
     answers_to (scene_of (room_with middle)) (at 0 5) (ToPoint (at 4 5) ∷ AlongRay (at 2 0) ∷ ToPoint (at 6 5) ∷ [])

@@ -6,7 +6,7 @@ use Rattle.plane_spec.specs.declared.Corner.{Corner}
 use Rattle.plane_spec.specs.Lists.{numbered_pairs, distinct_by}
 use Rattle.plane_spec.specs.Vectors.{point, vector}
 use Rattle.plane_spec.specs.Fractions.{Fraction, RPoint, whole_point, along, same_rpoint}
-use Rattle.plane_spec.specs.Places.{do_rsegments_touch}
+use Rattle.plane_spec.specs.RPoints.{do_rsegments_touch}
 use Rattle.sight_spec.specs.Scene.{Scene}
 use Rattle.sight_spec.specs.Sight.{are_in_sight}
 use Rattle.sight_spec.specs.Stops.{stop_of}

@@ -8,7 +8,7 @@ use Rattle.plane_spec.specs.declared.Corner.{Corner}
 use Rattle.plane_spec.specs.declared.PlanBox.{PlanBox}
 use Rattle.plane_spec.specs.Vectors.{point, orient_of, same_point}
 use Rattle.plane_spec.specs.Fractions.{whole}
-use Rattle.plane_spec.specs.Places.{is_between_fractions}
+use Rattle.plane_spec.specs.RPoints.{is_between_fractions}
 use Rattle.plane_spec.specs.Boxes.{does_meet_box, does_extent_meet_box, is_on_extent}
 use Rattle.plan_spec.specs.declared.edit.Changed.{Changed}
 use Rattle.sight_spec.specs.Scene.{Scene}
@@ -77,7 +77,7 @@ is_dirty_corner boxes old lines new p =
     || (is_dirty_to_another boxes new p || list_any (λ l. is_dirty_line boxes old l && is_on_axial_line old p l) lines)
 
 -- the dirty corners of the new scene, each beside its number
-unfoldable pub dirty_corners : Changed → Scene → List AxialLine → Scene → List (ℕ × Point)
+abbrev pub dirty_corners : Changed → Scene → List AxialLine → Scene → List (ℕ × Point)
 dirty_corners boxes old lines new =
     filter (λ e. is_dirty_corner boxes old lines new e.1) (enumerate_from 0 (map here_of new.corners))
 

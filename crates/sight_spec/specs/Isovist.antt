@@ -52,12 +52,12 @@ abbrev pub stops_at_once : Option Fraction → Bool
 stops_at_once None = false
 stops_at_once (Some t) = int_eq t.num (pos 0)
 
--- the wall that is seen between two directions, by what the ray in the direction of their sum meets: none in a gap of
+-- the wall or screen that is seen between two directions, by what the ray in the direction of their sum meets: none in a gap of
 -- a half turn or more, nor from a lone direction round to itself, nor where the ray is stopped at once
 abbrev pub wall_by : Point → Point → RayHit → Option ℕ
 wall_by e f hit = if int_le (cross_of e f) (pos 0) || stops_at_once hit.stop then None else hit.wall
 
--- the wall that is seen from p between two directions, or none
+-- the wall or screen that is seen from p between two directions, or none
 unfoldable pub wall_between : Scene → Point → Point → Point → Option ℕ
 wall_between scene p e f = wall_by e f (ray_hit scene p (sum_of e f))
 
@@ -85,7 +85,7 @@ sectors_by gaps hits = map sector_by (zip gaps hits)
 
 -- ---- runs
 
--- a longest stretch of consecutive sectors that have one wall
+-- consecutive sectors that have one wall or screen, as many as there are
 pub record Run : Type 0 where
   pub from : Point
   pub to : Point
@@ -134,7 +134,7 @@ pub record Triangle : Type 0 where
   pub doubled_area : Fraction
   pub wall : ℕ
 
--- what stands for a wall where there is none
+-- what stands for a wall or screen where there is none
 abbrev pub no_segment : Segment
 no_segment = record { a = point (pos 0) (pos 0); b = point (pos 0) (pos 0) }
 

@@ -48,6 +48,7 @@ are_in_sight scene p q = not (same_point p q) && not (is_blocked scene p q)
 
 -- ---- openness
 
+-- x is inside the obstacle
 abbrev pub has_inside : Point → Obstacle → Bool
 has_inside x o = is_inside x o.points
 

@@ -49,7 +49,7 @@ hits_of scene p d =
 unfoldable pub stop_of : Scene → Point → Point → Option Fraction
 stop_of scene p d = option_map reduced (min_by is_before (hits_of scene p d))
 
--- w is hit, and none of the lines is hit before it
+-- w is hit, and none of the walls and screens is hit before it
 abbrev pub is_nearest : Point → Point → List Segment → Segment → Bool
 is_nearest p d lines w = is_first (blocker_hit p d w)
   where

@@ -1,4 +1,4 @@
--- What is asked of a station in one turn round, and what is answered.
+-- What is asked of a point from which one looks all round, and what is answered.
 use Rattle.std.specs.Prelude.{Bool, List, map}
 use Rattle.plane_spec.specs.declared.Point.{Point}
 use Rattle.sight_spec.specs.declared.target.Target.{Target}

@@ -4,7 +4,7 @@
 //!
 //! | item | what it is |
 //! |---|---|
-//! | [`Target`] | what is asked of a station |
+//! | [`Target`] | what is asked of the point from which one looks |
 //!
 //! The definitions stand in `specs/`, in the order in which they are read: `Scene`, `Sight`, `Visibility`, `Stops`,
 //! `Sweep`, `Isovist`, `Axial`, `Dirty`.

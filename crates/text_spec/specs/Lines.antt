@@ -28,7 +28,7 @@ without_last (part ∷ next ∷ parts) = part ∷ without_last (next ∷ parts)
 abbrev pub whole_lines_of : List ℕ → List (List ℕ)
 whole_lines_of bytes = without_last (slice_split is_newline bytes)
 
--- the part that stands last, but for an empty one
+-- the last part, or nothing where it is empty
 unfoldable pub last_unless_empty : List (List ℕ) → List (List ℕ)
 last_unless_empty [] = []
 last_unless_empty (part ∷ []) = if length part == 0 then [] else part ∷ []

@@ -9,7 +9,7 @@ pub const MAX_LINE_BYTES: usize = 20000;
 /// The line without one carriage return that stands last in it.
 pub fn without_return(line: &[u8]) -> &[u8]
     ensures bytes { result.now ≡ without_return line.now }
-    ensures front { take (length result.now) line.now ≡ result.now }
+    ensures prefix { take (length result.now) line.now ≡ result.now }
 {
     line.strip_suffix(b"\r").unwrap_or(line)
 }

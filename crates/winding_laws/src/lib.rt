@@ -20,7 +20,7 @@
 //! | law | what it says | breaks if .. changes |
 //! |---|---|---|
 //! | [`windings_agree_off_the_edges`] | the edges go round both ends of a segment equally often, where it touches none of them | `do_touch`, `edges_of` |
-//! | [`an_odd_winding_is_inside`] | what is on no edge is inside exactly where its winding is odd: not where it is 0, and where it is 1 or -1 | `is_inside`, `passes_right` |
+//! | [`what_is_gone_round_once_is_inside`] | what the edges don't go round isn't inside; what is on no edge and what they go round once, one way or the other, is | `is_inside`, `passes_right` |
 //!
 //! Definitions: `wind`, `winding`, `near`, `GoesRoundNear`. Proofs cite `proofs/`: `OneEdge` and `Crossed` (one
 //! edge), `Closed`, `Parity`, `Turned`, `Scaled` (all edges), `Near`, `Strips`, `Settles` (close to a point).
@@ -42,7 +42,7 @@ pub fn windings_agree_off_the_edges()
 
 /// A point that a polygon's edges don't go round isn't inside it; a point on no edge that they go round once, one way
 /// or the other, is.
-pub fn an_odd_winding_is_inside()
+pub fn what_is_gone_round_once_is_inside()
     ensures none { (points : List Point) (x : Point) → winding x (edges_of points) ≡ pos 0
         → is_inside x points ≡ false }
     ensures once { (points : List Point) (x : Point) → is_on_border x points ≡ false

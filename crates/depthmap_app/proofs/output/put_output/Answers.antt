@@ -3,7 +3,7 @@ use Rattle.std.specs.List.{All}
 use Rattle.dm_io.specs.Streams.{WritesPrefix, appended_to}
 use Rattle.plane_spec.specs.Vectors.{InRange}
 use Rattle.depthmap_app.specs.Edges.{edges_among, edges_bytes}
-use Rattle.depthmap_app.specs.Outputs.{output_of}
+use Rattle.depthmap_app.specs.Outputs.{edges_output_of}
 use Rattle.depthmap_app.proofs.OpenPoints.{open_points-at_most, open_points-in_range}
 use Rattle.depthmap_app.proofs.OutputIs.{output-is}
 use Rattle.depthmap_app.proofs.output.put_output.Goals as goal

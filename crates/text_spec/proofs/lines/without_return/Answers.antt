@@ -10,7 +10,7 @@ returns-clause-bytes c =
     let found = strip_suffix_is Decides-eqb c.args.line.now _ c.strip_suffix.result c.strip_suffix.ensures.cases in
     ap (λ r. r.now) c.unwrap_or.ensures ∙ stripped c.args.line.now c.strip_suffix.result c.args.line found refl
 
-pub returns-clause-front : goal.returns-clause-front
-returns-clause-front c =
+pub returns-clause-prefix : goal.returns-clause-prefix
+returns-clause-prefix c =
     let shown : c.unwrap_or.result.now ≡ without_return c.args.line.now = returns-clause-bytes c in
     rw shown (shown_front c.args.line.now)

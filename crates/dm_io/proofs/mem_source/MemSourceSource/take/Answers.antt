@@ -7,6 +7,6 @@ pub returns-clause-bytes : goal.returns-clause-bytes
 returns-clause-bytes c =
     let bytes : List ℕ = c.args.self.now.bytes.items in
     let at : ℕ = c.args.self.now.at in
-    let n : ℕ = c.copy_front-count.result in
-    let same : take n c.copy_front-count.new.into ≡ take n (drop at bytes) = grind (arith, common_steps) in
-    (grind (arith, common_steps), grind (arith, common_steps), ap (λ b. Some b) (moved bytes c.copy_front-count.new.into at n same))
+    let n : ℕ = c.copy_prefix-count.result in
+    let same : take n c.copy_prefix-count.new.into ≡ take n (drop at bytes) = grind (arith, common_steps) in
+    (grind (arith, common_steps), grind (arith, common_steps), ap (λ b. Some b) (moved bytes c.copy_prefix-count.new.into at n same))

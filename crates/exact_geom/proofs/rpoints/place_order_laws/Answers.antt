@@ -1,5 +1,5 @@
 use Rattle.exact_geom.proofs.PlaceOrder.{place_reversed, place_transitive, place_alike, place_equal}
-use Rattle.exact_geom.proofs.places.place_order_laws.Goals as goal
+use Rattle.exact_geom.proofs.rpoints.rpoint_order_laws.Goals as goal
 
 pub returns : goal.returns
 returns c = record {

@@ -1,5 +1,5 @@
 use Rattle.exact_geom.proofs.Along.{along_within}
-use Rattle.exact_geom.proofs.places.places_are_small.Goals as goal
+use Rattle.exact_geom.proofs.rpoints.rpoints_are_small.Goals as goal
 
 pub returns : goal.returns
 returns c = along_within

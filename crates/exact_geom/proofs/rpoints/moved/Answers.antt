@@ -3,7 +3,7 @@ use Rattle.std.specs.Prelude.{FitsSigned}
 use Rattle.std.proofs.lemmas.Int.{to_z-of_z}
 use mir.Syntax.{w64, w128}
 use Rattle.int_laws.proofs.Ring.{product_swapped}
-use Rattle.exact_geom.proofs.places.moved.Goals as goal
+use Rattle.exact_geom.proofs.rpoints.moved.Goals as goal
 
 pub returns-clause-value : goal.returns-clause-value
 returns-clause-value c =

@@ -1,5 +1,5 @@
 use Rattle.winding_laws.proofs.Parity.{outside_where_none, inside_where_once}
-use Rattle.winding_laws.proofs.an_odd_winding_is_inside.Goals as goal
+use Rattle.winding_laws.proofs.what_is_gone_round_once_is_inside.Goals as goal
 
 pub returns-clause-none : goal.returns-clause-none
 returns-clause-none c = outside_where_none

@@ -11,9 +11,9 @@ ghost use Rattle.plane_spec.specs.declared.Point.{Point};
 ghost use Rattle.plane_spec.specs.declared.TheConstants.{MAX_COMPONENT, MAX_COORDINATE};
 ghost use Rattle.plane_spec.specs.Fractions as fractions;
 ghost use Rattle.plane_spec.specs.Fractions.{Fraction, RPoint};
-ghost use Rattle.exact_geom.specs.Parts.{HasCoordinateParts, HasPlaceParts, HasStopParts, same_parts};
-ghost use Rattle.exact_geom.specs.Places as places;
-ghost use Rattle.exact_geom.specs.Places.{IsOverPositive};
+ghost use Rattle.exact_geom.specs.Parts.{HasCoordinateParts, HasRPointParts, HasStopParts, same_parts};
+ghost use Rattle.exact_geom.specs.RPoints as places;
+ghost use Rattle.exact_geom.specs.RPoints.{IsOverPositive};
 ghost use Rattle.exact_geom.specs.declared.limits.TheConstants.{MAX_COORDINATE_PART, MAX_STOP_PART};
 
 use crate::arithmetic::{scaled, sum};
@@ -84,7 +84,7 @@ impl RPoint {
     pub fn at(p: Point) -> RPoint
         requires { InRange p }
         ensures value { result ≡ fractions.whole_point p }
-        ensures within { HasPlaceParts result }
+        ensures within { HasRPointParts result }
     {
         RPoint {
             x: Frac::whole(p.x),
@@ -100,7 +100,7 @@ impl RPoint {
         requires d_in { IsDirection d }
         requires t_in { HasStopParts t.now }
         ensures value { result ≡ fractions.along p d t.now }
-        ensures within { HasPlaceParts result }
+        ensures within { HasRPointParts result }
     {
         RPoint {
             x: shifted(p.x, d.x, t),
@@ -109,13 +109,13 @@ impl RPoint {
     }
 
     /// The order of two points: by the first coordinate, and by the second where the first ones have one value. It is an
-    /// order of points, as [`place_order_laws`] says.
+    /// order of points, as [`rpoint_order_laws`] says.
     ///
     /// Cost: two or four products.
     pub fn compare(&self, other: &RPoint) -> Ordering
-        requires self_in { HasPlaceParts self.now }
-        requires other_in { HasPlaceParts other.now }
-        ensures { result ≡ places.place_order_of self.now other.now }
+        requires self_in { HasRPointParts self.now }
+        requires other_in { HasRPointParts other.now }
+        ensures { result ≡ places.rpoint_order_of self.now other.now }
     {
         match self.x.compare(&other.x) {
             Ordering::Less => Ordering::Less,
@@ -126,8 +126,8 @@ impl RPoint {
 }
 
 /// The parts of `p + t d` are at most 10^18 in size, for callers that hold such a point by its definition alone.
-pub fn places_are_small()
-    ensures { (p d : Point) (t : Fraction) → InRange p → IsDirection d → HasStopParts t → HasPlaceParts (fractions.along p d t) }
+pub fn rpoints_are_small()
+    ensures { (p d : Point) (t : Fraction) → InRange p → IsDirection d → HasStopParts t → HasRPointParts (fractions.along p d t) }
 {}
 
 /// `p + t d` depends on the value of `t` alone, so `t` may be reduced before.
@@ -140,9 +140,9 @@ pub fn along_is_by_value()
 /// equal are exactly the points that are one.
 ///
 /// Proofs cite these laws from `proofs/PlaceOrder.antt`.
-pub fn place_order_laws()
-    ensures reversed { (p q : RPoint) → places.place_order_of q p ≡ ordering_reverse (places.place_order_of p q) }
-    ensures transitive { (p q r : RPoint) → IsOverPositive p → IsOverPositive q → IsOverPositive r → places.place_order_of p q ≡ Less → places.place_order_of q r ≡ Less → places.place_order_of p r ≡ Less }
-    ensures equal_compare_alike { (p q r : RPoint) → IsOverPositive p → IsOverPositive q → IsOverPositive r → places.place_order_of p q ≡ Equal → places.place_order_of p r ≡ places.place_order_of q r }
-    ensures equal_are_one { (p q : RPoint) → (places.place_order_of p q ≡ Equal) ↔ (fractions.same_rpoint p q ≡ true) }
+pub fn rpoint_order_laws()
+    ensures reversed { (p q : RPoint) → places.rpoint_order_of q p ≡ ordering_reverse (places.rpoint_order_of p q) }
+    ensures transitive { (p q r : RPoint) → IsOverPositive p → IsOverPositive q → IsOverPositive r → places.rpoint_order_of p q ≡ Less → places.rpoint_order_of q r ≡ Less → places.rpoint_order_of p r ≡ Less }
+    ensures equal_compare_alike { (p q r : RPoint) → IsOverPositive p → IsOverPositive q → IsOverPositive r → places.rpoint_order_of p q ≡ Equal → places.rpoint_order_of p r ≡ places.rpoint_order_of q r }
+    ensures equal_are_one { (p q : RPoint) → (places.rpoint_order_of p q ≡ Equal) ↔ (fractions.same_rpoint p q ≡ true) }
 {}

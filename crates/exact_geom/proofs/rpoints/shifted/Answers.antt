@@ -6,7 +6,7 @@ use Rattle.plane_spec.specs.Vectors.{IsWithin}
 use Rattle.plane_spec.specs.Fractions as fractions
 use Rattle.exact_geom.specs.Parts.{HasPartsWithin}
 use Rattle.exact_geom.proofs.Lowest.{within_more, reduced_no_larger}
-use Rattle.exact_geom.proofs.places.shifted.Goals as goal
+use Rattle.exact_geom.proofs.rpoints.shifted.Goals as goal
 
 den_within : (c : goal.After-moved) → IsWithin (pos (10 ^ 12)) c.den-den.result
 den_within c = subst (λ z. IsWithin (pos (10 ^ 12)) z) (sym c.den-den.ensures.value) c.requires.t_in.den
