@@ -11,4 +11,4 @@ pub mod Rounding
 pub mod Turns
 pub mod TurnLaws
 pub mod Orders
-pub mod PlaceOrder
+pub mod RPointOrder

@@ -139,7 +139,7 @@ pub fn along_is_by_value()
 /// The order of points whose coordinates stand over denominators of at least 1, of any size: it is a strict weak order, and
 /// equal are exactly the points that are one.
 ///
-/// Proofs cite these laws from `proofs/PlaceOrder.antt`.
+/// Proofs cite these laws from `proofs/RPointOrder.antt`.
 pub fn rpoint_order_laws()
     ensures reversed { (p q : RPoint) → places.rpoint_order_of q p ≡ ordering_reverse (places.rpoint_order_of p q) }
     ensures transitive { (p q r : RPoint) → IsOverPositive p → IsOverPositive q → IsOverPositive r → places.rpoint_order_of p q ≡ Less → places.rpoint_order_of q r ≡ Less → places.rpoint_order_of p r ≡ Less }

@@ -20,7 +20,7 @@ use Rattle.plane_spec.specs.Lists.{min_by}
 use Rattle.plane_spec.specs.Vectors.{cross_of, vector}
 use Rattle.plane_spec.specs.Fractions.{Fraction, fraction, is_before}
 use Rattle.exact_geom.proofs.Lowest.{fraction_is_positive}
-use Rattle.exact_geom.proofs.PlaceOrder.{before_transitive, before_follows}
+use Rattle.exact_geom.proofs.RPointOrder.{before_transitive, before_follows}
 use Rattle.sight_spec.specs.Scene.{Scene, blockers_of_scene}
 use Rattle.sight_spec.specs.Stops.{is_across, wall_parameter, blocker_hit, is_nearest, near_wall_of}
 use Rattle.sight_core.specs.Hits.{is_no_later, is_hit_by, nearest_line_of}

@@ -1,4 +1,4 @@
-use Rattle.exact_geom.proofs.PlaceOrder.{place_reversed, place_transitive, place_alike, place_equal}
+use Rattle.exact_geom.proofs.RPointOrder.{place_reversed, place_transitive, place_alike, place_equal}
 use Rattle.exact_geom.proofs.rpoints.rpoint_order_laws.Goals as goal
 
 pub returns : goal.returns
