@@ -1,0 +1,4 @@
+pub mod Apart
+pub mod Simple
+pub mod Within
+mod Examples
