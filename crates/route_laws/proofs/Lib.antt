@@ -1,0 +1,5 @@
+pub mod Lists
+pub mod Cuts
+pub mod Pieces
+pub mod Turns
+mod Examples
