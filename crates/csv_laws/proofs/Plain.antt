@@ -1,0 +1,1 @@
+-- Names and numbers are plain.
