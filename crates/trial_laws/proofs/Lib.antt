@@ -1,0 +1,4 @@
+pub mod Root
+pub mod Cells
+pub mod Accepted
+mod Examples
