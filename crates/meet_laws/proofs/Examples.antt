@@ -2,7 +2,7 @@
 use Rattle.std.proofs.Common.{◌≡◌, refl, pos, true, false}
 use Rattle.plane_spec.specs.Vectors.{point}
 use Rattle.plane_spec.specs.Fractions.{Fraction, fraction, along, whole_point, reduced, common_divisor}
-use Rattle.plane_spec.specs.Places.{do_rsegments_touch}
+use Rattle.plane_spec.specs.RPoints.{do_rsegments_touch}
 use Rattle.meet_laws.specs.Stretches.{Stretch, is_between_parameters, do_reach_crossing, do_extents_meet}
 
 abbrev half : Fraction

@@ -8,7 +8,7 @@ use Rattle.int_laws.proofs.Signs.{not_negative_product}
 use Rattle.plane_spec.specs.declared.Point.{Point}
 use Rattle.plane_spec.specs.Vectors.{vector, cross_of}
 use Rattle.plane_spec.specs.Fractions.{Fraction, RPoint, is_before, is_at_least, is_at_most}
-use Rattle.plane_spec.specs.Places.{is_between_fractions, do_rsegments_touch}
+use Rattle.plane_spec.specs.RPoints.{is_between_fractions, do_rsegments_touch}
 use Rattle.meet_laws.specs.Stretches.{HasValue, IsAt, is_zero_between, gap, is_in_extents, AreAllBefore}
 use Rattle.meet_laws.proofs.Identities.{three_directions, three_directions_up}
 use Rattle.meet_laws.proofs.Values.{before_by_value}

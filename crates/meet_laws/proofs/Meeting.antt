@@ -9,7 +9,7 @@ use Rattle.int_laws.proofs.Tests.{tested_equal}
 use Rattle.plane_spec.specs.declared.Point.{Point}
 use Rattle.plane_spec.specs.Vectors.{vector, cross_of}
 use Rattle.plane_spec.specs.Fractions.{Fraction, RPoint}
-use Rattle.plane_spec.specs.Places.{orient_of_rpoints, is_between_fractions, is_rpoint_on_segment, do_rsegments_touch}
+use Rattle.plane_spec.specs.RPoints.{orient_of_rpoints, is_between_fractions, is_rpoint_on_segment, do_rsegments_touch}
 use Rattle.meet_laws.specs.Stretches.{HasValue, IsAt, is_zero_between, gap}
 use Rattle.meet_laws.proofs.Identities.{three_directions, three_directions_up, side_ahead, reach_parts, reach_gathered, both_ahead}
 use Rattle.meet_laws.proofs.Values.{HaveOneSign, zero_tested, before_by_value, after_by_value}

@@ -10,7 +10,7 @@ use Rattle.plane_spec.specs.declared.Point.{Point}
 use Rattle.plane_spec.specs.Segments.{are_opposite}
 use Rattle.plane_spec.specs.Vectors.{vector, cross_of}
 use Rattle.plane_spec.specs.Fractions.{RPoint}
-use Rattle.plane_spec.specs.Places.{do_rsegments_touch}
+use Rattle.plane_spec.specs.RPoints.{do_rsegments_touch}
 use Rattle.meet_laws.specs.Stretches.{IsAt, gap, is_in_extents}
 use Rattle.meet_laws.proofs.Identities.{three_directions, three_directions_up}
 use Rattle.meet_laws.proofs.Values.{HaveOneSign, zero_tested, one_sign}

@@ -7,7 +7,7 @@ use Rattle.int_laws.proofs.Tests.{equal_tested}
 use Rattle.plane_spec.specs.declared.Point.{Point}
 use Rattle.plane_spec.specs.Vectors.{vector, cross_of, point, same_point, IsDirected}
 use Rattle.plane_spec.specs.Fractions.{RPoint}
-use Rattle.plane_spec.specs.Places.{do_rsegments_touch}
+use Rattle.plane_spec.specs.RPoints.{do_rsegments_touch}
 use Rattle.meet_laws.specs.Stretches.{Stretch, IsStretchOf, AreAllBefore, is_zero_between, is_between_parameters, is_between_parameters_turned, do_reach_crossing, do_reach_crossing_turned, do_extents_meet}
 use Rattle.meet_laws.proofs.Identities.{cross_back}
 use Rattle.meet_laws.proofs.Signs.{IsNonzero, by_zero}

@@ -4,7 +4,7 @@ use Rattle.int_laws.proofs.Ring.{product_grouped, product_swapped}
 use Rattle.plane_spec.specs.declared.Point.{Point}
 use Rattle.plane_spec.specs.Vectors.{vector, cross_of}
 use Rattle.plane_spec.specs.Fractions.{RPoint}
-use Rattle.plane_spec.specs.Places.{minus, times, orient_of_rpoints}
+use Rattle.plane_spec.specs.RPoints.{minus, times, orient_of_rpoints}
 use Rattle.meet_laws.specs.Stretches.{IsAt, gap}
 use Rattle.meet_laws.proofs.Values.{HaveOneSign, one_sign, product_up, value_as, minus_value, times_value}
 use Rattle.meet_laws.proofs.Identities.{step_between, step_from, turn_from, turn_parts, area_parts}

@@ -7,7 +7,7 @@ use Rattle.int_laws.proofs.Ring.{zero_times}
 use Rattle.int_laws.proofs.Signs.{positive_product}
 use Rattle.int_laws.proofs.Tests.{same_test}
 use Rattle.plane_spec.specs.Fractions.{Fraction, is_before}
-use Rattle.plane_spec.specs.Places.{minus, times}
+use Rattle.plane_spec.specs.RPoints.{minus, times}
 use Rattle.meet_laws.specs.Stretches.{HasValue}
 use Rattle.meet_laws.proofs.Identities.{minus_scaled, minus_gathered, times_scaled}
 

@@ -3,7 +3,7 @@ use Rattle.std.specs.Prelude.{◌≡◌, ℤ, pos, ◌+ℤ◌, ◌-ℤ◌, ◌*�
 use Rattle.plane_spec.specs.declared.Point.{Point}
 use Rattle.plane_spec.specs.Vectors.{vector, cross_of, IsDirected}
 use Rattle.plane_spec.specs.Fractions.{Fraction, RPoint, is_before}
-use Rattle.plane_spec.specs.Places.{is_between_fractions}
+use Rattle.plane_spec.specs.RPoints.{is_between_fractions}
 
 -- ---- points of a line
 

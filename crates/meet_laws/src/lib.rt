@@ -31,7 +31,7 @@
 ghost use Rattle.std.specs.Prelude.{false, neg_ℤ, pos, ◌+ℤ◌, ◌<ℤ◌, ◌≡◌, ◌≢◌, ◌≤ℤ◌};
 ghost use Rattle.plane_spec.specs.declared.Point.{Point};
 ghost use Rattle.plane_spec.specs.Fractions.{along, Fraction, RPoint, whole_point};
-ghost use Rattle.plane_spec.specs.Places.{do_rsegments_touch};
+ghost use Rattle.plane_spec.specs.RPoints.{do_rsegments_touch};
 ghost use Rattle.plane_spec.specs.Vectors.{cross_of, vector};
 ghost use Rattle.meet_laws.specs.Stretches.{
   AreAllBefore,

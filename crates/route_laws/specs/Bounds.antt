@@ -2,7 +2,7 @@
 use Rattle.std.specs.Prelude.{pos, ◌<ℤ◌}
 use Rattle.plane_spec.specs.Fractions.{Fraction, RPoint, IsReduced}
 use Rattle.plane_spec.specs.Vectors.{IsDirection, IsDirected}
-use Rattle.exact_geom.specs.Parts.{HasStopParts, HasPlaceParts}
+use Rattle.exact_geom.specs.Parts.{HasStopParts, HasRPointParts}
 use Rattle.route_spec.specs.Routes.{Piece}
 
 -- a cut lies strictly between the ends of its route, and its parts are as small as those of a stop
@@ -15,7 +15,7 @@ pub record IsCut (t : Fraction) : Type 0 where
 pub record IsEnd (r : RPoint) : Type 0 where
   pub x : IsReduced r.x
   pub y : IsReduced r.y
-  pub parts : HasPlaceParts r
+  pub parts : HasRPointParts r
 
 -- a piece between two such ends, in a direction that leads somewhere
 pub record IsPieceInRange (r : Piece) : Type 0 where
