@@ -1,4 +1,11 @@
--- When two lines meet that aren't parallel, and when two that are.
+-- Segments of lines that aren't parallel meet where each has its ends on different sides of the other's line, or on it.
+--
+-- By definition they meet where they cross properly, or where an end of one is in line with the other and in its
+-- extents. An orientation has the sign of how far its third point lies before the other line (`Turning`), so a proper
+-- crossing is a matter of sides. So are the extents: an end that is on the other line differs from each end of the
+-- other segment by a multiple of that line's direction, and the multiple is how far that end lies before the first
+-- line, over the cross product of the directions. In x and in y the same numbers are asked for, and one of the two
+-- components of a direction isn't 0.
 use Rattle.std.proofs.Common.{◌≡◌, refl, sym, ap, ◌∙◌, subst, arith, ℤ, pos, neg_ℤ, ◌+ℤ◌, ◌-ℤ◌, ◌*ℤ◌, ◌≤ℤ◌, Bool, true, false, ◌⊎◌, inl, inr}
 use Rattle.std.specs.Prelude.{◌&&◌}
 use Rattle.std.specs.Ordering.{int_eq}

@@ -1,4 +1,10 @@
 -- When two stretches meet, by their directions and parameters.
+--
+-- Where the lines cross, 0 lies between how far the ends of each lie before the other line (`Meeting`), and this is
+-- that the parameter of the crossing lies between theirs (`Within`). Where they are parallel all ends of one lie on one
+-- side of the other's line, or all on it, and then the extents decide (`Parallel`). Where all of one lies before the
+-- other in a coordinate, no parameter of a crossing can be between those of both, nor do extents share a number
+-- (`Apart`, `Extents`).
 use Rattle.std.proofs.Common.{◌≡◌, refl, ap, ◌∙◌, arith, ℤ, pos, neg_ℤ, ◌<ℤ◌, Bool, true, false, ◌⊎◌, inl, inr}
 use Rattle.std.specs.Prelude.{◌&&◌}
 use Rattle.std.proofs.lemmas.Int.{ints}

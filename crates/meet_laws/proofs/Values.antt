@@ -13,6 +13,7 @@ use Rattle.meet_laws.proofs.Identities.{minus_scaled, minus_gathered, times_scal
 
 -- ---- signs
 
+-- both are positive, both are 0, or both are negative
 pub record HaveOneSign (x y : ℤ) : Type 0 where
   pub above : int_lt (pos 0) x ≡ int_lt (pos 0) y
   pub below : int_lt x (pos 0) ≡ int_lt y (pos 0)
@@ -26,6 +27,7 @@ above_scaled x a up = ap (λ t. int_lt t (x *ℤ a)) (sym (zero_times a)) ∙ sa
 below_scaled : (x a : ℤ) → pos 1 ≤ℤ a → int_lt (x *ℤ a) (pos 0) ≡ int_lt x (pos 0)
 below_scaled x a up = ap (λ t. int_lt (x *ℤ a) t) (sym (zero_times a)) ∙ same_test x (pos 0) a up
 
+-- numbers of which multiples by positive numbers are equal have one sign
 pub one_sign : (x y a b : ℤ) → pos 1 ≤ℤ a → pos 1 ≤ℤ b → x *ℤ a ≡ y *ℤ b → HaveOneSign x y
 one_sign x y a b a_up b_up e = record {
   above = sym (above_scaled x a a_up) ∙ ap (λ t. int_lt (pos 0) t) e ∙ above_scaled y b b_up;
@@ -37,9 +39,11 @@ product_up a b h k = let e = positive_product a b (omega (arith, ints)) (omega (
 
 -- ---- fractions
 
+-- the same value, its numerator written otherwise
 pub value_as : (f : Fraction) (n k m : ℤ) → n ≡ k → HasValue f n m → HasValue f k m
 value_as f n k m e h = subst (λ t. HasValue f t m) e h
 
+-- the value of a difference and of a product
 pub minus_value : (f g : Fraction) (n m k l : ℤ) → HasValue f n m → HasValue g k l
     → HasValue (minus f g) (n *ℤ l -ℤ k *ℤ m) (m *ℤ l)
 minus_value f g n m k l h i = record {
@@ -62,6 +66,7 @@ times_value f g n m k l h i = record {
       ∙ sym (times_scaled n k f.den g.den);
 }
 
+-- a numerator has the sign of the value
 pub sign_of_value : (f : Fraction) (n m : ℤ) → HasValue f n m → HaveOneSign f.num n
 sign_of_value f n m h = one_sign f.num n m f.den h.over h.part h.equal
 
@@ -71,6 +76,7 @@ before_is f g = grind (arith, ints)
 after_is : (f g : Fraction) → is_before g f ≡ int_lt (pos 0) (minus f g).num
 after_is f g = grind (arith, ints)
 
+-- the order of fractions is that of their values
 pub before_by_value : (f g : Fraction) (n m k l : ℤ) → HasValue f n m → HasValue g k l
     → is_before f g ≡ int_lt (n *ℤ l -ℤ k *ℤ m) (pos 0)
 before_by_value f g n m k l h i = before_is f g ∙ (sign_of_value (minus f g) _ _ (minus_value f g n m k l h i)).below

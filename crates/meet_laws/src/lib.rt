@@ -8,10 +8,11 @@
 //!     p ───╱ a                  where t / k and u / k lie between their parameters.
 //! ```
 //!
-//! `do_rsegments_touch` looks at the signs of orientations of points with fractions, which have parts of some 10^60.
-//! These laws say the same of cross products of whole points and of comparisons of fractions, whose parts fit into
-//! machine words. They hold for any points and directions. The proofs are identities of cross products: an orientation
-//! has the sign of how far the third point lies before the other line, and that is a whole number of degree 3.
+//! `do_rsegments_touch` looks at the signs of orientations of points with fractions, whose parts have some hundred
+//! digits where those of the points have eighteen. These laws say the same by cross products of whole points and by
+//! comparing fractions, whose products have thirty. They hold for any points and directions. The proofs are identities
+//! of cross products: an orientation has the sign of how far the third point lies before the line of the other two,
+//! which is a whole number of degree 3.
 //!
 //! A law is a function without parameters and with an empty body, whose contract states it.
 //!
