@@ -7,7 +7,7 @@ use Rattle.std.specs.Ordering.{int_eq}
 use Rattle.std.specs.List.{filter_map}
 use Rattle.std.proofs.lemmas.Int.{ints}
 use Rattle.std.proofs.lemmas.Bool.{and_parts, cond_both}
-use Rattle.std.proofs.lemmas.List.Elements.{All-weaker}
+use Rattle.std.proofs.lemmas.List.Elements.{All-contains, All-weaker}
 use Rattle.int_laws.proofs.Ring.{product_swapped}
 use Rattle.int_laws.proofs.Tests.{tested_less, equal_tested}
 use Rattle.plane_spec.specs.declared.Point.{Point}
@@ -69,6 +69,15 @@ between_ends t h parts =
     let both = and_parts (int_lt (pos 0) t.num) (int_lt t.num t.den) h in
     record { ahead = tested_less _ _ both.0; before = tested_less _ _ both.1; parts = parts }
 
+-- wherever the line of one route crosses that of another
+pub crossing_within : (r q : Route) → IsRouteInRange r → IsRouteInRange q
+    → HasPartsWithin (pos (10 ^ 12)) (crossing_at r q)
+crossing_within r q r_in q_in =
+    fraction_within _ _
+    (cross_within (vector r.from q.from) (vector_of_route q) (vector_within r.from q.from r_in.from_in q_in.from_in)
+    (direction_within q q_in))
+    (cross_within (vector_of_route r) (vector_of_route q) (direction_within r r_in) (direction_within q q_in))
+
 pub cut_is : (r q : Route) → IsRouteInRange r → IsRouteInRange q → (t : Fraction) → cut_of r q ≡ Some t → IsCut t
 cut_is r q r_in q_in t e =
     let aside = not (int_eq (cross_of (vector_of_route r) (vector_of_route q)) (pos 0)) in
@@ -76,12 +85,7 @@ cut_is r q r_in q_in t e =
     let hit = passed (aside && (touch && is_between_ends (crossing_at r q))) (crossing_at r q) t e in
     let rest = and_parts touch (is_between_ends (crossing_at r q))
     (and_parts aside (touch && is_between_ends (crossing_at r q)) hit.0).1 in
-    let gap = cross_within (vector r.from q.from) (vector_of_route q)
-    (vector_within r.from q.from r_in.from_in q_in.from_in)
-    (direction_within q q_in) in
-    let turn = cross_within (vector_of_route r) (vector_of_route q) (direction_within r r_in)
-    (direction_within q q_in) in
-    subst IsCut hit.1 (between_ends (crossing_at r q) rest.1 (fraction_within _ _ gap turn))
+    subst IsCut hit.1 (between_ends (crossing_at r q) rest.1 (crossing_within r q r_in q_in))
 
 -- a route is in line with itself
 pub no_cut_by_itself : (r : Route) → cut_of r r ≡ None
@@ -120,3 +124,10 @@ all_cuts plan sound =
     All-weaker IsRouteInRange (λ r. All IsCut (cuts_of plan.routes r)) (λ r r_in. cuts_are plan.routes r r_in all)
     plan.routes
     all
+
+pub all_crossings : (plan : Plan) → is_sound plan ≡ true → (r q : Route) → Contains plan.routes r
+    → Contains plan.routes q → HasPartsWithin (pos (10 ^ 12)) (crossing_at r q)
+all_crossings plan sound r q r_there q_there =
+    let all = sound_routes plan sound in
+    crossing_within r q (All-contains IsRouteInRange plan.routes r all r_there)
+    (All-contains IsRouteInRange plan.routes q all q_there)

@@ -11,6 +11,7 @@
 //!
 //! | law | what it says | rests on |
 //! |---|---|---|
+//! | [`crossings_have_small_parts`] | where the lines of two routes cross, the parts are as small as those of a stop | `crossing_at` |
 //! | [`cuts_lie_between_the_ends`] | a cut lies strictly between its route's ends, and its parts are as small as those of a stop | `cuts_of` |
 //! | [`a_route_has_fewer_cuts_than_there_are_routes`] | no route cuts itself, and each other one cuts it once at most | `cuts_of` |
 //! | [`pieces_are_in_range`] | the ends of pieces are in lowest terms and can be compared, and their directions lead somewhere | `pieces_of` |
@@ -29,8 +30,10 @@ ghost use Rattle.plane_spec.specs.Vectors.{cross_of, IsDirection, IsWithin};
 ghost use Rattle.plan_spec.specs.declared.item.Route.{Route};
 ghost use Rattle.plan_spec.specs.Accepted.{is_sound};
 ghost use Rattle.plan_spec.specs.Plan.{Plan};
+ghost use Rattle.exact_geom.specs.Parts.{HasStopParts};
 ghost use Rattle.exact_geom.specs.declared.limits.TheConstants.{MAX_CROSS};
 ghost use Rattle.route_spec.specs.Routes.{
+  crossing_at,
   cuts_of,
   IsTurnDepth,
   Piece,
@@ -41,6 +44,13 @@ ghost use Rattle.route_spec.specs.Routes.{
   turn_table,
 };
 ghost use Rattle.route_laws.specs.Bounds.{IsCut, IsPieceInRange};
+
+/// The `t` at which the line of one route of a sound plan crosses that of another has a numerator and a denominator of
+/// at most [`MAX_STOP_PART`](exact_geom::MAX_STOP_PART) in size, whether the routes meet there or not.
+pub fn crossings_have_small_parts()
+    ensures { (plan : Plan) → is_sound plan ≡ true → (r q : Route) → Contains plan.routes r → Contains plan.routes q
+        → HasStopParts (crossing_at r q) }
+{}
 
 /// Each cut of a sound plan's routes lies strictly between the ends of its route, and its numerator and denominator
 /// are at most [`MAX_STOP_PART`](exact_geom::MAX_STOP_PART) in size.
