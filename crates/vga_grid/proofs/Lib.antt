@@ -1,0 +1,8 @@
+pub mod Rows
+pub mod Words
+pub mod Changes
+pub mod Counting
+pub mod EdgeLists
+pub mod EdgeCount
+pub mod Numbers
+pub mod Covered
