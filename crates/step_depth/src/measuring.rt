@@ -1,0 +1,124 @@
+//! What is measured at the nodes of a graph.
+
+ghost use Rattle.std.specs.Prelude.{◌≡◌, ℕ, ◌+◌, ◌-◌, ◌*◌, ◌<◌, ◌≤◌, pos, ◌-ℤ◌, ◌*ℤ◌, length, IfOk, map};
+ghost use Rattle.plane_spec.specs.Fractions.{reduced};
+ghost use Rattle.plane_spec.specs.Vectors.{IsWithin};
+ghost use Rattle.graph_spec.specs.Graphs.{mean_depth, relative_asymmetry};
+ghost use Rattle.step_depth.specs.Measured.{measured};
+
+use crate::reach::Reach;
+use exact_geom::Frac;
+use std::alloc::Global;
+use std::marker::Model;
+use text_spec::NoMemory;
+
+/// What is measured at a node.
+#[derive(Clone, Copy, Debug)]
+pub struct Measure {
+    /// How many neighbours it has.
+    pub connectivity: u32,
+    /// How many nodes it reaches, itself included.
+    pub reached: u32,
+    /// The sum of their depths.
+    pub total: u64,
+    /// The mean depth of the other nodes reached, where there are any.
+    pub mean: Option<Frac>,
+    /// The relative asymmetry, where at least three nodes are reached.
+    pub ra: Option<Frac>,
+}
+
+impl Model for Measure {
+    ghost use Rattle.graph_spec.specs.Graphs.{Measures};
+
+    ghost Value = { Measures };
+
+    ghost view = { λ m. record { connectivity = m.connectivity; reached = m.reached; total = m.total; mean = m.mean; asymmetry = m.ra } };
+
+    ghost inverse = { λ v. record { connectivity = v.connectivity; reached = v.reached; total = v.total; mean = v.mean; ra = v.asymmetry } };
+}
+
+/// The mean depth of the other nodes reached.
+fn mean_of(reached: u32, total: u64) -> Option<Frac>
+    ensures { result ≡ mean_depth reached total }
+{
+    if reached < 2 {
+        return None;
+    }
+    Some(Frac::new(i128::from(total), i128::from(reached - 1)))
+}
+
+/// The difference of a total and a number of nodes.
+fn difference(a: u64, b: u32) -> i128
+    ensures value { result ≡ pos a -ℤ pos b }
+    ensures within { IsWithin (pos 100000000000000000000) result }
+{
+    i128::from(a) - i128::from(b)
+}
+
+/// Twice an integer.
+fn twice(z: i128) -> i128
+    requires { IsWithin (pos 100000000000000000000) z }
+    ensures value { result ≡ pos 2 *ℤ z }
+    ensures within { IsWithin (pos 1000000000000000000000) result }
+{
+    2 * z
+}
+
+/// How many ordered pairs of the other nodes there are.
+fn pairs_of(reached: u32) -> u64
+    requires { 3 ≤ reached }
+    ensures value { result ≡ (reached - 1) * (reached - 2) }
+    ensures some { 0 < result }
+{
+    u64::from(reached - 1) * u64::from(reached - 2)
+}
+
+/// A fraction over a whole number of at least 1, in lowest terms.
+fn over(num: i128, den: u64) -> Frac
+    requires num { IsWithin (pos 1000000000000000000000) num }
+    requires den { 0 < den }
+    ensures { result ≡ reduced (record { num = num; den = pos den }) }
+{
+    Frac::new(num, i128::from(den))
+}
+
+/// The relative asymmetry, 2 (mean - 1) / (reached - 2).
+fn asymmetry_of(reached: u32, total: u64) -> Option<Frac>
+    ensures { result ≡ relative_asymmetry reached total }
+{
+    if reached < 3 {
+        return None;
+    }
+    Some(over(twice(difference(total, reached - 1)), pairs_of(reached)))
+}
+
+/// What is measured at a node that reaches so much.
+fn measure_of(reach: Reach) -> Measure
+    ensures { result ≡ measured reach }
+{
+    Measure {
+        connectivity: reach.connectivity,
+        reached: reach.reached,
+        total: reach.total,
+        mean: mean_of(reach.reached, reach.total),
+        ra: asymmetry_of(reach.reached, reach.total),
+    }
+}
+
+/// What is measured at nodes that reach so much, one after another.
+pub(crate) fn measure_each(alloc: Global, reaches: &[Reach]) -> Result<Vec<Measure>, NoMemory>
+    ensures { IfOk result (λ ms. ms.items ≡ map measured reaches.now) }
+{
+    let mut measures = Vec::new(alloc);
+    for reach in reaches {
+        measures.push(measure_of(*reach))?;
+    }
+    Ok(measures)
+}
+
+fn is_shared<T: Send + Sync>() {}
+
+/// Measures may be moved to another thread and shared between threads.
+pub fn types_are_shared() {
+    is_shared::<Measure>();
+}
