@@ -139,7 +139,7 @@ fn is_seen(rt: &impl Abort, alloc: Global, plan: &Plan, open: u32, edges: &[(u32
         Err(_) => panic!(rt; "there is memory"),
     }
     match open_points(alloc, plan) {
-        Ok(points) => assert!(rt; points.len() as u32 == open),
+        Ok(points) => assert!(rt; points.len() == open as usize),
         Err(_) => panic!(rt; "there is memory"),
     }
 }
