@@ -13,7 +13,6 @@
 #![tactic(auto)]
 
 mod edges;
-mod grid;
 mod host;
 mod messages;
 mod output;

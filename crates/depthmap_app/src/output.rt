@@ -5,11 +5,11 @@ ghost use Rattle.dm_io.specs.Streams.{WritesPrefix, Rose, appended_to};
 ghost use Rattle.depthmap_app.specs.Outputs.{edges_output_of};
 
 use crate::edges::put_edges;
-use crate::grid::open_points;
 use dm_io::Sink;
 use plan_check::Plan;
 use sight_core::scene_of;
 use std::alloc::Global;
+use vga_grid::open_points;
 
 /// Why not all was printed.
 #[derive(Clone, Copy, Debug, PartialEq, Eq)]

@@ -43,7 +43,12 @@ fn parts_of(fraction: Option<Frac>) -> Option<(i128, i128)> {
 }
 
 /// The first nodes have these measures.
-fn measure_as(rt: &(impl Abort + Threads + Sync), alloc: Global, graph: &BitGraph, expected: &[Expected]) {
+fn measure_as(
+    rt: &(impl Abort + Threads + Sync),
+    alloc: Global,
+    graph: &BitGraph,
+    expected: &[Expected],
+) {
     let found = match measures(rt, alloc, graph) {
         Ok(found) => found,
         Err(_) => panic!(rt; "there is memory"),
@@ -51,8 +56,14 @@ fn measure_as(rt: &(impl Abort + Threads + Sync), alloc: Global, graph: &BitGrap
     assert!(rt; found.len() == graph.len() as usize && expected.len() <= found.len());
     for k in 0..expected.len() {
         let (m, e) = (found[k], expected[k]);
-        assert!(rt; m.connectivity == e.0 && m.reached == e.1 && m.total == e.2, "node {k}");
-        assert!(rt; parts_of(m.mean) == e.3 && parts_of(m.ra) == e.4, "node {k}");
+        assert!(rt;
+            m.connectivity == e.0 && m.reached == e.1 && m.total == e.2,
+            "node {k}"
+        );
+        assert!(rt;
+            parts_of(m.mean) == e.3 && parts_of(m.ra) == e.4,
+            "node {k}"
+        );
     }
 }
 
@@ -80,17 +91,50 @@ fn worked_plans_have_their_measures(rt: HostRuntime) {
     measure_as(&rt, alloc, &corners, &[corner, corner, corner, corner]);
 
     let round = [
-        (0, 1), (0, 2), (0, 3), (0, 5), (0, 6), (0, 7), (1, 2), (1, 3), (1, 5), (1, 6), (1, 8), (2, 3), (2, 5),
-        (2, 7), (2, 8), (3, 6), (3, 7), (3, 8), (5, 6), (5, 7), (5, 8), (6, 7), (6, 8), (7, 8),
+        (0, 1),
+        (0, 2),
+        (0, 3),
+        (0, 5),
+        (0, 6),
+        (0, 7),
+        (1, 2),
+        (1, 3),
+        (1, 5),
+        (1, 6),
+        (1, 8),
+        (2, 3),
+        (2, 5),
+        (2, 7),
+        (2, 8),
+        (3, 6),
+        (3, 7),
+        (3, 8),
+        (5, 6),
+        (5, 7),
+        (5, 8),
+        (6, 7),
+        (6, 8),
+        (7, 8),
     ];
     let nine = graph_with(&rt, alloc, 9, &round);
     let open = (6, 8, 8, Some((8, 7)), Some((1, 21)));
-    measure_as(&rt, alloc, &nine, &[open, open, open, open, ALONE, open, open, open, open]);
+    measure_as(
+        &rt,
+        alloc,
+        &nine,
+        &[open, open, open, open, ALONE, open, open, open, open],
+    );
 
     let grazed = graph_with(&rt, alloc, 4, &[(0, 1), (0, 2), (1, 2), (1, 3), (2, 3)]);
     let far = (2, 4, 4, Some((4, 3)), Some((1, 3)));
     measure_as(&rt, alloc, &grazed, &[far, corner, corner, far]);
-    lie_at(&rt, alloc, &grazed, 0, &[Some(0), Some(1), Some(1), Some(2)]);
+    lie_at(
+        &rt,
+        alloc,
+        &grazed,
+        0,
+        &[Some(0), Some(1), Some(1), Some(2)],
+    );
 
     let rooms = graph_with(&rt, alloc, 4, &[(0, 1), (1, 3)]);
     let end = (1, 3, 3, Some((3, 2)), Some((1, 1)));
@@ -108,8 +152,19 @@ fn small_graphs_have_their_measures(rt: HostRuntime) {
     let parts = graph_with(&rt, alloc, 5, &[(0, 1), (2, 3), (3, 4), (4, 2)]);
     let pair = (1, 2, 1, Some((1, 1)), None);
     let triangle = (2, 3, 2, Some((1, 1)), Some((0, 1)));
-    measure_as(&rt, alloc, &parts, &[pair, pair, triangle, triangle, triangle]);
-    lie_at(&rt, alloc, &parts, 3, &[None, None, Some(1), Some(0), Some(1)]);
+    measure_as(
+        &rt,
+        alloc,
+        &parts,
+        &[pair, pair, triangle, triangle, triangle],
+    );
+    lie_at(
+        &rt,
+        alloc,
+        &parts,
+        3,
+        &[None, None, Some(1), Some(0), Some(1)],
+    );
 }
 
 /// A path of so many nodes, each joined to the next.

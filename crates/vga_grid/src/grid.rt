@@ -2,6 +2,7 @@
 
 ghost use Rattle.std.specs.Prelude.{◌≡◌, ◌≢◌, ℕ, ◌*◌, ◌<◌, ◌≤◌, ℤ, pos, ◌+ℤ◌, ◌*ℤ◌, ◌≤ℤ◌, unsigned_abs, length, IfOk, IfSome, IfNone, IsTrue, Some};
 ghost use Rattle.plane_spec.specs.Vectors.{InRange, IsWithin};
+ghost use Rattle.plane_spec.specs.declared.TheConstants.{MAX_COORDINATE};
 ghost use Rattle.plan_spec.specs.declared.limits.TheConstants.{MAX_GRID_POINTS, MAX_STEP};
 ghost use Rattle.plan_spec.specs.Accepted.{is_sound};
 ghost use Rattle.plan_spec.specs.Grid as grid;
@@ -54,7 +55,7 @@ fn count_of(g: GridSpec) -> u32
 
 /// A coordinate of the points in column or row `k`.
 fn coordinate(first: i64, step: i64, k: u32) -> i64
-    requires first_in { IsWithin (pos 100000) first }
+    requires first_in { IsWithin MAX_COORDINATE first }
     requires step_in { IsFromTo (pos 1) MAX_STEP step }
     requires k_in { k < MAX_GRID_POINTS }
     ensures { result ≡ first +ℤ step *ℤ pos k }
