@@ -27,7 +27,7 @@ use Rattle.plane_spec.specs.Polygons.{is_on_edge}
 use Rattle.plane_spec.specs.Fractions.{Fraction, fraction, whole}
 use Rattle.sight_spec.specs.Sight.{is_in_interior}
 use Rattle.sight_spec.specs.Scene.{Scene, blockers_of_scene}
-use Rattle.sight_spec.specs.Stops.{is_across, meeting, blocker_hit, corner_hit, start_hit, hits_of}
+use Rattle.sight_spec.specs.Stops.{is_across, wall_parameter, blocker_hit, corner_hit, start_hit, hits_of}
 use Rattle.box_laws.specs.Boxes.{IsIn, OfEnds}
 use Rattle.box_laws.proofs.Touching.{order_stays, line_turned}
 use Rattle.box_laws.proofs.Blocking.{or_cases, on_edge_in}
@@ -89,11 +89,11 @@ line_parts : {P : Type 0} (p d : Point) (w : Segment) (t : Fraction) → blocker
     → (Straddles p d w.a w.b t → P) → (Straddles p d w.b w.a t → P) → P
 unfolding blocker_hit
 line_parts p d w t e f g =
-    let hit = passed (is_across p d w && int_lt (pos 0) (meeting p d w).num) (meeting p d w) t e in
-    let tests = and_parts (is_across p d w) (int_lt (pos 0) (meeting p d w).num) hit.0 in
+    let hit = passed (is_across p d w && int_lt (pos 0) (wall_parameter p d w).num) (wall_parameter p d w) t e in
+    let tests = and_parts (is_across p d w) (int_lt (pos 0) (wall_parameter p d w).num) hit.0 in
     let u = cross_of d (vector p w.a) in
     let v = cross_of d (vector p w.b) in
-    let more : pos 0 <ℤ t.num = subst (λ s. pos 0 <ℤ s.num) hit.1 (tested_less (pos 0) (meeting p d w).num tests.1) in
+    let more : pos 0 <ℤ t.num = subst (λ s. pos 0 <ℤ s.num) hit.1 (tested_less (pos 0) (wall_parameter p d w).num tests.1) in
     or_cases (int_lt u (pos 0) && int_lt (pos 0) v) (int_lt (pos 0) u && int_lt v (pos 0)) tests.0
     (λ k. let both = and_parts (int_lt u (pos 0)) (int_lt (pos 0) v) k in
     let low = tested_less u (pos 0) both.0 in
