@@ -52,7 +52,8 @@ left_of_clockwise points h round = let s = sides points h in by_round s.0 s.1 s.
 
 pub counterclockwise_left : (points : List Point) → is_simple points ≡ true → is_counterclockwise points ≡ true
     → GoesRoundOnLeft (edges_of points) (pos 1)
-counterclockwise_left points h round = has_orientation (edges_of points) (pos 1) (left_of_counterclockwise points h round)
+counterclockwise_left points h round =
+    has_orientation (edges_of points) (pos 1) (left_of_counterclockwise points h round)
 
 pub counterclockwise_right : (points : List Point) → is_simple points ≡ true → is_counterclockwise points ≡ true
     → GoesRoundOnLeft (map turned_edge (edges_of points)) (pos 0)

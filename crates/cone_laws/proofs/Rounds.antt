@@ -8,7 +8,8 @@ use Rattle.plane_spec.specs.declared.Orientation.TheVariants.{Counterclockwise, 
 use Rattle.plane_spec.specs.Segments.{is_on_segment}
 use Rattle.plane_spec.specs.Cones.{corner}
 use Rattle.plane_spec.specs.Polygons.{edges_to, edges_of, is_counterclockwise, is_simple}
-use Rattle.sight_spec.specs.Scene.{corners_after, last_edge, corners_along, turned_corner, turned_edge, oriented_corners}
+use Rattle.sight_spec.specs.Scene.{corners_after, last_edge, corners_along}
+use Rattle.sight_spec.specs.Scene.{turned_corner, turned_edge, oriented_corners}
 use Rattle.sight_spec.specs.Scene.{oriented_walls}
 use Rattle.plane_laws.proofs.Lists.Members.{IsIn, mapped, source}
 use Rattle.plane_laws.proofs.Tests.{clash}

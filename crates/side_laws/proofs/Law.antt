@@ -65,5 +65,9 @@ pub sides_of_simple : (points : List Point) → is_simple points ≡ true
 sides_of_simple [] h = cc
 sides_of_simple (start ∷ points) h =
     let s = sound start points (simple_from start points h) in
-    let edges = edges_of (start ∷ points) in
-    (s.0, has_orientation edges s.0 s.1, has_orientation (map turned_edge edges) (pos 1 -ℤ s.0) (turned_sound edges s.0 s.1))
+    let edges = edges_of (start ∷ points) in (
+      s.0,
+      has_orientation edges s.0 s.1,
+      has_orientation (map turned_edge edges) (pos 1 -ℤ s.0)
+          (turned_sound edges s.0 s.1),
+    )

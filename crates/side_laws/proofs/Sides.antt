@@ -16,7 +16,8 @@ use Rattle.int_laws.proofs.Ring.{times_sum, times_zero, cross_across, cross_of_t
 use Rattle.int_laws.proofs.Signs.{zero_factor, tested_not_positive, tested_positive}
 use Rattle.plane_spec.specs.declared.Point.{Point}
 use Rattle.plane_spec.specs.declared.Segment.{Segment}
-use Rattle.plane_spec.specs.Vectors.{cross_of, dot_of, orient_of, same_point, vector, point, turns_left, is_left_of_line}
+use Rattle.plane_spec.specs.Vectors.{cross_of, dot_of, orient_of, same_point}
+use Rattle.plane_spec.specs.Vectors.{vector, point, turns_left, is_left_of_line}
 use Rattle.plane_spec.specs.Segments.{is_on_segment, do_touch}
 use Rattle.plane_spec.specs.Cones.{corner, is_in_cone}
 use Rattle.exact_geom.proofs.Orientation.{orient_of_cycled}

@@ -20,7 +20,8 @@ use Rattle.plane_spec.specs.Segments.{is_between, is_on_segment, cross_properly}
 use Rattle.plane_spec.specs.Polygons.{is_on_edge, is_inside, is_simple, has_repeat, crosses_nowhere}
 use Rattle.plane_spec.specs.Cones.{is_in_cone}
 use Rattle.sight_spec.specs.Scene.{Scene, oriented_walls, oriented_corners, blockers_of_scene}
-use Rattle.sight_spec.specs.Sight.{crosses, is_in_interior, starts_into_wall, starts_or_ends_in_wall, corner_stops, corner_blocks}
+use Rattle.sight_spec.specs.Sight.{crosses, is_in_interior, starts_into_wall}
+use Rattle.sight_spec.specs.Sight.{starts_or_ends_in_wall, corner_stops, corner_blocks}
 use Rattle.sight_spec.specs.Sight.{is_blocked}
 use Rattle.list_laws.proofs.Tests.{list_any_agree}
 use Rattle.plane_laws.specs.Enlarged.{enlarged, part_way}
@@ -95,7 +96,8 @@ through_between points p q p_in q_in =
         let f = height_from w.a w.b p q in
         omega (arith, ints, e, f, h, k)
 
-    left : (w : Segment) → IsIn (oriented_walls Counterclockwise (map (enlarged 2) points)) w → pos 0 <ℤ height w (part_way 1 2 p q)
+    left : (w : Segment) → IsIn (oriented_walls Counterclockwise (map (enlarged 2) points)) w
+        → pos 0 <ℤ height w (part_way 1 2 p q)
     left w there =
         let o = source (scaled_wall (pos 2) (pos 2)) (oriented_walls Counterclockwise points) w
         (subst (λ t. IsIn t w) (walls_enlarged 2 points (omega arith)) there) in
@@ -144,7 +146,8 @@ pub blocked_back : (scene : Scene) (p q : Point) → is_blocked scene q p ≡ is
 unfolding is_blocked
 blocked_back scene p q = rw (
   list_any_agree (crosses q p) (crosses p q) (crosses_back p q) (blockers_of_scene scene),
-  list_any_agree (starts_or_ends_in_wall q p) (starts_or_ends_in_wall p q) (λ w. or_comm (starts_into_wall q p w) (starts_into_wall p q w)) scene.walls,
+  list_any_agree (starts_or_ends_in_wall q p) (starts_or_ends_in_wall p q)
+      (λ w. or_comm (starts_into_wall q p w) (starts_into_wall p q w)) scene.walls,
   list_any_agree (corner_blocks q p) (corner_blocks p q)
       (λ c. or_comm (corner_stops q p c) (corner_stops p q c)) scene.corners,
 ) refl
@@ -174,12 +177,15 @@ nothing_in_the_way walls corners p (stopped c there h) =
     at x p h = grind (arith, ints)
 
 pub point_unblocked : (points : List Point) (p : Point) → is_blocked (obstacle_alone points) p p ≡ true → ⊥
-point_unblocked points p h = by_side (no_screens (oriented_walls Counterclockwise points) (oriented_corners Counterclockwise points) p p h)
+point_unblocked points p h =
+    by_side (no_screens (oriented_walls Counterclockwise points) (oriented_corners Counterclockwise points) p p h)
   where
     by_side : InTheWay (oriented_walls Counterclockwise points) (oriented_corners Counterclockwise points) p p
         ⊎ InTheWay (oriented_walls Counterclockwise points) (oriented_corners Counterclockwise points) p p → ⊥
-    by_side (inl way) = nothing_in_the_way (oriented_walls Counterclockwise points) (oriented_corners Counterclockwise points) p way
-    by_side (inr way) = nothing_in_the_way (oriented_walls Counterclockwise points) (oriented_corners Counterclockwise points) p way
+    by_side (inl way) =
+        nothing_in_the_way (oriented_walls Counterclockwise points) (oriented_corners Counterclockwise points) p way
+    by_side (inr way) =
+        nothing_in_the_way (oriented_walls Counterclockwise points) (oriented_corners Counterclockwise points) p way
 
 -- ---- the laws
 

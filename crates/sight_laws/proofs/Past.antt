@@ -36,7 +36,8 @@ use Rattle.sight_laws.proofs.Passing.{through_blocked, blocked_through}
 no_screen : (points : List Point) (p q : Point) → is_blocked (obstacle_alone points) p q ≡ true
     → InTheWay (oriented_walls Counterclockwise points) (oriented_corners Counterclockwise points) p q
     ⊎ InTheWay (oriented_walls Counterclockwise points) (oriented_corners Counterclockwise points) q p
-no_screen points p q h = no_screens (oriented_walls Counterclockwise points) (oriented_corners Counterclockwise points) p q h
+no_screen points p q h =
+    no_screens (oriented_walls Counterclockwise points) (oriented_corners Counterclockwise points) p q h
 
 -- what blocks by itself blocks in the plan
 obstacle_in_plan : (plan : Plan) (o : Obstacle) (p q : Point) → IsIn plan.obstacles o

@@ -75,7 +75,8 @@ left_where_odd walls closed some convex x off odd w there =
     (λ f f_there. each_fails (is_on_edge x) walls f off f_there))) odd))
 
 -- a simple polygon has a wall
-some_wall : (points : List Point) → is_simple points ≡ true → (w : Segment) × IsIn (oriented_walls Counterclockwise points) w
+some_wall : (points : List Point) → is_simple points ≡ true
+    → (w : Segment) × IsIn (oriented_walls Counterclockwise points) w
 unfolding oriented_walls
 some_wall points simple = by_turn (is_counterclockwise points) (some_edge points simple)
   where
@@ -91,7 +92,8 @@ some_wall points simple = by_turn (is_counterclockwise points) (some_edge points
     by_turn false e = (turned_edge e.0, mapped turned_edge (edges_of points) e.0 e.1)
 
 -- what no repeat means for the walls
-real_walls : (points : List Point) → has_repeat points ≡ false → (w : Segment) → IsIn (oriented_walls Counterclockwise points) w
+real_walls : (points : List Point) → has_repeat points ≡ false → (w : Segment)
+    → IsIn (oriented_walls Counterclockwise points) w
     → same_point w.a w.b ≡ false
 unfolding oriented_walls
 real_walls points h w there = by_turn (is_counterclockwise points) there

@@ -50,7 +50,8 @@ over_walls points x h w there =
     (oriented_walls Counterclockwise points) w h there)
 
 pub from_over_walls : (points : List Point) (x : Point)
-    → ((w : Segment) → IsIn (oriented_walls Counterclockwise points) w → pos 0 ≤ℤ height w x) → is_on_or_inside x points ≡ true
+    → ((w : Segment) → IsIn (oriented_walls Counterclockwise points) w → pos 0 ≤ℤ height w x)
+    → is_on_or_inside x points ≡ true
 from_over_walls points x h =
     all_pass (λ w. int_le (pos 0) (orient_of w.a w.b x)) (oriented_walls Counterclockwise points)
     (λ w there. at_most_tested (pos 0) (height w x) (h w there))
@@ -58,12 +59,15 @@ from_over_walls points x h =
 pub left_of_walls : (points : List Point) (x : Point) → is_strictly_inside x points ≡ true
     → (w : Segment) → IsIn (oriented_walls Counterclockwise points) w → pos 0 <ℤ height w x
 left_of_walls points x h w there =
-    tested_positive (height w x) (each_passes (λ w. is_left_of_line w.a w.b x) (oriented_walls Counterclockwise points) w h there)
+    tested_positive (height w x)
+    (each_passes (λ w. is_left_of_line w.a w.b x) (oriented_walls Counterclockwise points) w h there)
 
 pub from_left_of_walls : (points : List Point) (x : Point)
-    → ((w : Segment) → IsIn (oriented_walls Counterclockwise points) w → pos 0 <ℤ height w x) → is_strictly_inside x points ≡ true
+    → ((w : Segment) → IsIn (oriented_walls Counterclockwise points) w → pos 0 <ℤ height w x)
+    → is_strictly_inside x points ≡ true
 from_left_of_walls points x h =
-    all_pass (λ w. is_left_of_line w.a w.b x) (oriented_walls Counterclockwise points) (λ w there. positive_tested (height w x) (h w there))
+    all_pass (λ w. is_left_of_line w.a w.b x) (oriented_walls Counterclockwise points)
+    (λ w there. positive_tested (height w x) (h w there))
 
 pub convex_walls : (points : List Point) → is_convex points ≡ true → AreConvex (oriented_walls Counterclockwise points)
 convex_walls points h w v w_there v_there =

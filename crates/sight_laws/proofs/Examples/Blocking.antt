@@ -28,7 +28,8 @@ unfolding oriented_walls is_counterclockwise edges_to
 an_angle_is_not_convex = refl
 
 a_box_blocks_what_goes_through_two_corners : is_blocked (obstacle_alone (box 4 4 6 6)) (at 0 0) (at 8 8) ≡ true
-unfolding is_blocked starts_into_wall corner_stops is_in_cone oriented_walls oriented_corners is_counterclockwise edges_to is_on_segment cross_properly
+unfolding is_blocked starts_into_wall corner_stops is_in_cone oriented_walls oriented_corners is_counterclockwise
+    edges_to is_on_segment cross_properly
 a_box_blocks_what_goes_through_two_corners = refl
 
 -- five eighths of the way it is in the middle of the box

@@ -43,7 +43,8 @@ it_is_not_simple = refl
 -- ---- a room with a box in the middle
 
 a_room_with_a_box_is_sound : is_sound (room_with middle) ≡ true
-unfolding is_sound are_obstacles_sound are_screens_sound are_routes_sound is_within_limits lies_within crosses_nowhere may_be_edges edges_to is_inside passes_right do_touch cross_properly is_on_segment
+unfolding is_sound are_obstacles_sound are_screens_sound are_routes_sound is_within_limits lies_within
+    crosses_nowhere may_be_edges edges_to is_inside passes_right do_touch cross_properly is_on_segment
 a_room_with_a_box_is_sound = refl
 
 its_left_wall_is_open : is_open (room_with middle) (at 0 5) ≡ true

@@ -24,7 +24,8 @@ unfolding oriented_walls is_counterclockwise edges_to
 what_is_right_of_a_wall_is_not = refl
 
 along_a_wall_of_the_outer_polygon_all_is_seen : is_blocked (outer_alone (box 0 0 10 10)) (at 0 0) (at 10 0) ≡ false
-unfolding is_blocked starts_into_wall corner_stops is_in_cone oriented_walls oriented_corners is_counterclockwise edges_to is_on_segment cross_properly
+unfolding is_blocked starts_into_wall corner_stops is_in_cone oriented_walls oriented_corners is_counterclockwise
+    edges_to is_on_segment cross_properly
 along_a_wall_of_the_outer_polygon_all_is_seen = refl
 
 -- a room with a notch, which isn't convex
@@ -32,7 +33,8 @@ abbrev notched : List Point
 notched = at 0 0 ∷ at 10 0 ∷ at 10 10 ∷ at 5 5 ∷ at 0 10 ∷ []
 
 its_notch_blocks : is_blocked (outer_alone notched) (at 0 10) (at 10 10) ≡ true
-unfolding is_blocked starts_into_wall corner_stops is_in_cone oriented_walls oriented_corners is_counterclockwise edges_to is_on_segment cross_properly
+unfolding is_blocked starts_into_wall corner_stops is_in_cone oriented_walls oriented_corners is_counterclockwise
+    edges_to is_on_segment cross_properly
 its_notch_blocks = refl
 
 -- so one of the two isn't on or left of all walls
@@ -52,7 +54,8 @@ all_its_polygons_are_convex = refl
 
 -- along the upper wall of the box and over both its ends
 past_the_box_the_other_wall_is_seen : are_in_sight (scene_of (room_with middle)) (at 0 6) (at 10 6) ≡ true
-unfolding are_in_sight is_blocked starts_into_wall corner_stops is_in_cone oriented_walls oriented_corners is_counterclockwise edges_to is_on_segment cross_properly
+unfolding are_in_sight is_blocked starts_into_wall corner_stops is_in_cone oriented_walls oriented_corners
+    is_counterclockwise edges_to is_on_segment cross_properly
 past_the_box_the_other_wall_is_seen = refl
 
 -- so no point of the way is inside the box, at whatever fraction of it
@@ -64,5 +67,6 @@ nothing_of_the_box_is_passed_through =
 
 -- one unit further down it is
 through_the_box_it_is_not_seen : are_in_sight (scene_of (room_with middle)) (at 0 5) (at 10 5) ≡ false
-unfolding are_in_sight is_blocked starts_into_wall corner_stops is_in_cone oriented_walls oriented_corners is_counterclockwise edges_to is_on_segment cross_properly
+unfolding are_in_sight is_blocked starts_into_wall corner_stops is_in_cone oriented_walls oriented_corners
+    is_counterclockwise edges_to is_on_segment cross_properly
 through_the_box_it_is_not_seen = refl
