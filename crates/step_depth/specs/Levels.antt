@@ -1,5 +1,5 @@
 -- What a step from one level to the next does.
-use Rattle.std.specs.Prelude.{◌≡◌, ℕ, ◌+◌, ◌*◌, ◌<◌, ◌≤◌, ◌&&◌, ◌==◌, Bool, true, false, nat_lt, List, slice_index, slice_index_or, Option, None, Some}
+use Rattle.std.specs.Prelude.{◌≡◌, ℕ, ◌+◌, ◌*◌, ◌<◌, ◌&&◌, ◌==◌, Bool, true, false, nat_lt, List, slice_index, slice_index_or, Option, None, Some}
 use Rattle.graph_spec.specs.Graphs.{Graph, depth_of}
 use Rattle.vga_grid.specs.Sets.{is_set}
 

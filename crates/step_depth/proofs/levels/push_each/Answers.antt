@@ -1,7 +1,7 @@
 use Rattle.std.proofs.Common.{◌≡◌, ◌+◌, ◌*◌, ◌/◌, ◌%◌, ◌∙◌, true, get_or, arith}
 use Rattle.vga_grid.specs.Rows.{bit_of, is_joined}
 use Rattle.step_depth.specs.Levels.{IsWordPushed}
-use Rattle.step_depth.proofs.Fronts.{front_skips, front_more, front_last}
+use Rattle.step_depth.proofs.Fronts.{front_skips, front_more}
 use Rattle.step_depth.proofs.levels.push_each.Goals as goal
 
 pub push_word-requires-clause-nodes : goal.push_word-requires-clause-nodes

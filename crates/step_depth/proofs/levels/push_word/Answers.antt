@@ -1,7 +1,7 @@
-use Rattle.std.proofs.Common.{◌≡◌, ◌∙◌, sym, ap, ◌&&◌, ◌+◌, ◌*◌}
+use Rattle.std.proofs.Common.{◌∙◌, ap, ◌&&◌}
 use Rattle.std.specs.Prelude.{not}
 use Rattle.vga_grid.specs.Rows.{bit_of, is_joined}
-use Rattle.step_depth.proofs.Fronts.{word_more, word_last}
+use Rattle.step_depth.proofs.Fronts.{word_more}
 use Rattle.step_depth.proofs.levels.push_word.Goals as goal
 
 pub loop-rest-preserved : goal.loop-rest-preserved
