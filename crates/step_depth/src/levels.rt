@@ -8,8 +8,8 @@ ghost use Rattle.step_depth.specs.Levels.{IsPushed, IsWordPushed, IsPart, IsLook
 
 use crate::reach::Reach;
 use crate::sets::{
-    assign_without, cleared, complement, count, gather, has, lowest, meet, next_word, remove, take_four_out,
-    take_out,
+    assign_without, cleared, complement, count, gather, has, lowest, meet, next_word, remove,
+    take_four_out, take_out,
 };
 use vga_grid::BitGraph;
 
