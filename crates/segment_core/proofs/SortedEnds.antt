@@ -14,8 +14,8 @@ use Rattle.std.proofs.lemmas.List.Sorted.{All-permutation, length_permutation, r
 use Rattle.std.proofs.lemmas.Map.Keys.{IsDistinct-IsPermutation, apart_from_distinct}
 use Rattle.int_laws.proofs.Tests.{equal_tested, not_less}
 use Rattle.route_spec.specs.Routes.{Piece}
-use Rattle.segment_core.specs.declared.nodes.End.{End}
-use Rattle.segment_core.specs.Ends.{are_one_place, both_ends, end_at, end_of, ends_of, no_end, AreSortedEnds}
+use Rattle.segment_core.specs.declared.ends.End.{End}
+use Rattle.segment_core.specs.Ends.{is_one_point, both_ends, end_at, end_of, ends_of, no_end, AreSortedEnds}
 use Rattle.segment_core.proofs.Numbering.{both, parts_of}
 use Rattle.segment_core.proofs.Tails.{ends_length}
 
@@ -70,8 +70,8 @@ between a b c o p e g h =
     }
 
 -- an end between two of one point is at that point
-one_between : (d e f : End) → are_one_place d f ≡ true → is_lt (end_cmp e d) ≡ false → is_lt (end_cmp f e) ≡ false
-    → are_one_place e f ≡ true
+one_between : (d e f : End) → is_one_point d f ≡ true → is_lt (end_cmp e d) ≡ false → is_lt (end_cmp f e) ≡ false
+    → is_one_point e f ≡ true
 one_between d e f h low high =
     let parts = parts_of d f h in
     let x_num = between e.x_num d.x_num f.x_num _ _ parts.x_num low high in

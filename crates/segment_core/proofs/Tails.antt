@@ -12,11 +12,11 @@ use Rattle.plane_spec.specs.Fractions.{RPoint, same_rpoint, same_value}
 use Rattle.route_spec.specs.Routes.{Piece, tail_of}
 use Rattle.exact_geom.proofs.Values.{parts_tell_values}
 use Rattle.graph_laws.proofs.Members.{contains_first, contains_later}
-use Rattle.segment_core.specs.declared.nodes.End.{End}
+use Rattle.segment_core.specs.declared.ends.End.{End}
 use Rattle.route_laws.specs.Bounds.{IsEnd}
 use Rattle.segment_core.specs.Steps.{piece_at, step_at, AreInRange}
 use Rattle.segment_core.specs.Nodes.{AreTailsOf}
-use Rattle.segment_core.specs.Ends.{are_one_place, end_of, both_ends, ends_of, end_at, no_end, node_of_end, AreSortedEnds, AreNumbered}
+use Rattle.segment_core.specs.Ends.{is_one_point, end_of, both_ends, ends_of, end_at, no_end, node_of_end, AreSortedEnds, AreNumbered}
 use Rattle.segment_core.proofs.Numbers.{numbered, among}
 use Rattle.segment_core.proofs.Numbering.{one_turned, one_alone, true_or_false, not_both}
 
@@ -46,7 +46,7 @@ tail_lowest pieces s r below = by_way (s % 2 == 1)
     by_way true = (r.each (s / 2) (omega (arith, below))).from
     by_way false = (r.each (s / 2) (omega (arith, below))).to
 
-one_where_same : (p q : RPoint) (s t : ℕ) → IsEnd p → IsEnd q → are_one_place (end_of p s) (end_of q t) ≡ same_rpoint p q
+one_where_same : (p q : RPoint) (s t : ℕ) → IsEnd p → IsEnd q → is_one_point (end_of p s) (end_of q t) ≡ same_rpoint p q
 one_where_same p q s t g h =
     ap (λ b. b && (int_eq p.y.num q.y.num && int_eq p.y.den q.y.den)) (parts_tell_values p.x q.x g.x h.x)
     ∙ ap (λ b. same_value p.x q.x && b) (parts_tell_values p.y q.y g.y h.y)
@@ -75,27 +75,27 @@ module _ (pieces : List Piece) (ends : List End) (tails : List ℕ) (last : ℕ)
 
   abbrev Agrees : ℕ → ℕ → Type 0
   Agrees i j =
-      (are_one_place (end_at ends i) (end_at ends j) ≡ true → node_of_end ends tails i ≡ node_of_end ends tails j)
-      × (are_one_place (end_at ends i) (end_at ends j) ≡ false → node_of_end ends tails i ≢ node_of_end ends tails j)
+      (is_one_point (end_at ends i) (end_at ends j) ≡ true → node_of_end ends tails i ≡ node_of_end ends tails j)
+      × (is_one_point (end_at ends i) (end_at ends j) ≡ false → node_of_end ends tails i ≢ node_of_end ends tails j)
 
   agrees_below : (i j : ℕ) → i < j → j < length ends → Agrees i j
   agrees_below i j less j_in = (n.alike i j less j_in, λ h e. omega (arith, n.unlike i j less j_in h, e))
 
-  turned_false : (i j : ℕ) → are_one_place (end_at ends i) (end_at ends j) ≡ false → (are_one_place (end_at ends j) (end_at ends i) ≡ true) ⊎ (are_one_place (end_at ends j) (end_at ends i) ≡ false)
-      → are_one_place (end_at ends j) (end_at ends i) ≡ false
-  turned_false i j h (inl one) = absurd (not_both (are_one_place (end_at ends i) (end_at ends j)) (one_turned (end_at ends j) (end_at ends i) one) h)
+  turned_false : (i j : ℕ) → is_one_point (end_at ends i) (end_at ends j) ≡ false → (is_one_point (end_at ends j) (end_at ends i) ≡ true) ⊎ (is_one_point (end_at ends j) (end_at ends i) ≡ false)
+      → is_one_point (end_at ends j) (end_at ends i) ≡ false
+  turned_false i j h (inl one) = absurd (not_both (is_one_point (end_at ends i) (end_at ends j)) (one_turned (end_at ends j) (end_at ends i) one) h)
   turned_false i j h (inr away) = away
 
   agrees_above : (i j : ℕ) → j < i → i < length ends → Agrees i j
   agrees_above i j less i_in =
       let below = agrees_below j i less i_in in
       (λ h. sym (below.0 (one_turned (end_at ends i) (end_at ends j) h)),
-        λ h e. below.1 (turned_false i j h (true_or_false (are_one_place (end_at ends j) (end_at ends i)))) (sym e))
+        λ h e. below.1 (turned_false i j h (true_or_false (is_one_point (end_at ends j) (end_at ends i)))) (sym e))
 
   agrees_same : (i j : ℕ) → i ≡ j → Agrees i j
   agrees_same i j same =
       (λ h. ap (λ (m : ℕ). node_of_end ends tails m) same,
-        λ h e. not_both (are_one_place (end_at ends i) (end_at ends j)) (subst (λ (m : ℕ). are_one_place (end_at ends i) (end_at ends m) ≡ true) same (one_alone (end_at ends i))) h)
+        λ h e. not_both (is_one_point (end_at ends i) (end_at ends j)) (subst (λ (m : ℕ). is_one_point (end_at ends i) (end_at ends m) ≡ true) same (one_alone (end_at ends i))) h)
 
   agrees : (i j : ℕ) → i < length ends → j < length ends → Agrees i j
   agrees i j i_in j_in = by_less (i == j) (nat_lt i j) (eqb-true i j) (eqb-false i j) (ltb-true i j) (ltb-false i j)
@@ -105,10 +105,10 @@ module _ (pieces : List Piece) (ends : List End) (tails : List ℕ) (last : ℕ)
       by_less false true same apart less more = agrees_below i j (less refl) j_in
       by_less false false same apart less more = agrees_above i j (omega (arith, more refl, apart refl)) i_in
 
-  compared : (i j : ℕ) → i < length ends → j < length ends → (node_of_end ends tails i == node_of_end ends tails j) ≡ are_one_place (end_at ends i) (end_at ends j)
+  compared : (i j : ℕ) → i < length ends → j < length ends → (node_of_end ends tails i == node_of_end ends tails j) ≡ is_one_point (end_at ends i) (end_at ends j)
   compared i j i_in j_in =
       let h = agrees i j i_in j_in in
-      equal_is (node_of_end ends tails i) (node_of_end ends tails j) (are_one_place (end_at ends i) (end_at ends j)) h.0 h.1
+      equal_is (node_of_end ends tails i) (node_of_end ends tails j) (is_one_point (end_at ends i) (end_at ends j)) h.0 h.1
 
   pub tails_are : AreTailsOf pieces tails
   tails_are = record {
@@ -119,7 +119,7 @@ module _ (pieces : List Piece) (ends : List End) (tails : List ℕ) (last : ℕ)
       let first : node_of_end ends tails i.0 ≡ get_or tails s 0 = ap (λ (e : End). get_or tails e.step 0) i.2 in
       let second : node_of_end ends tails j.0 ≡ get_or tails t 0 = ap (λ (e : End). get_or tails e.step 0) j.2 in
       ap (λ (m : ℕ). m == get_or tails t 0) (sym first) ∙ ap (λ (m : ℕ). node_of_end ends tails i.0 == m) (sym second) ∙ compared i.0 j.0 i.1 j.1
-      ∙ ap (λ (e : End). are_one_place e (end_at ends j.0)) i.2 ∙ ap (λ (e : End). are_one_place (end_of (tail_at pieces s) s) e) j.2
+      ∙ ap (λ (e : End). is_one_point e (end_at ends j.0)) i.2 ∙ ap (λ (e : End). is_one_point (end_of (tail_at pieces s) s) e) j.2
       ∙ one_where_same (tail_at pieces s) (tail_at pieces t) s t (tail_lowest pieces s r s_in) (tail_lowest pieces t r t_in);
   }
 

@@ -14,6 +14,7 @@ ghost use Rattle.route_spec.specs.Routes.{crossing_at, cut_of, cuts_of, is_betwe
 ghost use Rattle.route_laws.specs.Bounds.{IsCut};
 ghost use Rattle.segment_core.specs.Cuts.{with_cut};
 
+use crate::narrowing::narrow;
 use exact_geom::{Frac, Point, RPoint, cross, is_less, is_zero, touch, vector};
 use plan_spec::Route;
 use std::alloc::Global;
@@ -35,15 +36,6 @@ impl Model for Cut {
     ghost view = { λ a. record { num = a.num; den = a.den } };
 
     ghost inverse = { λ f. record { num = f.num; den = f.den } };
-}
-
-/// A cross product in 64 bits.
-fn narrow(value: i128) -> i64
-    requires { IsWithin MAX_CROSS value }
-    ensures value { result ≡ value }
-    ensures within { IsWithin MAX_CROSS result }
-{
-    value as i64
 }
 
 /// The cross product of two directions, in 64 bits.

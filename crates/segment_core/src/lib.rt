@@ -13,13 +13,18 @@
 mod cut_routes;
 mod cuts;
 mod depths;
+mod ends;
+mod narrowing;
 mod nodes;
 mod piece;
 mod queue;
+mod sharing;
+#[cfg(test)]
+mod tests;
 mod turning;
 
 pub use cut_routes::pieces;
 pub use depths::turn_depths;
-pub use nodes::neighbours;
 pub use piece::Piece;
+pub use sharing::neighbours;
 pub use turning::turn;

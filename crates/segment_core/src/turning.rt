@@ -6,20 +6,14 @@ ghost use Rattle.plane_spec.specs.Vectors.{IsDirection, IsWithin, cross_of, poin
 ghost use Rattle.exact_geom.specs.declared.limits.TheConstants.{MAX_CROSS};
 ghost use Rattle.route_spec.specs.Routes.{turn_of, relative_direction, is_straight_back};
 
+use crate::narrowing::narrow;
 use exact_geom::{Point, cross, dot};
 
-/// `value`, of a dot or a cross product.
-fn narrow(value: i128) -> i64
-    requires { IsWithin (MAX_CROSS) value }
-    ensures { result ≡ value }
-{
-    value as i64
-}
-
+/// The size of a cross product.
 fn size(value: i64) -> i64
-    requires { IsWithin (MAX_CROSS) value }
+    requires { IsWithin MAX_CROSS value }
     ensures value { result ≡ pos (unsigned_abs value) }
-    ensures within { IsWithin (MAX_CROSS) result }
+    ensures within { IsWithin MAX_CROSS result }
 {
     if value < 0 { -value } else { value }
 }
@@ -29,8 +23,8 @@ fn relative(d: Point, e: Point) -> Point
     requires d_in { IsDirection d }
     requires e_in { IsDirection e }
     ensures value { result ≡ relative_direction d e }
-    ensures x_in { IsWithin (MAX_CROSS) result.x }
-    ensures y_in { IsWithin (MAX_CROSS) result.y }
+    ensures x_in { IsWithin MAX_CROSS result.x }
+    ensures y_in { IsWithin MAX_CROSS result.y }
 {
     Point {
         x: narrow(dot(d, e)),
@@ -40,7 +34,7 @@ fn relative(d: Point, e: Point) -> Point
 
 fn product(a: i64, b: i64) -> i64
     requires a_in { IsWithin (pos 1000) a }
-    requires b_in { IsWithin (MAX_CROSS) b }
+    requires b_in { IsWithin MAX_CROSS b }
     ensures value { result ≡ a *ℤ b }
     ensures within { IsWithin (pos 320000000000000) result }
 {
@@ -57,8 +51,8 @@ fn is_not_less(a: i64, b: i64) -> bool
 fn passed(x: i64, y: i64, r: Point) -> u8
     requires x_in { IsWithin (pos 1000) x }
     requires y_in { IsWithin (pos 1000) y }
-    requires rx_in { IsWithin (MAX_CROSS) r.x }
-    requires ry_in { IsWithin (MAX_CROSS) r.y }
+    requires rx_in { IsWithin MAX_CROSS r.x }
+    requires ry_in { IsWithin MAX_CROSS r.y }
     ensures value { result ≡ cond (int_le (pos 0) (cross_of (point x y) r)) 1 0 }
     ensures at_most { result ≤ 1 }
 {

@@ -3,11 +3,11 @@ use Rattle.segment_core.specs.Nodes.{counts_at}
 use Rattle.segment_core.specs.Steps.{row_of}
 use Rattle.segment_core.proofs.Easing.{row_inside}
 use Rattle.segment_core.proofs.Counting.{counting_begins, counting_more, counting_ends, count_at_most, row_at_most}
-use Rattle.segment_core.proofs.nodes.count_first.Goals.{then-counts, else-counts}
-use Rattle.segment_core.proofs.nodes.count_first.Goals as goal
+use Rattle.segment_core.proofs.sharing.count_first.Goals.{then-counts_at, else-counts_at}
+use Rattle.segment_core.proofs.sharing.count_first.Goals as goal
 
-pub counts-requires-clause-step : goal.counts-requires-clause-step
-counts-requires-clause-step c =
+pub counts_at-requires-clause-step : goal.counts_at-requires-clause-step
+counts_at-requires-clause-step c =
     rw c.after-step-items.ensures
     (row_inside c.args.pieces.now (2 * c.args.k) c.loop-step.step-index (subst (λ (row : List ℕ). c.loop-step.step-index < length row) c.after-step-items.ensures c.loop-step-test.true))
 
@@ -20,11 +20,11 @@ loop-step-preserved c =
     let row = row_of c.args.pieces.now (2 * c.args.k) in
     let test = counts_at c.args.nodes.now.tails.items c.args.k c.args.from in
     let below = subst (λ (row : List ℕ). done < length row) c.after-step-items.ensures c.loop-step-test.true in
-    let tested = ap (λ (row : List ℕ). test (get_or row done 0)) (sym c.after-step-items.ensures) ∙ sym c.counts.ensures in
-    elim c.if-counts.branch [
-      | then-counts w ↦ counting_more test row done c.loop-step.count c.if-counts.count _ below (tested ∙ w.if-counts.true) w.count-is c.loop-step.invariant
-      | else-counts w ↦
-          counting_more test row done c.loop-step.count c.if-counts.count _ below (tested ∙ w.if-counts.false) (omega (arith, w.count-is)) c.loop-step.invariant
+    let tested = ap (λ (row : List ℕ). test (get_or row done 0)) (sym c.after-step-items.ensures) ∙ sym c.counts_at.ensures in
+    elim c.if-counts_at.branch [
+      | then-counts_at w ↦ counting_more test row done c.loop-step.count c.if-counts_at.count _ below (tested ∙ w.if-counts_at.true) w.count-is c.loop-step.invariant
+      | else-counts_at w ↦
+          counting_more test row done c.loop-step.count c.if-counts_at.count _ below (tested ∙ w.if-counts_at.false) (omega (arith, w.count-is)) c.loop-step.invariant
     ]
 
 pub overflow_add-count : goal.overflow_add-count

@@ -3,8 +3,8 @@ use Rattle.segment_core.specs.Nodes.{counts_apart}
 use Rattle.segment_core.specs.Steps.{row_of}
 use Rattle.segment_core.proofs.Easing.{row_inside}
 use Rattle.segment_core.proofs.Counting.{counting_begins, counting_more, counting_ends, count_at_most, row_at_most}
-use Rattle.segment_core.proofs.nodes.count_second.Goals.{then-counts_apart, else-counts_apart}
-use Rattle.segment_core.proofs.nodes.count_second.Goals as goal
+use Rattle.segment_core.proofs.sharing.count_second.Goals.{then-counts_apart, else-counts_apart}
+use Rattle.segment_core.proofs.sharing.count_second.Goals as goal
 
 pub counts_apart-requires-clause-step : goal.counts_apart-requires-clause-step
 counts_apart-requires-clause-step c =
