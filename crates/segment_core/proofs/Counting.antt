@@ -3,7 +3,7 @@
 -- The steps from a node stand for the pieces that have an end there. Counted at the first end, and then at the second
 -- without those that have the first too, each neighbour is counted once: piece by piece the two tests add up to the
 -- definition's.
-use Rattle.std.proofs.Common.{◌≡◌, ◌<◌, ◌≤◌, ◌+◌, ◌*◌, ◌/◌, ◌%◌, ◌-◌, ◌==◌, ℕ, suc, Bool, true, false, cond, not, ◌&&◌, ◌||◌, List, [], ◌∷◌, length, get_or, drop, count_by, refl, sym, ap, ◌∙◌, arith, subst}
+use Rattle.std.proofs.Common.{◌≡◌, ◌<◌, ◌≤◌, ◌+◌, ◌*◌, ◌/◌, ◌%◌, ◌-◌, ◌==◌, ℕ, suc, Bool, true, false, cond, not, ◌&&◌, ◌||◌, List, [], ◌∷◌, length, get_or, drop, refl, sym, ap, ◌∙◌, arith, subst}
 use Rattle.std.specs.Prelude.{if◌then◌else◌}
 use Rattle.std.specs.List.{enumerate_from, filter, range_with_len}
 use Rattle.std.proofs.lemmas.List.{drop_all}
@@ -215,12 +215,12 @@ module _ (pieces : List Piece) (tails : List ℕ) (k from to : ℕ) (are : AreTa
       let odd : 2 * j + 1 < 2 * length pieces = omega (arith, j_in) in
       subst (λ (n : ℕ). one (at_first (2 * j)) + one (at_first (2 * j + 1)) + (one (at_second (2 * j)) + one (at_second (2 * j + 1))) ≡ one (test (j, piece_at pieces n))) (sym same)
       (add_up (at_first (2 * j)) (at_first (2 * j + 1)) (at_second (2 * j)) (at_second (2 * j + 1)) (test (j, piece_at pieces j))
-        (not (j == k)) (from == get_or tails (2 * j) 0) (from == get_or tails (2 * j + 1) 0) (to == get_or tails (2 * j) 0) (to == get_or tails (2 * j + 1) 0)
-        (both_parts (leads_to pieces (2 * k)) (counts_at tails k from) (2 * j) _ _ (leads_first (2 * j) even) (counts_even tails k from from j))
-        (both_parts (leads_to pieces (2 * k)) (counts_at tails k from) (2 * j + 1) _ _ (leads_first (2 * j + 1) odd) (counts_odd tails k from from j))
-        (both_parts (leads_to pieces (2 * k + 1)) (counts_apart tails k to from) (2 * j) _ _ (leads_second (2 * j) even) (apart_even tails k to from j))
-        (both_parts (leads_to pieces (2 * k + 1)) (counts_apart tails k to from) (2 * j + 1) _ _ (leads_second (2 * j + 1) odd) (apart_odd tails k to from j))
-        (ap (λ b. not (j == k) && b) (shared j j_in)))
+      (not (j == k)) (from == get_or tails (2 * j) 0) (from == get_or tails (2 * j + 1) 0) (to == get_or tails (2 * j) 0) (to == get_or tails (2 * j + 1) 0)
+      (both_parts (leads_to pieces (2 * k)) (counts_at tails k from) (2 * j) _ _ (leads_first (2 * j) even) (counts_even tails k from from j))
+      (both_parts (leads_to pieces (2 * k)) (counts_at tails k from) (2 * j + 1) _ _ (leads_first (2 * j + 1) odd) (counts_odd tails k from from j))
+      (both_parts (leads_to pieces (2 * k + 1)) (counts_apart tails k to from) (2 * j) _ _ (leads_second (2 * j) even) (apart_even tails k to from j))
+      (both_parts (leads_to pieces (2 * k + 1)) (counts_apart tails k to from) (2 * j + 1) _ _ (leads_second (2 * j + 1) odd) (apart_odd tails k to from j))
+      (ap (λ b. not (j == k) && b) (shared j j_in)))
 
   pub neighbours_are : length (filter (counts_at tails k from) (row_of pieces (2 * k)))
       + length (filter (counts_apart tails k to from) (row_of pieces (2 * k + 1))) ≡ neighbours_of pieces (k, piece_at pieces k)

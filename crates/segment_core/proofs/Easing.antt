@@ -1,13 +1,13 @@
 -- What the easing of steps keeps.
-use Rattle.std.proofs.Common.{◌≡◌, ◌≢◌, ◌<◌, ◌≤◌, ◌+◌, ◌*◌, ◌/◌, ◌%◌, ◌==◌, ℕ, zero, suc, Bool, true, false, cond, not, ◌&&◌, List, [], ◌∷◌, ◌++◌, length, get_or, set, refl, sym, ap, ◌∙◌, ◌⊎◌, inl, inr, arith, subst, length-append}
-use Rattle.std.specs.List.{Contains, sum_by, filter, range_with_len}
+use Rattle.std.proofs.Common.{◌≡◌, ◌≢◌, ◌<◌, ◌≤◌, ◌+◌, ◌*◌, ◌/◌, ◌%◌, ◌==◌, ℕ, suc, Bool, true, false, not, ◌&&◌, List, [], ◌∷◌, ◌++◌, length, get_or, set, refl, sym, ap, ◌∙◌, ◌⊎◌, inl, inr, arith, subst, length-append}
+use Rattle.std.specs.List.{Contains, range_with_len}
 use Rattle.std.proofs.lemmas.Bool.{eqb-true, eqb-false, eq-eqb}
 use Rattle.std.proofs.lemmas.List.{length-set, get_or_default}
 use Rattle.std.proofs.lemmas.List.Sums.{sum_by-set}
 use Rattle.std.proofs.lemmas.List.Elements.{Contains-get_or, Contains-append_left, Contains-append_right, Contains-append_cases}
-use Rattle.route_spec.specs.Routes.{Piece, DirectedPiece, TurnWalk, can_follow, turn_between}
+use Rattle.route_spec.specs.Routes.{Piece, TurnWalk, can_follow, turn_between}
 use Rattle.graph_laws.proofs.Members.{contains_first, first_or_later, contains_none}
-use Rattle.segment_core.specs.Steps.{step_at, cost_at, far_of, AreWalked, IsEased, Eases, Waits, AreInside, bucket_at, left_of, leads_to, row_of}
+use Rattle.segment_core.specs.Steps.{step_at, cost_at, far_of, AreWalked, IsEased, Eases, Waits, bucket_at, leads_to, row_of}
 use Rattle.segment_core.proofs.Numbers.{step_is_step}
 use Rattle.segment_core.proofs.Places.{at_set, filter_contains, filter_from, in_range_of, range_below}
 
@@ -78,9 +78,9 @@ module _ (pieces : List Piece) (step other raised : ℕ) (old : List ℕ) (befor
   eased_walked : (source : ℕ) → AreWalked pieces source old → AreWalked pieces source new
   eased_walked source walked s s_in = at_set (λ c. c < far_of pieces → (more : ℕ) × TurnWalk pieces source more (step_at pieces s) c) old other s raised 0 below
       (λ same close.
-        let walk = walked step step_in near in
-        let here : TurnWalk pieces source (suc walk.0) (step_at pieces other) raised = (step_is_step pieces other other_in, (step_at pieces step, cost_at old step, walk.1, follows, is)) in
-        (suc walk.0, subst (λ (t : ℕ). TurnWalk pieces source (suc walk.0) (step_at pieces t) raised) (sym same) here))
+      let walk = walked step step_in near in
+      let here : TurnWalk pieces source (suc walk.0) (step_at pieces other) raised = (step_is_step pieces other other_in, (step_at pieces step, cost_at old step, walk.1, follows, is)) in
+      (suc walk.0, subst (λ (t : ℕ). TurnWalk pieces source (suc walk.0) (step_at pieces t) raised) (sym same) here))
       (λ away close. walked s s_in close)
 
   pub ease_one : Eases pieces step old new before after
@@ -94,8 +94,8 @@ module _ (pieces : List Piece) (step other raised : ℕ) (old : List ℕ) (befor
     walked = eased_walked;
     waiting = λ s. at_set (λ c. (c ≡ cost_at old s) ⊎ Waits after s c) old other s raised 0 below
         (λ same. inr (at_set (λ bs. Contains bs s) before bucket bucket (bucket_at before bucket ++ other ∷ []) [] bucket_below
-          (λ e. Contains-append_right (bucket_at before bucket) (other ∷ []) s (subst (λ (t : ℕ). Contains (other ∷ []) t) (sym same) (contains_first other [])))
-          (λ e. absurd (e refl))))
+        (λ e. Contains-append_right (bucket_at before bucket) (other ∷ []) s (subst (λ (t : ℕ). Contains (other ∷ []) t) (sym same) (contains_first other [])))
+        (λ e. absurd (e refl))))
         (λ away. inl refl);
     keeps = λ b s h. at_set (λ bs. Contains bs s) before bucket b (bucket_at before bucket ++ other ∷ []) [] bucket_below
         (λ same. Contains-append_left (bucket_at before bucket) (other ∷ []) s (subst (λ (n : ℕ). Contains (bucket_at before n) s) same h))

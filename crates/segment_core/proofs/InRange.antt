@@ -1,5 +1,5 @@
 -- The pieces of a sound plan are few, and have small parts.
-use Rattle.std.proofs.Common.{◌≡◌, ◌<◌, ◌≤◌, ◌*◌, List, length, sym, ap, subst, arith}
+use Rattle.std.proofs.Common.{List, length, sym, ap, subst, arith}
 use Rattle.std.specs.Prelude.{All}
 use Rattle.route_spec.specs.Routes.{ArePiecesOfPlan, Piece}
 use Rattle.route_laws.specs.Bounds.{IsPieceInRange}

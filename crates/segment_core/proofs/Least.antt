@@ -1,15 +1,15 @@
 -- Costs that can't be made less are turn depths.
-use Rattle.std.proofs.Common.{◌≡◌, ◌<◌, ◌≤◌, ◌+◌, ◌*◌, ◌/◌, ◌%◌, ◌==◌, ℕ, zero, suc, Bool, true, false, cond, List, length, get_or, refl, sym, ap, ◌∙◌, ◌⊎◌, inl, inr, arith, subst}
-use Rattle.std.specs.Prelude.{nat_lt, Option, Some, None, if◌then◌else◌, map}
-use Rattle.std.specs.List.{Contains, enumerate_from}
+use Rattle.std.proofs.Common.{◌≡◌, ◌<◌, ◌≤◌, ◌+◌, ◌*◌, ◌/◌, ◌%◌, ℕ, zero, suc, Bool, true, false, cond, List, length, get_or, refl, sym, ap, ◌∙◌, ◌⊎◌, inl, inr, arith, subst}
+use Rattle.std.specs.Prelude.{nat_lt, Option, Some, None}
+use Rattle.std.specs.List.{Contains}
 use Rattle.std.proofs.lemmas.Bool.{ltb-true, ltb-false, cond_both}
 use Rattle.std.proofs.lemmas.List.{ext_get_or}
 use Rattle.route_spec.specs.Routes.{Piece, DirectedPiece, TurnWalk, IsTurnDepth, directed_pieces, can_follow, turn_between, turn_depths_of}
 use Rattle.graph_laws.proofs.Steps.{shorter_walk}
 use Rattle.graph_laws.proofs.Turns.{one_turn_depth_each, least_turn_depth, same_turn_depth}
-use Rattle.segment_core.specs.Steps.{piece_at, step_at, cost_at, far_of, IsEased, AreWalked, AreLeast, lesser_below}
+use Rattle.segment_core.specs.Steps.{piece_at, step_at, cost_at, far_of, AreLeast, lesser_below}
 use Rattle.route_laws.proofs.Turns.{walk_at_most}
-use Rattle.segment_core.proofs.Numbers.{numbered, step_is_step, number_in, step_at_in, number_of_step}
+use Rattle.segment_core.proofs.Numbers.{numbered, number_in, step_at_in, number_of_step}
 
 step_of_walk : (pieces : List Piece) (source more : ℕ) (t : DirectedPiece) (cost : ℕ) → TurnWalk pieces source more t cost → Contains (directed_pieces pieces) t
 step_of_walk pieces source zero t cost walk = walk.0

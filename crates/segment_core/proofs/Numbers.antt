@@ -1,10 +1,10 @@
 -- Steps and their numbers.
-use Rattle.std.proofs.Common.{◌≡◌, ◌<◌, ◌≤◌, ◌+◌, ◌*◌, ◌/◌, ◌%◌, ◌==◌, ℕ, zero, suc, Bool, true, false, cond, List, [], ◌∷◌, ◌⊎◌, inl, inr, length, get_or, refl, sym, ap, ◌∙◌, arith, subst}
+use Rattle.std.proofs.Common.{◌≡◌, ◌<◌, ◌+◌, ◌*◌, ◌/◌, ◌%◌, ◌==◌, ℕ, Bool, true, false, cond, List, [], ◌∷◌, inl, inr, length, get_or, sym, ap, ◌∙◌, arith, subst}
 use Rattle.std.specs.List.{Contains, enumerate_from, flat_map}
 use Rattle.std.proofs.lemmas.List.{get_or_default}
 use Rattle.std.proofs.lemmas.List.FromFn.{length-enumerate_from, get_or-enumerate_from}
 use Rattle.std.proofs.lemmas.List.Elements.{Contains-append_left, Contains-append_right}
-use Rattle.route_spec.specs.Routes.{Piece, DirectedPiece, TurnWalk, both_ways, directed_pieces}
+use Rattle.route_spec.specs.Routes.{Piece, DirectedPiece, both_ways, directed_pieces}
 use Rattle.graph_laws.proofs.Members.{contains_first, contains_later, first_or_later, contains_none, number_is_place}
 use Rattle.graph_laws.proofs.Steps.{piece_of_step}
 use Rattle.segment_core.specs.Steps.{no_piece, piece_at, step_at}

@@ -1,12 +1,12 @@
 -- The step in the other heading, and what leads from a node.
-use Rattle.std.proofs.Common.{◌≡◌, ◌≢◌, ◌<◌, ◌≤◌, ◌+◌, ◌-◌, ◌*◌, ◌/◌, ◌%◌, ◌==◌, ℕ, Bool, true, false, cond, not, List, [], ◌∷◌, ◌++◌, length, get_or, refl, sym, ap, ◌∙◌, arith, subst}
+use Rattle.std.proofs.Common.{◌≡◌, ◌≢◌, ◌<◌, ◌+◌, ◌-◌, ◌*◌, ◌/◌, ◌%◌, ◌==◌, ℕ, Bool, true, false, not, List, [], length, get_or, refl, ap, ◌∙◌, arith}
 use Rattle.std.specs.Prelude.{if◌then◌else◌}
 use Rattle.std.specs.List.{filter, range_with_len}
 use Rattle.std.proofs.lemmas.Bool.{eqb-true, eqb-false}
 use Rattle.plane_spec.specs.Fractions.{same_rpoint, RPoint}
 use Rattle.route_spec.specs.Routes.{Piece, head_of, tail_of}
 use Rattle.segment_core.specs.Steps.{step_at, piece_at, leads_to, reversed_step}
-use Rattle.segment_core.specs.Nodes.{AreTailsOf, AreNodesOf, leaving_of}
+use Rattle.segment_core.specs.Nodes.{AreNodesOf}
 use Rattle.segment_core.proofs.Places.{filter_alike, range_below}
 
 abbrev reversed_by : Bool → ℕ → ℕ
@@ -52,7 +52,7 @@ row_is pieces tails leaving step head nodes below is =
     nodes.members head there
     ∙ ap (λ (n : ℕ). filter (λ t. head == get_or tails t 0) (range_with_len 0 n)) nodes.tails.one_each
     ∙ filter_alike (λ t. head == get_or tails t 0) (leads_to pieces step) (range_with_len 0 (2 * length pieces))
-      (λ t h.
-        ap (λ (n : ℕ). n == get_or tails t 0) is
-        ∙ nodes.tails.alike (reversed_step step) t back (range_below (2 * length pieces) t h)
-        ∙ ap (λ (p : RPoint). same_rpoint p (tail_of (step_at pieces t).0.1 (step_at pieces t).1)) (tail_reversed pieces step))
+    (λ t h.
+    ap (λ (n : ℕ). n == get_or tails t 0) is
+    ∙ nodes.tails.alike (reversed_step step) t back (range_below (2 * length pieces) t h)
+    ∙ ap (λ (p : RPoint). same_rpoint p (tail_of (step_at pieces t).0.1 (step_at pieces t).1)) (tail_reversed pieces step))

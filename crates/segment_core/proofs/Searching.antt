@@ -1,11 +1,11 @@
 -- What the search keeps, and that it ends with the least costs.
-use Rattle.std.proofs.Common.{◌≡◌, ◌≢◌, ◌<◌, ◌≤◌, ◌+◌, ◌-◌, ◌*◌, ◌/◌, ◌%◌, ◌==◌, ℕ, zero, suc, Bool, true, false, cond, List, [], ◌∷◌, ◌++◌, length, get_or, set, replicate, refl, sym, ap, ◌∙◌, ◌⊎◌, inl, inr, arith, subst, length-append}
+use Rattle.std.proofs.Common.{◌≡◌, ◌≢◌, ◌<◌, ◌≤◌, ◌+◌, ◌-◌, ◌*◌, ◌%◌, ◌==◌, ℕ, zero, suc, Bool, true, false, List, [], ◌∷◌, ◌++◌, length, get_or, set, replicate, refl, sym, ap, ◌∙◌, ◌⊎◌, inl, inr, arith, subst, length-append}
 use Rattle.std.specs.List.{Contains, sum_by}
 use Rattle.std.proofs.lemmas.List.{length-set, get_or-set_same, get_or-set_other, get_or-replicate, length-replicate}
 use Rattle.std.proofs.lemmas.Bool.{eqb-true, eqb-false}
 use Rattle.std.proofs.lemmas.List.Sums.{sum_by-set}
 use Rattle.std.proofs.lemmas.List.Elements.{Contains-append_left, Contains-append_right, Contains-append_cases}
-use Rattle.route_spec.specs.Routes.{Piece, DirectedPiece, TurnWalk, can_follow, turn_between}
+use Rattle.route_spec.specs.Routes.{Piece, TurnWalk}
 use Rattle.graph_laws.proofs.Members.{contains_first, contains_later, first_or_later, contains_none}
 use Rattle.segment_core.specs.Steps.{step_at, cost_at, far_of, AreLeast, AreWalked, IsEased, Eases, Waits, AreInside, bucket_at, left_of}
 use Rattle.segment_core.proofs.Numbers.{step_is_step}
@@ -117,14 +117,14 @@ module _ (pieces : List Piece) (source : ℕ) (costs : List ℕ) (queue rest : L
   still_waits : (b s : ℕ) → (s ≡ step → b ≢ bucket) → Contains (bucket_at queue b) s → Contains (bucket_at rest b) s
   still_waits b s unless h = subst (λ (q : List (List ℕ)). Contains (bucket_at q b) s) (sym others)
       (at_set (λ xs. Contains xs s) queue bucket b (bucket_at rest bucket) [] bucket_below
-        (λ same. elim (Contains-append_cases (bucket_at rest bucket) (step ∷ []) s (subst (λ (xs : List ℕ). Contains xs s) last (subst (λ (n : ℕ). Contains (bucket_at queue n) s) same h))) [
-          | inl w ↦ w
-          | inr it ↦ elim (first_or_later step [] s it) [
-            | inl e ↦ absurd (unless (sym e) same)
-            | inr none ↦ absurd (contains_none s none)
-          ]
-        ])
-        (λ away. h))
+      (λ same. elim (Contains-append_cases (bucket_at rest bucket) (step ∷ []) s (subst (λ (xs : List ℕ). Contains xs s) last (subst (λ (n : ℕ). Contains (bucket_at queue n) s) same h))) [
+        | inl w ↦ w
+        | inr it ↦ elim (first_or_later step [] s it) [
+          | inl e ↦ absurd (unless (sym e) same)
+          | inr none ↦ absurd (contains_none s none)
+        ]
+      ])
+      (λ away. h))
 
   left_less : left_of costs rest + 1 ≤ left_of costs queue
   left_less = omega (
@@ -228,8 +228,8 @@ module _ (pieces : List Piece) (source : ℕ) (source_in : source < length piece
       at_set (P s) (set far_costs (2 * source) 0) (2 * source + 1) s 0 0 forward_below
       (λ same. subst (λ (t : ℕ). P t 0) (sym same) forward)
       (λ other. at_set (P s) far_costs (2 * source) s 0 0 source_below
-        (λ same. subst (λ (t : ℕ). P t 0) (sym same) back)
-        (λ other. subst (P s) (sym (get_or-replicate (2 * length pieces) s (far_of pieces) 0 s_in)) away))
+      (λ same. subst (λ (t : ℕ). P t 0) (sym same) back)
+      (λ other. subst (P s) (sym (get_or-replicate (2 * length pieces) s (far_of pieces) 0 s_in)) away))
 
   abbrev first_steps : List ℕ
   first_steps = 2 * source ∷ (2 * source + 1) ∷ []
@@ -285,4 +285,4 @@ search_begins_at pieces source far costs q0 q1 q2 source_in far_is costs_is is0 
     let second : q2 ≡ first_queue pieces source source_in = is2 ∙ ap (λ (q : List (List ℕ)). set q 0 (bucket_at q 0 ++ (2 * source + 1) ∷ [])) first in
     subst (λ (q : List (List ℕ)). Underway pieces source (set (set costs (2 * source) 0) (2 * source + 1) 0) q 0 0) (sym second)
     (subst (λ (cs : List ℕ). Underway pieces source (set (set cs (2 * source) 0) (2 * source + 1) 0) (first_queue pieces source source_in) 0 0) (sym all)
-      (search_begins pieces source source_in))
+    (search_begins pieces source source_in))

@@ -1,5 +1,5 @@
 -- Ends in order by their parts: those of one point stand beside each other, and each step keeps one end.
-use Rattle.std.proofs.Common.{◌≡◌, ◌≢◌, ◌<◌, ◌≤◌, ◌+◌, ◌*◌, ◌==◌, ℕ, ℤ, ◌≤ℤ◌, Bool, true, false, cond, ◌&&◌, List, [], ◌∷◌, length, get_or, refl, sym, ap, ◌∙◌, subst, arith, rules}
+use Rattle.std.proofs.Common.{◌≡◌, ◌≢◌, ◌<◌, ◌≤◌, ◌+◌, ◌*◌, ◌==◌, ℕ, ℤ, ◌≤ℤ◌, Bool, true, false, cond, ◌&&◌, List, [], ◌∷◌, length, refl, sym, ap, ◌∙◌, arith}
 use Rattle.std.specs.Prelude.{All, int_lt}
 use Rattle.std.specs.Cmp.{IsTotalOrder, int_cmp_total, nat_cmp_total, on_total, then_total}
 use Rattle.std.specs.declared.cmp.Ordering.{Ordering}
@@ -80,9 +80,9 @@ one_between d e f h low high =
     let y_den = between e.y_den d.y_den f.y_den _ _ parts.y_den y_num.before y_num.after in
     both (int_eq e.x_num f.x_num && int_eq e.x_den f.x_den) (int_eq e.y_num f.y_num && int_eq e.y_den f.y_den)
     (both (int_eq e.x_num f.x_num) (int_eq e.x_den f.x_den) (equal_tested e.x_num f.x_num (x_num.same ∙ parts.x_num))
-      (equal_tested e.x_den f.x_den (x_den.same ∙ parts.x_den)))
+    (equal_tested e.x_den f.x_den (x_den.same ∙ parts.x_den)))
     (both (int_eq e.y_num f.y_num) (int_eq e.y_den f.y_den) (equal_tested e.y_num f.y_num (y_num.same ∙ parts.y_num))
-      (equal_tested e.y_den f.y_den (y_den.same ∙ parts.y_den)))
+    (equal_tested e.y_den f.y_den (y_den.same ∙ parts.y_den)))
 
 -- ---- the steps of ends
 
@@ -105,7 +105,7 @@ steps_from a (p ∷ ps) =
     let odd : 2 * a ≤ 2 * a + 1 = omega arith in
     All-cons (λ e. 2 * a ≤ e.step) (end_of p.to (2 * a)) (end_of p.from (2 * a + 1) ∷ rest) (omega arith)
     (All-cons (λ e. 2 * a ≤ e.step) (end_of p.from (2 * a + 1)) rest odd
-      (All-weaker (λ e. 2 * (a + 1) ≤ e.step) (λ e. 2 * a ≤ e.step) (λ e h. omega (arith, h)) rest (steps_from (a + 1) ps)))
+    (All-weaker (λ e. 2 * (a + 1) ≤ e.step) (λ e. 2 * a ≤ e.step) (λ e h. omega (arith, h)) rest (steps_from (a + 1) ps)))
 
 abbrev same_step : End → End → Bool
 same_step d e = d.step == e.step
@@ -127,12 +127,12 @@ steps_differ a (p ∷ ps) =
         other_number (2 * a) (2 * a + 1) (λ e. omega (arith, e)),
         recursion_from_All (λ e. (2 * a == e.step) ≡ false) rest
             (All-weaker (λ e. 2 * (a + 1) ≤ e.step) (λ e. (2 * a == e.step) ≡ false)
-              (λ e h. other_number (2 * a) e.step (λ g. omega (arith, h, g))) rest later),
+            (λ e h. other_number (2 * a) e.step (λ g. omega (arith, h, g))) rest later),
       ),
       (
         recursion_from_All (λ e. (2 * a + 1 == e.step) ≡ false) rest
             (All-weaker (λ e. 2 * (a + 1) ≤ e.step) (λ e. (2 * a + 1 == e.step) ≡ false)
-              (λ e h. other_number (2 * a + 1) e.step (λ g. omega (arith, h, g))) rest later),
+            (λ e h. other_number (2 * a + 1) e.step (λ g. omega (arith, h, g))) rest later),
         steps_differ (a + 1) ps,
       ),
     )

@@ -1,6 +1,6 @@
 -- The numbers given along the ends are those of the steps' tails.
 use Rattle.std.proofs.Common.{◌≡◌, ◌≢◌, ◌<◌, ◌≤◌, ◌+◌, ◌*◌, ◌/◌, ◌%◌, ◌==◌, ℕ, Bool, true, false, ◌&&◌, List, [], ◌∷◌, length, get_or, refl, sym, ap, ◌∙◌, ◌⊎◌, inl, inr, arith, subst}
-use Rattle.std.specs.Prelude.{nat_lt, if◌then◌else◌}
+use Rattle.std.specs.Prelude.{nat_lt}
 use Rattle.std.specs.Ordering.{int_eq}
 use Rattle.std.specs.List.{Contains, enumerate_from, flat_map}
 use Rattle.std.proofs.lemmas.List.FromFn.{length-enumerate_from}
@@ -16,7 +16,7 @@ use Rattle.segment_core.specs.declared.ends.End.{End}
 use Rattle.route_laws.specs.Bounds.{IsEnd}
 use Rattle.segment_core.specs.Steps.{piece_at, step_at, AreInRange}
 use Rattle.segment_core.specs.Nodes.{AreTailsOf}
-use Rattle.segment_core.specs.Ends.{is_one_point, end_of, both_ends, ends_of, end_at, no_end, node_of_end, AreSortedEnds, AreNumbered}
+use Rattle.segment_core.specs.Ends.{is_one_point, end_of, both_ends, ends_of, end_at, no_end, node_of_end, AreNumbered}
 use Rattle.segment_core.proofs.Numbers.{numbered, among}
 use Rattle.segment_core.proofs.Numbering.{one_turned, one_alone, true_or_false, not_both}
 
@@ -37,7 +37,7 @@ step_has_end pieces s below =
     let half : s / 2 < length pieces = omega (arith, below) in
     among both_ends (enumerate_from 0 pieces) (s / 2, piece_at pieces (s / 2)) (end_of (tail_at pieces s) s) (numbered pieces (s / 2) half)
     (end_among (piece_at pieces (s / 2)) (s / 2) s (s % 2 == 1)
-      (λ e. let odd = eqb-true (s % 2) 1 e in omega (arith, odd)) (λ e. let even = eqb-false (s % 2) 1 e in omega (arith, even)))
+    (λ e. let odd = eqb-true (s % 2) 1 e in omega (arith, odd)) (λ e. let even = eqb-false (s % 2) 1 e in omega (arith, even)))
 
 tail_lowest : (pieces : List Piece) (s : ℕ) → AreInRange pieces → s < 2 * length pieces → IsEnd (tail_at pieces s)
 tail_lowest pieces s r below = by_way (s % 2 == 1)
@@ -88,14 +88,16 @@ module _ (pieces : List Piece) (ends : List End) (tails : List ℕ) (last : ℕ)
 
   agrees_above : (i j : ℕ) → j < i → i < length ends → Agrees i j
   agrees_above i j less i_in =
-      let below = agrees_below j i less i_in in
-      (λ h. sym (below.0 (one_turned (end_at ends i) (end_at ends j) h)),
-        λ h e. below.1 (turned_false i j h (true_or_false (is_one_point (end_at ends j) (end_at ends i)))) (sym e))
+      let below = agrees_below j i less i_in in (
+        λ h. sym (below.0 (one_turned (end_at ends i) (end_at ends j) h)),
+        λ h e. below.1 (turned_false i j h (true_or_false (is_one_point (end_at ends j) (end_at ends i)))) (sym e),
+      )
 
   agrees_same : (i j : ℕ) → i ≡ j → Agrees i j
-  agrees_same i j same =
-      (λ h. ap (λ (m : ℕ). node_of_end ends tails m) same,
-        λ h e. not_both (is_one_point (end_at ends i) (end_at ends j)) (subst (λ (m : ℕ). is_one_point (end_at ends i) (end_at ends m) ≡ true) same (one_alone (end_at ends i))) h)
+  agrees_same i j same = (
+    λ h. ap (λ (m : ℕ). node_of_end ends tails m) same,
+    λ h e. not_both (is_one_point (end_at ends i) (end_at ends j)) (subst (λ (m : ℕ). is_one_point (end_at ends i) (end_at ends m) ≡ true) same (one_alone (end_at ends i))) h,
+  )
 
   agrees : (i j : ℕ) → i < length ends → j < length ends → Agrees i j
   agrees i j i_in j_in = by_less (i == j) (nat_lt i j) (eqb-true i j) (eqb-false i j) (ltb-true i j) (ltb-false i j)
@@ -114,13 +116,13 @@ module _ (pieces : List Piece) (ends : List End) (tails : List ℕ) (last : ℕ)
   tails_are = record {
     one_each = each;
     alike = λ s t s_in t_in.
-      let i = place_of s s_in in
-      let j = place_of t t_in in
-      let first : node_of_end ends tails i.0 ≡ get_or tails s 0 = ap (λ (e : End). get_or tails e.step 0) i.2 in
-      let second : node_of_end ends tails j.0 ≡ get_or tails t 0 = ap (λ (e : End). get_or tails e.step 0) j.2 in
-      ap (λ (m : ℕ). m == get_or tails t 0) (sym first) ∙ ap (λ (m : ℕ). node_of_end ends tails i.0 == m) (sym second) ∙ compared i.0 j.0 i.1 j.1
-      ∙ ap (λ (e : End). is_one_point e (end_at ends j.0)) i.2 ∙ ap (λ (e : End). is_one_point (end_of (tail_at pieces s) s) e) j.2
-      ∙ one_where_same (tail_at pieces s) (tail_at pieces t) s t (tail_lowest pieces s r s_in) (tail_lowest pieces t r t_in);
+        let i = place_of s s_in in
+        let j = place_of t t_in in
+        let first : node_of_end ends tails i.0 ≡ get_or tails s 0 = ap (λ (e : End). get_or tails e.step 0) i.2 in
+        let second : node_of_end ends tails j.0 ≡ get_or tails t 0 = ap (λ (e : End). get_or tails e.step 0) j.2 in
+        ap (λ (m : ℕ). m == get_or tails t 0) (sym first) ∙ ap (λ (m : ℕ). node_of_end ends tails i.0 == m) (sym second) ∙ compared i.0 j.0 i.1 j.1
+        ∙ ap (λ (e : End). is_one_point e (end_at ends j.0)) i.2 ∙ ap (λ (e : End). is_one_point (end_of (tail_at pieces s) s) e) j.2
+        ∙ one_where_same (tail_at pieces s) (tail_at pieces t) s t (tail_lowest pieces s r s_in) (tail_lowest pieces t r t_in);
   }
 
 both_length : (es : List (ℕ × Piece)) → length (flat_map both_ends es) ≡ 2 * length es

@@ -74,7 +74,7 @@ fn ratio(num: i64, den: i64) -> Cut
 }
 
 /// The part of the way along `r` to the line of `q`.
-fn crossing(r: &Route, q: &Route) -> Cut
+fn crossing_at(r: &Route, q: &Route) -> Cut
     requires r_in { IsProperSegmentInRange r.now.from r.now.to }
     requires q_in { IsProperSegmentInRange q.now.from q.now.to }
     ensures { result ≡ crossing_at r.now q.now }
@@ -96,14 +96,14 @@ fn are_in_line(r: &Route, q: &Route) -> bool
 }
 
 /// Whether a cut is strictly between the ends.
-fn between_ends(cut: &Cut) -> bool
+fn is_between_ends(cut: &Cut) -> bool
     ensures { result ≡ is_between_ends cut.now }
 {
     0 < cut.num && cut.num < cut.den
 }
 
 /// The cut of the route `r` by `q`: at a point that they share, and that isn't an end of `r`.
-fn cut_by(r: &Route, q: &Route) -> Option<Cut>
+fn cut_of(r: &Route, q: &Route) -> Option<Cut>
     requires r_in { IsProperSegmentInRange r.now.from r.now.to }
     requires q_in { IsProperSegmentInRange q.now.from q.now.to }
     ensures { result ≡ cut_of r.now q.now }
@@ -111,8 +111,8 @@ fn cut_by(r: &Route, q: &Route) -> Option<Cut>
     if are_in_line(r, q) {
         return None;
     }
-    let t = crossing(r, q);
-    if between_ends(&t) && touch(r.from, r.to, q.from, q.to) {
+    let t = crossing_at(r, q);
+    if is_between_ends(&t) && touch(r.from, r.to, q.from, q.to) {
         Some(t)
     } else {
         None
@@ -190,7 +190,7 @@ pub(crate) fn cuts(alloc: Global, routes: &[Route], r: &Route) -> Result<Vec<Cut
 {
     let mut cuts = Vec::new(alloc);
     for q in routes {
-        if let Some(cut) = cut_by(r, q) {
+        if let Some(cut) = cut_of(r, q) {
             insert(&mut cuts, cut)?;
         }
     }

@@ -15,7 +15,7 @@ use exact_geom::Point;
 use std::alloc::Global;
 use text_spec::NoMemory;
 
-fn opposite(d: Point) -> Point
+fn reversed_direction(d: Point) -> Point
     requires { IsDirection d }
     ensures value { result ≡ Rattle.route_spec.specs.Routes.reversed_direction d }
     ensures direction { IsDirection result }
@@ -24,7 +24,7 @@ fn opposite(d: Point) -> Point
 }
 
 /// The direction in which a step leads.
-fn heading(pieces: &[Piece], step: usize) -> Point
+fn heading_at(pieces: &[Piece], step: usize) -> Point
     requires in_range { AreInRange pieces.now }
     requires step { step < 2 * length pieces.now }
     ensures value { result ≡ heading_at pieces.now step }
@@ -34,7 +34,7 @@ fn heading(pieces: &[Piece], step: usize) -> Point
     if step % 2 == 1 {
         piece.direction
     } else {
-        opposite(piece.direction)
+        reversed_direction(piece.direction)
     }
 }
 
@@ -46,7 +46,7 @@ fn turn_to(pieces: &[Piece], step: usize, other: usize) -> u32
     ensures value { result ≡ turn_between (step_at pieces.now step) (step_at pieces.now other) }
     ensures at_most { result ≤ 16 }
 {
-    u32::from(turn(heading(pieces, step), heading(pieces, other)))
+    u32::from(turn(heading_at(pieces, step), heading_at(pieces, other)))
 }
 
 /// Lowers the cost of a step that may follow another, if it costs less by way of it; then it waits.
@@ -141,7 +141,7 @@ fn costs(alloc: Global, pieces: &[Piece], source: usize, far: u32) -> Result<Vec
     Ok(costs)
 }
 
-fn depth(forward: u32, back: u32, far: u32) -> Option<u32>
+fn lesser_below(forward: u32, back: u32, far: u32) -> Option<u32>
     ensures { result ≡ lesser_below far forward back }
 {
     let least = if back < forward { back } else { forward };
@@ -162,7 +162,11 @@ fn depth(forward: u32, back: u32, far: u32) -> Option<u32>
 /// with a turn for each piece that can follow.
 ///
 /// Source: angular depth of segments after Turner (2007); sixteenths of a half turn are ours.
-pub fn turn_depths(alloc: Global, pieces: &[Piece], source: usize) -> Result<Vec<Option<u32>>, NoMemory>
+pub fn turn_depths(
+    alloc: Global,
+    pieces: &[Piece],
+    source: usize,
+) -> Result<Vec<Option<u32>>, NoMemory>
     requires pieces { ArePiecesOfPlan pieces.now }
     requires source { source < length pieces.now }
     ensures { IfOk result (λ depths. depths.items ≡ turn_depths_of pieces.now source) }
@@ -171,7 +175,7 @@ pub fn turn_depths(alloc: Global, pieces: &[Piece], source: usize) -> Result<Vec
     let costs = costs(alloc, pieces, source, far)?;
     let mut depths = Vec::new(alloc);
     for k in 0..pieces.len() {
-        depths.push(depth(costs[2 * k + 1], costs[2 * k], far))?;
+        depths.push(lesser_below(costs[2 * k + 1], costs[2 * k], far))?;
     }
     Ok(depths)
 }

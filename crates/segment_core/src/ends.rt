@@ -60,7 +60,7 @@ fn append(ends: &mut Vec<End>, end: End) -> Result<(), NoMemory>
     ensures { OnOk result (ends.new.items ≡ ends.old.items ++ end ∷ []) }
 {
     ends.push(end)?;
-        Ok(())
+    Ok(())
 }
 
 /// The ends of pieces, in the order of the steps that lead from them.

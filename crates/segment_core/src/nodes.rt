@@ -57,7 +57,7 @@ impl Star {
 }
 
 /// The step on the same piece in the other heading.
-fn reversed(step: usize) -> usize
+fn reversed_step(step: usize) -> usize
     requires { step < 131072 }
     ensures { result ≡ reversed_step step }
 {
@@ -84,7 +84,7 @@ impl Nodes {
         ensures { result ≡ get_or self.now.tails.items (reversed_step step) 0 }
     {
         let _ = pieces;
-        self.tails[reversed(step)]
+        self.tails[reversed_step(step)]
     }
 }
 

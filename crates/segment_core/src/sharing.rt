@@ -23,20 +23,15 @@ fn counts_at(pieces: &[Piece], nodes: &Nodes, k: usize, at: u32, step: usize) ->
 }
 
 /// The same for pieces that don't have an end at `from`.
-fn counts_apart(
-    pieces: &[Piece],
-    nodes: &Nodes,
-    k: usize,
-    at: u32,
-    from: u32,
-    step: usize,
-) -> bool
+fn counts_apart(pieces: &[Piece], nodes: &Nodes, k: usize, at: u32, from: u32, step: usize) -> bool
     requires in_range { AreInRange pieces.now }
     requires nodes { AreNodesOf pieces.now nodes.now.tails.items nodes.now.leaving.items }
     requires step { step < 2 * length pieces.now }
     ensures { result ≡ counts_apart nodes.now.tails.items k at from step }
 {
-    counts_at(pieces, nodes, k, at, step) && from != nodes.tails[step] && from != nodes.head(pieces, step)
+    counts_at(pieces, nodes, k, at, step)
+        && from != nodes.tails[step]
+        && from != nodes.head(pieces, step)
 }
 
 /// How many pieces but `k` have the end of `k` at which the step `2 k` ends.

@@ -19,7 +19,7 @@ fn size(value: i64) -> i64
 }
 
 /// The second direction as it is seen along the first, turned to the upper half.
-fn relative(d: Point, e: Point) -> Point
+fn relative_direction(d: Point, e: Point) -> Point
     requires d_in { IsDirection d }
     requires e_in { IsDirection e }
     ensures value { result ≡ relative_direction d e }
@@ -64,7 +64,7 @@ fn passed(x: i64, y: i64, r: Point) -> u8
 }
 
 /// Whether `r` leads straight back.
-fn straight_back(r: Point) -> bool
+fn is_straight_back(r: Point) -> bool
     ensures { result ≡ is_straight_back r }
 {
     r.x < 0 && r.y == 0
@@ -80,7 +80,7 @@ pub fn turn(d: Point, e: Point) -> u8
     ensures value { result ≡ turn_of d e }
     ensures at_most { result ≤ 16 }
 {
-    let r = relative(d, e);
+    let r = relative_direction(d, e);
     let first = passed(981, 195, r)
         + passed(924, 383, r)
         + passed(831, 556, r)
@@ -96,6 +96,6 @@ pub fn turn(d: Point, e: Point) -> u8
         + passed(-831, 556, r)
         + passed(-924, 383, r)
         + passed(-981, 195, r);
-    let back = if straight_back(r) { 1 } else { 0 };
+    let back = if is_straight_back(r) { 1 } else { 0 };
     first + second + third + back
 }

@@ -1,11 +1,11 @@
-use Rattle.std.proofs.Common.{◌≡◌, ◌<◌, ◌∙◌, List, [], ◌++◌, length, get_or, drop, sym, ap, subst, arith}
+use Rattle.std.proofs.Common.{◌≡◌, ◌∙◌, List, [], ◌++◌, length, drop, sym, ap, subst, arith}
 use Rattle.std.specs.Prelude.{All}
 use Rattle.std.specs.List.{flat_map, enumerate_from}
 use Rattle.std.proofs.lemmas.List.{append-nil, drop_all}
 use Rattle.plan_spec.specs.declared.item.Route.{Route}
 use Rattle.plan_spec.specs.Ranges.{IsProperSegmentInRange}
 use Rattle.plan_laws.proofs.Ranges.{sound_limits, sound_routes}
-use Rattle.route_spec.specs.Routes.{Piece, pieces_of, pieces_of_route}
+use Rattle.route_spec.specs.Routes.{pieces_of, pieces_of_route}
 use Rattle.segment_core.proofs.cut_routes.pieces.Goals as goal
 
 pub overflow_cast-number : goal.overflow_cast-number

@@ -1,5 +1,5 @@
-use Rattle.std.proofs.Common.{◌≡◌, ◌<◌, ◌+◌, ◌∙◌, ℕ, List, [], ◌∷◌, length, get_or, drop, refl, sym, ap, subst}
-use Rattle.std.specs.Prelude.{All, Option, Some, None}
+use Rattle.std.proofs.Common.{◌≡◌, ◌+◌, ◌∙◌, [], drop, sym, ap, subst}
+use Rattle.std.specs.Prelude.{Option, Some}
 use Rattle.std.specs.List.{filter_map, cons_option}
 use Rattle.std.proofs.lemmas.List.{drop_all}
 use Rattle.plane_spec.specs.Fractions.{Fraction}
@@ -17,7 +17,7 @@ use Rattle.segment_core.proofs.cuts.cuts.Goals as goal
 pub insert-requires-clause-cut : goal.insert-requires-clause-cut
 insert-requires-clause-cut c =
     let q_in = subst (λ (q : Route). IsProperSegmentInRange q.from q.to) (sym c.q-item.is) (c.requires.routes_in c.loop-q.q-index c.q-item.result c.loop-q-test.true) in
-    cut_is c.args.r.now c.q-item.result c.requires.r_in q_in c.in-Some.cut (sym c.cut_by.ensures ∙ c.in-Some.is)
+    cut_is c.args.r.now c.q-item.result c.requires.r_in q_in c.in-Some.cut (sym c.cut_of.ensures ∙ c.in-Some.is)
 
 pub loop-q-preserved : goal.loop-q-preserved
 loop-q-preserved c =
@@ -32,15 +32,15 @@ loop-q-preserved c =
     let all = filter_map (cut_of r) routes in
     let rest = filter_map (cut_of r) (drop (n + 1) routes) in
     let now = c.loop-q.cuts.items in
-    elim c.match-cut_by.branch [
+    elim c.match-cut_of.branch [
       | in-Some+in_ok-insert w ↦
-          let found : cut_of r q ≡ Some w.in-Some.cut = sym c.cut_by.ensures ∙ w.in-Some.is in
+          let found : cut_of r q ≡ Some w.in-Some.cut = sym c.cut_of.ensures ∙ w.in-Some.is in
           let here = next ∙ ap (λ (f : Option Fraction). cons_option f rest) found in
           rw w.cuts-is
           (cutting_more now rest all _ w.in-Some.cut (cut_is r q c.requires.r_in q_in w.in-Some.cut found)
-            (subst (λ ts. Cutting now ts all) here c.loop-q.invariant) w.in_ok-insert.ensures)
+          (subst (λ ts. Cutting now ts all) here c.loop-q.invariant) w.in_ok-insert.ensures)
       | in_default w ↦
-          let none = next ∙ ap (λ (f : Option Fraction). cons_option f rest) (sym c.cut_by.ensures ∙ w.in_default.is) in
+          let none = next ∙ ap (λ (f : Option Fraction). cons_option f rest) (sym c.cut_of.ensures ∙ w.in_default.is) in
           rw w.cuts-is (subst (λ ts. Cutting now ts all) none c.loop-q.invariant)
     ]
 

@@ -1,4 +1,4 @@
-use Rattle.std.proofs.Common.{◌≡◌, sym, ap, ◌∙◌, rules}
+use Rattle.std.proofs.Common.{rules}
 use Rattle.plane_spec.specs.Fractions.{along}
 use Rattle.segment_core.proofs.Cutting.{over_positive}
 use Rattle.segment_core.proofs.cuts.point_of.Goals as goal

@@ -1,8 +1,8 @@
-use Rattle.std.proofs.Common.{◌≡◌, ◌≢◌, ◌<◌, ◌≤◌, ◌/◌, ◌+◌, ◌∙◌, length, get_or, refl, sym, ap, subst, arith}
+use Rattle.std.proofs.Common.{◌≡◌, ◌≢◌, ◌<◌, ◌≤◌, ◌/◌, ◌+◌, length, get_or, subst}
 use Rattle.segment_core.specs.Steps.{cost_at, step_at}
 use Rattle.route_spec.specs.Routes.{turn_between}
 use Rattle.segment_core.specs.Steps.{row_of}
-use Rattle.segment_core.proofs.Easing.{Relaxing, relaxing_none, relaxing_same, relaxing_more, row_inside, row_follows, relaxed}
+use Rattle.segment_core.proofs.Easing.{relaxing_same, relaxing_more, row_inside, row_follows, relaxed}
 use Rattle.segment_core.proofs.depths.relax.Goals.{then-other-step+in_ok-ease, else-other-step}
 use Rattle.segment_core.proofs.depths.relax.Goals as goal
 

@@ -1,4 +1,4 @@
-use Rattle.std.proofs.Common.{◌≡◌, ◌≢◌, ◌<◌, ◌≤◌, ◌+◌, ◌*◌, ◌==◌, ◌∙◌, ◌++◌, ℕ, zero, suc, Bool, true, false, List, [], ◌∷◌, Option, None, length, length-append, get_or, refl, sym, ap, arith, subst}
+use Rattle.std.proofs.Common.{◌≡◌, ◌≢◌, ◌<◌, ◌+◌, ◌*◌, ◌==◌, ◌∙◌, ◌++◌, ℕ, zero, suc, Bool, true, false, List, [], ◌∷◌, Option, None, length, length-append, get_or, refl, sym, ap, arith, subst}
 use Rattle.std.proofs.lemmas.Bool.{eqb-true, eqb-false}
 use Rattle.std.proofs.lemmas.List.{get_or_read_under}
 use Rattle.segment_core.specs.Steps.{cost_at, lesser_below}
@@ -61,6 +61,6 @@ loop-k-preserved c =
     let there : 2 * k + 1 < length costs = omega (arith, all, c.loop-k-test.true) in
     let forward = get_or_read_under costs (2 * k + 1) (length costs) c.index.result.now 0 c.index.ensures there refl in
     let back = get_or_read_under costs (2 * k) (length costs) c.index-in-loop-k.result.now 0 c.index-in-loop-k.ensures (omega (arith, there)) refl in
-    let is : c.depth.result ≡ lesser_below far (cost_at costs (2 * k + 1)) (cost_at costs (2 * k)) =
-    c.depth.ensures ∙ ap (λ (a : ℕ). lesser_below far a c.index-in-loop-k.result.now) forward ∙ ap (λ (b : ℕ). lesser_below far (cost_at costs (2 * k + 1)) b) back in
-    rw c.in_ok-push.ensures.items (listed_more c.loop-k.depths.items costs far k c.depth.result is c.loop-k.invariant)
+    let is : c.lesser_below.result ≡ lesser_below far (cost_at costs (2 * k + 1)) (cost_at costs (2 * k)) =
+    c.lesser_below.ensures ∙ ap (λ (a : ℕ). lesser_below far a c.index-in-loop-k.result.now) forward ∙ ap (λ (b : ℕ). lesser_below far (cost_at costs (2 * k + 1)) b) back in
+    rw c.in_ok-push.ensures.items (listed_more c.loop-k.depths.items costs far k c.lesser_below.result is c.loop-k.invariant)

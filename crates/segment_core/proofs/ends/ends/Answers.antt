@@ -2,7 +2,6 @@ use Rattle.std.proofs.Common.{◌≡◌, ◌<◌, ◌∙◌, ℕ, List, length, 
 use Rattle.std.proofs.lemmas.List.{get_or_default}
 use Rattle.route_spec.specs.Routes.{Piece}
 use Rattle.route_laws.specs.Bounds.{IsPieceInRange}
-use Rattle.exact_geom.specs.Parts.{HasRPointParts}
 use Rattle.segment_core.specs.Steps.{AreInRange, no_piece}
 use Rattle.segment_core.proofs.ends.ends.Goals as goal
 

@@ -1,9 +1,9 @@
-use Rattle.std.proofs.Common.{◌≡◌, ◌<◌, ◌≤◌, ◌+◌, ◌*◌, ◌∙◌, ℕ, List, length, get_or, replicate, drop, sym, ap, subst, arith}
+use Rattle.std.proofs.Common.{◌≡◌, ◌<◌, ◌+◌, ◌*◌, ℕ, List, length, get_or, drop, sym, ap, subst, arith}
 use Rattle.std.specs.List.Sorted.{IsPermutation}
 use Rattle.std.proofs.lemmas.List.{length-replicate}
 use Rattle.segment_core.specs.declared.ends.End.{End}
 use Rattle.segment_core.specs.Nodes.{AreTailsOf}
-use Rattle.segment_core.specs.Ends.{AreSortedEnds, AreNumbered, ends_of}
+use Rattle.segment_core.specs.Ends.{AreSortedEnds}
 use Rattle.segment_core.proofs.Places.{written_back}
 use Rattle.segment_core.proofs.SortedEnds.{sorted_ends}
 use Rattle.segment_core.proofs.Tails.{tails_are, tails_below, ends_length}

@@ -1,4 +1,4 @@
-use Rattle.std.proofs.Common.{◌≡◌, ◌<◌, ◌≤◌, ◌+◌, ◌*◌, ◌∙◌, ℕ, List, length, get_or, sym, ap, subst, arith}
+use Rattle.std.proofs.Common.{◌<◌, ◌≤◌, ◌*◌, ◌∙◌, ℕ, List, length, get_or, sym, ap, subst, arith}
 use Rattle.segment_core.specs.Nodes.{counts_at}
 use Rattle.segment_core.specs.Steps.{row_of}
 use Rattle.segment_core.proofs.Easing.{row_inside}

@@ -1,4 +1,4 @@
-use Rattle.std.proofs.Common.{◌*◌, ◌+◌}
+use Rattle.std.proofs.Common.{◌*◌}
 use Rattle.segment_core.specs.Nodes.{counts_at}
 use Rattle.segment_core.specs.Steps.{row_of}
 use Rattle.segment_core.proofs.Counting.{Counting}

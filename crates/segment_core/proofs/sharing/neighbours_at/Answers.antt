@@ -1,4 +1,4 @@
-use Rattle.std.proofs.Common.{◌≡◌, ◌<◌, ◌+◌, ◌*◌, ◌∙◌, ℕ, length, get_or, refl, ap, arith}
+use Rattle.std.proofs.Common.{◌+◌, ◌*◌, length, refl, arith}
 use Rattle.std.proofs.lemmas.List.{get_or_read_under}
 use Rattle.segment_core.proofs.Counting.{neighbours_are}
 use Rattle.segment_core.proofs.sharing.neighbours_at.Goals as goal

@@ -1,4 +1,4 @@
-use Rattle.std.proofs.Common.{◌≡◌, ◌<◌, ◌∙◌, [], length, get_or, ap, arith}
+use Rattle.std.proofs.Common.{◌<◌, ◌∙◌, [], length, arith}
 use Rattle.std.proofs.lemmas.List.{get_or_default}
 use Rattle.segment_core.proofs.Reversed.{row_is, reversed_below}
 use Rattle.segment_core.proofs.nodes.Nodes.after.Goals as goal

@@ -1,9 +1,9 @@
-use Rattle.std.proofs.Common.{◌≡◌, sym, ap, ◌∙◌, rules, w64}
+use Rattle.std.proofs.Common.{◌≡◌, ap, ◌∙◌, rules, w64}
 use Rattle.std.specs.Prelude.{FitsSigned}
 use Rattle.std.proofs.lemmas.Int.{to_z-of_z}
 use Rattle.plane_spec.specs.Fractions.{fraction}
 use Rattle.plane_spec.specs.Vectors.{vector, cross_of}
-use Rattle.segment_core.proofs.cuts.crossing.Goals as goal
+use Rattle.segment_core.proofs.cuts.crossing_at.Goals as goal
 
 pub returns : goal.returns
 returns c =
