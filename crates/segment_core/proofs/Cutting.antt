@@ -52,8 +52,10 @@ third a b g h = grind (arith, ints)
 or_before : (x y : Fraction) → same_value x y ≡ false → is_before y x ≡ false → is_before x y ≡ true
 or_before x y g h = third (x.num *ℤ y.den) (y.num *ℤ x.den) g h
 
-through : (x y z : Fraction) → IsCut x → IsCut y → IsCut z → is_before x y ≡ true → is_before y z ≡ true → is_before x z ≡ true
-through x y z x_is y_is z_is h k = before_transitive x y z (over_positive x x_is) (over_positive y y_is) (over_positive z z_is) h k
+through : (x y z : Fraction) → IsCut x → IsCut y → IsCut z → is_before x y ≡ true → is_before y z ≡ true
+    → is_before x z ≡ true
+through x y z x_is y_is z_is h k = before_transitive x y z (over_positive x x_is) (over_positive y y_is)
+    (over_positive z z_is) h k
 
 -- x comes before y, and y before all of these: x has none of their values, and comes before them
 none_after : (x y : Fraction) (ts : List Fraction) → IsCut x → IsCut y → All IsCut ts → is_before x y ≡ true
@@ -61,7 +63,8 @@ none_after : (x y : Fraction) (ts : List Fraction) → IsCut x → IsCut y → A
 none_after x y [] x_is y_is all h after = refl
 none_after x y (t ∷ ts) x_is y_is all h after =
     ap (λ b. b || list_any (same_value x) ts)
-    (other_value x t (through x y t x_is y_is (All-head IsCut t ts all) h (All-head (IsBefore is_before y) t ts after).forth))
+    (other_value x t (through x y t x_is y_is (All-head IsCut t ts all) h (All-head
+        (IsBefore is_before y) t ts after).forth))
     ∙ none_after x y ts x_is y_is (All-tail IsCut t ts all) h (All-tail (IsBefore is_before y) t ts after)
 
 all_after : (x y : Fraction) (ts : List Fraction) → IsCut x → IsCut y → All IsCut ts → is_before x y ≡ true
@@ -69,7 +72,8 @@ all_after : (x y : Fraction) (ts : List Fraction) → IsCut x → IsCut y → Al
 all_after x y [] x_is y_is all h after = All-nil (IsBefore is_before x)
 all_after x y (t ∷ ts) x_is y_is all h after =
     All-cons (IsBefore is_before x) t ts
-    (before_of x t (through x y t x_is y_is (All-head IsCut t ts all) h (All-head (IsBefore is_before y) t ts after).forth))
+    (before_of x t (through x y t x_is y_is (All-head IsCut t ts all) h (All-head
+        (IsBefore is_before y) t ts after).forth))
     (all_after x y ts x_is y_is (All-tail IsCut t ts all) h (All-tail (IsBefore is_before y) t ts after))
 
 -- ---- the place of a cut
@@ -80,7 +84,8 @@ rising_parted x [] x_is all rising i j d low high h = absurd (omega (arith, high
 rising_parted x (y ∷ ts) x_is all rising zero zero d low high h = h
 rising_parted x (y ∷ ts) x_is all rising zero (suc j) d low high h =
     let there : j < length ts = omega (arith, high) in
-    through y (get_or ts j d) x (All-head IsCut y ts all) (All-tail IsCut y ts all j d there) x_is (rising.0 j d there).forth h
+    through y (get_or ts j d) x (All-head IsCut y ts all) (All-tail IsCut y ts all j d there) x_is
+        (rising.0 j d there).forth h
 rising_parted x (y ∷ ts) x_is all rising (suc i) zero d low high h = absurd (omega (arith, low))
 rising_parted x (y ∷ ts) x_is all rising (suc i) (suc j) d low high h =
     rising_parted x ts x_is (All-tail IsCut y ts all) rising.1 i j d (omega (arith, low)) (omega (arith, high)) h
@@ -118,14 +123,16 @@ same_at x (y ∷ ts) (suc i) x_is all rising h below =
     ap (λ b. b || list_any (same_value x) ts) (other_value_back y x (h.0 0 y (omega arith) (omega arith)))
     ∙ same_at x ts i x_is (All-tail IsCut y ts all) rising.1 (later_place x y ts i h) (omega (arith, below))
 
-none_before : (x : Fraction) (ts : List Fraction) (i : ℕ) → IsPlace x ts i → length ts ≤ i → list_any (same_value x) ts ≡ false
+none_before : (x : Fraction) (ts : List Fraction) (i : ℕ) → IsPlace x ts i → length ts ≤ i
+    → list_any (same_value x) ts ≡ false
 none_before x [] i h above = refl
 none_before x (y ∷ ts) zero h above = absurd (omega (arith, above))
 none_before x (y ∷ ts) (suc i) h above =
     ap (λ b. b || list_any (same_value x) ts) (other_value_back y x (h.0 0 y (omega arith) (omega arith)))
     ∙ none_before x ts i (later_place x y ts i h) (omega (arith, above))
 
-pub found_at : (x : Fraction) (ts : List Fraction) (i : ℕ) → IsCut x → All IsCut ts → IsRising is_before ts → IsPlace x ts i
+pub found_at : (x : Fraction) (ts : List Fraction) (i : ℕ) → IsCut x → All IsCut ts → IsRising is_before ts
+    → IsPlace x ts i
     → (nat_lt i (length ts) && same_value x (get_or ts i x)) ≡ list_any (same_value x) ts
 found_at x ts i x_is all rising h = by (nat_lt i (length ts)) (ltb-true i (length ts)) (ltb-false i (length ts))
   where
@@ -136,7 +143,8 @@ found_at x ts i x_is all rising h = by (nat_lt i (length ts)) (ltb-true i (lengt
 
 -- ---- cuts with one more
 
-inserted_hold : (P : Fraction → Type 0) (x : Fraction) (ts : List Fraction) → P x → All P ts → All P (inserted_by is_before x ts)
+inserted_hold : (P : Fraction → Type 0) (x : Fraction) (ts : List Fraction) → P x → All P ts
+    → All P (inserted_by is_before x ts)
 inserted_hold P x [] here all = All-cons P x [] here all
 inserted_hold P x (y ∷ ts) here all = by (is_before y x) (inserted_hold P x ts here (All-tail P y ts all))
   where
@@ -157,7 +165,8 @@ inserted_rising : (x : Fraction) (ts : List Fraction) → IsCut x → All IsCut 
 inserted_rising x [] x_is all rising none = (All-nil (IsBefore is_before x), tt)
 inserted_rising x (y ∷ ts) x_is all rising none =
     by (is_before y x) refl
-    (inserted_rising x ts x_is (All-tail IsCut y ts all) rising.1 (neither_second (same_value x y) (list_any (same_value x) ts) none))
+    (inserted_rising x ts x_is (All-tail IsCut y ts all) rising.1 (neither_second (same_value x y) (list_any
+        (same_value x) ts) none))
   where
     by : (b : Bool) → is_before y x ≡ b → IsRising is_before (inserted_by is_before x ts)
         → IsRising is_before (cond b (y ∷ inserted_by is_before x ts) (x ∷ y ∷ ts))
@@ -185,7 +194,8 @@ with_cut_rising x ts x_is all rising = by (list_any (same_value x) ts) refl
     by false e = inserted_rising x ts x_is all rising e
 
 -- what stands at the place decides whether the cut is put in there
-pub put_in : (x : Fraction) (ts : List Fraction) (i : ℕ) → IsCut x → All IsCut ts → IsRising is_before ts → i ≤ length ts
+pub put_in : (x : Fraction) (ts : List Fraction) (i : ℕ) → IsCut x → All IsCut ts → IsRising is_before ts
+    → i ≤ length ts
     → IsPlace x ts i → (nat_lt i (length ts) && same_value x (get_or ts i x)) ≡ false → insert ts i x ≡ with_cut x ts
 put_in x ts i x_is all rising below h other =
     inserted_at x ts i below h
@@ -231,12 +241,14 @@ put_all now [] = now
 put_all now (t ∷ ts) = put_all (inserted_by is_before t now) ts
 
 put_last : (x : Fraction) (ts now : List Fraction) → IsCut x → All IsCut ts → All IsCut now
-    → All (λ t. same_value t x ≡ false) ts → put_all (inserted_by is_before x now) ts ≡ inserted_by is_before x (put_all now ts)
+    → All (λ t. same_value t x ≡ false) ts → put_all (inserted_by is_before x now) ts
+        ≡ inserted_by is_before x (put_all now ts)
 put_last x [] now x_is all now_all apart = refl
 put_last x (t ∷ ts) now x_is all now_all apart =
     let t_is = All-head IsCut t ts all in
     ap (λ r. put_all r ts) (swapped x t now x_is t_is now_all (All-head (λ t. same_value t x ≡ false) t ts apart))
-    ∙ put_last x ts (inserted_by is_before t now) x_is (All-tail IsCut t ts all) (inserted_hold IsCut t now t_is now_all)
+    ∙ put_last x ts (inserted_by is_before t now) x_is (All-tail IsCut t ts all)
+        (inserted_hold IsCut t now t_is now_all)
     (All-tail (λ t. same_value t x ≡ false) t ts apart)
 
 abbrev IsFresh : List Fraction → Fraction → Type 0
@@ -245,20 +257,26 @@ IsFresh seen t = list_any (same_value t) seen ≡ false
 -- distinct ones have none of the values before them
 fresh : (seen ts : List Fraction) → All (λ t. list_any (same_value t) seen ≡ false) (distinct_after same_value seen ts)
 fresh seen [] = All-nil (λ t. list_any (same_value t) seen ≡ false)
-fresh seen (x ∷ ts) = by (list_any (same_value x) seen) refl (weaker (distinct_after same_value (x ∷ seen) ts) (fresh (x ∷ seen) ts))
+fresh seen (x ∷ ts) = by (list_any (same_value x) seen) refl (weaker (distinct_after same_value (x ∷ seen) ts)
+    (fresh (x ∷ seen) ts))
   where
-    weaker : (ds : List Fraction) → All (λ t. same_value t x || list_any (same_value t) seen ≡ false) ds → All (IsFresh seen) ds
-    weaker ds h = λ k d below. neither_second (same_value (get_or ds k d) x) (list_any (same_value (get_or ds k d)) seen) (h k d below)
+    weaker : (ds : List Fraction) → All (λ t. same_value t x || list_any (same_value t) seen ≡ false) ds
+        → All (IsFresh seen) ds
+    weaker ds h = λ k d below. neither_second (same_value (get_or ds k d) x) (list_any (same_value
+        (get_or ds k d)) seen) (h k d below)
 
     by : (b : Bool) → list_any (same_value x) seen ≡ b → All (IsFresh seen) (distinct_after same_value (x ∷ seen) ts)
-        → All (IsFresh seen) (cond b (distinct_after same_value (x ∷ seen) ts) (x ∷ distinct_after same_value (x ∷ seen) ts))
+        → All (IsFresh seen) (cond b (distinct_after same_value (x ∷ seen) ts) (x ∷ distinct_after same_value
+            (x ∷ seen) ts))
     by true e later = later
     by false e later = All-cons (IsFresh seen) x (distinct_after same_value (x ∷ seen) ts) e later
 
-apart_from : (x : Fraction) (seen ts : List Fraction) → All (λ t. same_value t x ≡ false) (distinct_after same_value (x ∷ seen) ts)
+apart_from : (x : Fraction) (seen ts : List Fraction)
+    → All (λ t. same_value t x ≡ false) (distinct_after same_value (x ∷ seen) ts)
 apart_from x seen ts = λ k d below.
     let ds = distinct_after same_value (x ∷ seen) ts in
-    neither_first (same_value (get_or ds k d) x) (list_any (same_value (get_or ds k d)) seen) (fresh (x ∷ seen) ts k d below)
+    neither_first (same_value (get_or ds k d) x) (list_any (same_value (get_or ds k d)) seen) (fresh
+        (x ∷ seen) ts k d below)
 
 ordered : (seen ts : List Fraction) → All IsCut ts
     → put_all [] (distinct_after same_value seen ts) ≡ in_order is_before (distinct_after same_value seen ts)
@@ -272,9 +290,11 @@ ordered seen (x ∷ ts) all = by (list_any (same_value x) seen) (ordered (x ∷ 
         (firsts_hold IsCut same_value (x ∷ seen) ts (All-tail IsCut x ts all)) (All-nil IsCut) (apart_from x seen ts)
 
     by : (b : Bool)
-        → put_all [] (distinct_after same_value (x ∷ seen) ts) ≡ in_order is_before (distinct_after same_value (x ∷ seen) ts)
+        → put_all [] (distinct_after same_value (x ∷ seen) ts)
+            ≡ in_order is_before (distinct_after same_value (x ∷ seen) ts)
         → put_all [] (cond b (distinct_after same_value (x ∷ seen) ts) (x ∷ distinct_after same_value (x ∷ seen) ts))
-        ≡ in_order is_before (cond b (distinct_after same_value (x ∷ seen) ts) (x ∷ distinct_after same_value (x ∷ seen) ts))
+        ≡ in_order is_before (cond b (distinct_after same_value (x ∷ seen) ts) (x ∷ distinct_after same_value
+            (x ∷ seen) ts))
     by true later = later
     by false later = put ∙ ap (inserted_by is_before x) later
 
@@ -300,7 +320,8 @@ equal_by : (a b : ℤ) → int_eq a b ≡ (not (int_lt a b) && not (int_lt b a))
 equal_by a b = grind (arith, ints)
 
 -- x and y of one value: z has the value of both or of neither
-same_of_same : (x y z : Fraction) → IsCut x → IsCut y → IsCut z → same_value y x ≡ true → same_value x z ≡ same_value y z
+same_of_same : (x y z : Fraction) → IsCut x → IsCut y → IsCut z → same_value y x ≡ true
+    → same_value x z ≡ same_value y z
 same_of_same x y z x_is y_is z_is h =
     let x_up = over_positive x x_is in
     let y_up = over_positive y y_is in
@@ -309,7 +330,8 @@ same_of_same x y z x_is y_is z_is h =
     alike (is_before x z) (is_before y z) (before_follows x y z x_up y_up z_up (not_before x y h))
     (before_follows y x z y_up x_up z_up (not_after x y h)) in
     let second : is_before z x ≡ is_before z y =
-    alike (is_before z x) (is_before z y) (after x y x_is y_is (not_after x y h)) (after y x y_is x_is (not_before x y h)) in
+    alike (is_before z x) (is_before z y) (after x y x_is y_is (not_after x y h)) (after y x y_is x_is
+        (not_before x y h)) in
     equal_by (x.num *ℤ z.den) (z.num *ℤ x.den) ∙ ap (λ b. not b && not (is_before z x)) first
     ∙ ap (λ b. not (is_before y z) && not b) second ∙ sym (equal_by (y.num *ℤ z.den) (z.num *ℤ y.den))
   where
@@ -330,7 +352,8 @@ any_of_same x y (t ∷ ts) x_is y_is all h =
     ap (λ b. b || list_any (same_value x) ts) (same_of_same x y t x_is y_is (All-head IsCut t ts all) h)
     ∙ ap (λ b. same_value y t || b) (any_of_same x y ts x_is y_is (All-tail IsCut t ts all) h)
 
-any_inserted : (p : Fraction → Bool) (x : Fraction) (ts : List Fraction) → list_any p (inserted_by is_before x ts) ≡ (p x || list_any p ts)
+any_inserted : (p : Fraction → Bool) (x : Fraction) (ts : List Fraction)
+    → list_any p (inserted_by is_before x ts) ≡ (p x || list_any p ts)
 any_inserted p x [] = refl
 any_inserted p x (y ∷ ts) = by (is_before y x) (any_inserted p x ts)
   where
@@ -396,7 +419,8 @@ pub record Cutting (now rest all : List Fraction) : Type 0 where
 pub cutting_begins : (all : List Fraction) → Cutting [] all all
 cutting_begins all = record { rising = tt; cuts = All-nil IsCut; left = refl }
 
-pub cutting_more : (now rest all new : List Fraction) (t : Fraction) → IsCut t → Cutting now (t ∷ rest) all → new ≡ with_cut t now
+pub cutting_more : (now rest all new : List Fraction) (t : Fraction) → IsCut t → Cutting now (t ∷ rest) all
+    → new ≡ with_cut t now
     → Cutting new rest all
 cutting_more now rest all new t t_is h is = record {
   rising = subst (IsRising is_before) (sym is) (with_cut_rising t now t_is h.cuts h.rising);
@@ -404,6 +428,7 @@ cutting_more now rest all new t t_is h is = record {
   left = ap (λ ts. with_cuts ts rest) is ∙ h.left;
 }
 
-pub cutting_ends : (now all : List Fraction) → All IsCut all → Cutting now [] all → now ≡ in_order is_before (distinct_by same_value all)
+pub cutting_ends : (now all : List Fraction) → All IsCut all → Cutting now [] all
+    → now ≡ in_order is_before (distinct_by same_value all)
 cutting_ends now all are h =
     h.left ∙ with_cuts_are all [] [] are (All-nil IsCut) (λ y y_is. refl) ∙ ordered [] all are

@@ -24,29 +24,35 @@ pub record SameParts (a b : End) : Type 0 where
 
 pub parts_of : (a b : End) → is_one_point a b ≡ true → SameParts a b
 parts_of a b h =
-    let halves = both_of (int_eq a.x_num b.x_num && int_eq a.x_den b.x_den) (int_eq a.y_num b.y_num && int_eq a.y_den b.y_den) h in
+    let halves = both_of (int_eq a.x_num b.x_num && int_eq a.x_den b.x_den) (int_eq a.y_num b.y_num
+        && int_eq a.y_den b.y_den) h in
     let xs = both_of (int_eq a.x_num b.x_num) (int_eq a.x_den b.x_den) halves.0 in
     let ys = both_of (int_eq a.y_num b.y_num) (int_eq a.y_den b.y_den) halves.1 in
-    record { x_num = tested_equal a.x_num b.x_num xs.0; x_den = tested_equal a.x_den b.x_den xs.1; y_num = tested_equal a.y_num b.y_num ys.0; y_den = tested_equal a.y_den b.y_den ys.1 }
+    record { x_num = tested_equal a.x_num b.x_num xs.0; x_den = tested_equal a.x_den b.x_den xs.1; y_num =
+        tested_equal a.y_num b.y_num ys.0; y_den = tested_equal a.y_den b.y_den ys.1 }
 
 one_of_parts : (a b : End) → SameParts a b → is_one_point a b ≡ true
 one_of_parts a b p =
     both (int_eq a.x_num b.x_num && int_eq a.x_den b.x_den) (int_eq a.y_num b.y_num && int_eq a.y_den b.y_den)
-    (both (int_eq a.x_num b.x_num) (int_eq a.x_den b.x_den) (equal_tested a.x_num b.x_num p.x_num) (equal_tested a.x_den b.x_den p.x_den))
-    (both (int_eq a.y_num b.y_num) (int_eq a.y_den b.y_den) (equal_tested a.y_num b.y_num p.y_num) (equal_tested a.y_den b.y_den p.y_den))
+    (both (int_eq a.x_num b.x_num) (int_eq a.x_den b.x_den) (equal_tested a.x_num b.x_num p.x_num)
+        (equal_tested a.x_den b.x_den p.x_den))
+    (both (int_eq a.y_num b.y_num) (int_eq a.y_den b.y_den) (equal_tested a.y_num b.y_num p.y_num)
+        (equal_tested a.y_den b.y_den p.y_den))
 
 -- two ends at the point of a third are at one point
 pub one_through : (a b c : End) → is_one_point a c ≡ true → is_one_point b c ≡ true → is_one_point a b ≡ true
 one_through a b c g h =
     let p = parts_of a c g in
     let q = parts_of b c h in
-    one_of_parts a b (record { x_num = p.x_num ∙ sym q.x_num; x_den = p.x_den ∙ sym q.x_den; y_num = p.y_num ∙ sym q.y_num; y_den = p.y_den ∙ sym q.y_den })
+    one_of_parts a b (record { x_num = p.x_num ∙ sym q.x_num; x_den = p.x_den ∙ sym q.x_den; y_num = p.y_num
+        ∙ sym q.y_num; y_den = p.y_den ∙ sym q.y_den })
 
 pub one_along : (a b c : End) → is_one_point a b ≡ true → is_one_point b c ≡ true → is_one_point a c ≡ true
 one_along a b c g h =
     let p = parts_of a b g in
     let q = parts_of b c h in
-    one_of_parts a c (record { x_num = p.x_num ∙ q.x_num; x_den = p.x_den ∙ q.x_den; y_num = p.y_num ∙ q.y_num; y_den = p.y_den ∙ q.y_den })
+    one_of_parts a c (record { x_num = p.x_num ∙ q.x_num; x_den = p.x_den ∙ q.x_den; y_num = p.y_num
+        ∙ q.y_num; y_den = p.y_den ∙ q.y_den })
 
 pub one_turned : (a b : End) → is_one_point a b ≡ true → is_one_point b a ≡ true
 one_turned a b h =
@@ -73,7 +79,8 @@ none_numbered ends tails = record {
   unlike = λ i j less below h. absurd (omega (arith, below));
 }
 
-module _ (ends : List End) (tails : List ℕ) (node at next : ℕ) (sorted : AreSortedEnds ends (length tails)) (n : AreNumbered ends tails node at) (at_in : at < length ends) where
+module _ (ends : List End) (tails : List ℕ) (node at next : ℕ) (sorted : AreSortedEnds ends (length tails))
+    (n : AreNumbered ends tails node at) (at_in : at < length ends) where
   abbrev now : List ℕ
   now = set tails (end_at ends at).step next
 
@@ -81,37 +88,48 @@ module _ (ends : List End) (tails : List ℕ) (node at next : ℕ) (sorted : Are
   here = get_or-set_same tails (end_at ends at).step next 0 (sorted.inside at at_in)
 
   before : (j : ℕ) → j < at → node_of_end ends now j ≡ node_of_end ends tails j
-  before j less = get_or-set_other tails (end_at ends at).step (end_at ends j).step next 0 (sorted.apart j at less at_in)
+  before j less = get_or-set_other tails (end_at ends at).step (end_at ends j).step next 0
+      (sorted.apart j at less at_in)
 
   -- the new end compares rightly with those before
   module _ (step_up : node ≤ next) (at_most : next ≤ node + 1) (first : at ≡ 0 → next ≡ 0)
       (same : (k : ℕ) → k + 1 ≡ at → is_one_point (end_at ends k) (end_at ends at) ≡ true → next ≡ node)
       (other : (k : ℕ) → k + 1 ≡ at → is_one_point (end_at ends k) (end_at ends at) ≡ false → next ≡ node + 1) where
-    alike_here : (i k : ℕ) → k + 1 ≡ at → i ≤ k → is_one_point (end_at ends i) (end_at ends at) ≡ true → node_of_end ends tails i ≡ next
+    alike_here : (i k : ℕ) → k + 1 ≡ at → i ≤ k → is_one_point (end_at ends i) (end_at ends at) ≡ true
+        → node_of_end ends tails i ≡ next
     alike_here i k is low h =
         let k_in : k + 1 < length ends = omega (arith, is, at_in) in
         let h_at = subst (λ (m : ℕ). is_one_point (end_at ends i) (end_at ends m) ≡ true) (sym is) h in
-        let one = subst (λ (m : ℕ). is_one_point (end_at ends k) (end_at ends m) ≡ true) is (sorted.between i k low k_in h_at) in
+        let one = subst (λ (m : ℕ). is_one_point (end_at ends k) (end_at ends m)
+            ≡ true) is (sorted.between i k low k_in h_at) in
         let pair = one_through (end_at ends i) (end_at ends k) (end_at ends at) h one in
         by_place (i == k) (eqb-true i k) (eqb-false i k) pair ∙ n.last k is ∙ sym (same k is one)
       where
-        by_place : (b : Bool) → (b ≡ true → i ≡ k) → (b ≡ false → i ≢ k) → is_one_point (end_at ends i) (end_at ends k) ≡ true → node_of_end ends tails i ≡ node_of_end ends tails k
+        by_place : (b : Bool) → (b ≡ true → i ≡ k) → (b ≡ false → i ≢ k)
+            → is_one_point (end_at ends i) (end_at ends k) ≡ true → node_of_end ends tails i ≡ node_of_end ends tails k
         by_place true e apart pair = ap (λ (m : ℕ). node_of_end ends tails m) (e refl)
         by_place false e apart pair = n.alike i k (omega (arith, low, apart refl)) (omega (arith, is)) pair
 
-    unlike_here : (i k : ℕ) → k + 1 ≡ at → i ≤ k → is_one_point (end_at ends i) (end_at ends at) ≡ false → node_of_end ends tails i < next
+    unlike_here : (i k : ℕ) → k + 1 ≡ at → i ≤ k → is_one_point (end_at ends i) (end_at ends at) ≡ false
+        → node_of_end ends tails i < next
     unlike_here i k is low h = elim (true_or_false (is_one_point (end_at ends k) (end_at ends at))) [
       | inr away ↦ omega (arith, n.assigned i (omega (arith, is, low)), other k is away)
-      | inl one ↦ omega (arith, less_before one (true_or_false (is_one_point (end_at ends i) (end_at ends k))), n.last k is, same k is one)
+      | inl one ↦ omega (arith, less_before one (true_or_false (is_one_point (end_at ends i)
+          (end_at ends k))), n.last k is, same k is one)
     ]
       where
         apart_from : is_one_point (end_at ends k) (end_at ends at) ≡ true → i ≡ k → ⊥
-        apart_from one e = not_both (is_one_point (end_at ends i) (end_at ends at)) (subst (λ (m : ℕ). is_one_point (end_at ends m) (end_at ends at) ≡ true) (sym e) one) h
+        apart_from one e = not_both (is_one_point (end_at ends i) (end_at ends at)) (subst (λ (m : ℕ). is_one_point
+            (end_at ends m) (end_at ends at) ≡ true) (sym e) one) h
 
-        less_before : is_one_point (end_at ends k) (end_at ends at) ≡ true → (is_one_point (end_at ends i) (end_at ends k) ≡ true) ⊎ (is_one_point (end_at ends i) (end_at ends k) ≡ false)
+        less_before : is_one_point (end_at ends k) (end_at ends at) ≡ true
+            → (is_one_point (end_at ends i) (end_at ends k) ≡ true) ⊎ (is_one_point (end_at ends i) (end_at ends k)
+            ≡ false)
             → node_of_end ends tails i < node_of_end ends tails k
-        less_before one (inl pair) = absurd (not_both (is_one_point (end_at ends i) (end_at ends at)) (one_along (end_at ends i) (end_at ends k) (end_at ends at) pair one) h)
-        less_before one (inr apart) = let less : i ≢ k = apart_from one in n.unlike i k (omega (arith, low, less)) (omega (arith, is)) apart
+        less_before one (inl pair) = absurd (not_both (is_one_point (end_at ends i) (end_at ends at)) (one_along
+            (end_at ends i) (end_at ends k) (end_at ends at) pair one) h)
+        less_before one (inr apart) = let less : i ≢ k = apart_from one in n.unlike i k (omega (arith, low, less))
+            (omega (arith, is)) apart
 
     is_last : (j : ℕ) → j + 1 ≡ at + 1 → j ≡ at
     is_last j e = omega (arith, e)
@@ -126,31 +144,48 @@ module _ (ends : List End) (tails : List ℕ) (node at next : ℕ) (sorted : Are
     pub more_numbered : AreNumbered ends now next (at + 1)
     more_numbered = record {
       low = omega (arith, n.low, at_most);
-      assigned = λ j below. by_end (λ m. node_of_end ends now m ≤ next) j below (λ less. omega (arith, before j less, n.assigned j less, step_up)) (omega (arith, here));
+      assigned = λ j below. by_end (λ m. node_of_end ends now m ≤ next) j below (λ less. omega
+          (arith, before j less, n.assigned j less, step_up)) (omega (arith, here));
       last = λ j e. subst (λ (m : ℕ). node_of_end ends now m ≡ next) (sym (is_last j e)) here;
-      alike = λ i j less below. by_end (λ m. i < m → is_one_point (end_at ends i) (end_at ends m) ≡ true → node_of_end ends now i ≡ node_of_end ends now m) j below
-          (λ j_less i_less h. before i (omega (arith, i_less, j_less)) ∙ n.alike i j i_less j_less h ∙ sym (before j j_less))
-          (λ i_less h. before i i_less ∙ alike_here i (at - 1) (omega (arith, i_less)) (omega (arith, i_less)) h ∙ sym here) less;
-      unlike = λ i j less below. by_end (λ m. i < m → is_one_point (end_at ends i) (end_at ends m) ≡ false → node_of_end ends now i < node_of_end ends now m) j below
-          (λ j_less i_less h. omega (arith, before i (omega (arith, i_less, j_less)), n.unlike i j i_less j_less h, before j j_less))
-          (λ i_less h. omega (arith, before i i_less, unlike_here i (at - 1) (omega (arith, i_less)) (omega (arith, i_less)) h, here)) less;
+      alike = λ i j less below. by_end (λ m. i < m → is_one_point (end_at ends i) (end_at ends m) ≡ true
+          → node_of_end ends now i ≡ node_of_end ends now m) j below
+          (λ j_less i_less h. before i (omega (arith, i_less, j_less)) ∙ n.alike i j i_less j_less h
+              ∙ sym (before j j_less))
+          (λ i_less h. before i i_less ∙ alike_here i (at - 1) (omega (arith, i_less)) (omega (arith, i_less)) h
+              ∙ sym here) less;
+      unlike = λ i j less below. by_end (λ m. i < m → is_one_point (end_at ends i) (end_at ends m) ≡ false
+          → node_of_end ends now i < node_of_end ends now m) j below
+          (λ j_less i_less h. omega (arith, before i (omega
+              (arith, i_less, j_less)), n.unlike i j i_less j_less h, before j j_less))
+          (λ i_less h. omega (arith, before i i_less, unlike_here i (at - 1) (omega (arith, i_less)) (omega
+              (arith, i_less)) h, here)) less;
     }
 
-module _ (ends : List End) (tails : List ℕ) (node at next : ℕ) (sorted : AreSortedEnds ends (length tails)) (n : AreNumbered ends tails node at) (at_in : at < length ends) where
-  before_at : (b : Bool) (k : ℕ) → k + 1 ≡ at → is_one_point (end_at ends k) (end_at ends at) ≡ b → is_one_point (end_at ends (at - 1)) (end_at ends at) ≡ b
-  before_at b k e h = let same : k ≡ at - 1 = omega (arith, e) in subst (λ (m : ℕ). is_one_point (end_at ends m) (end_at ends at) ≡ b) same h
+module _ (ends : List End) (tails : List ℕ) (node at next : ℕ) (sorted : AreSortedEnds ends (length tails))
+    (n : AreNumbered ends tails node at) (at_in : at < length ends) where
+  before_at : (b : Bool) (k : ℕ) → k + 1 ≡ at → is_one_point (end_at ends k) (end_at ends at) ≡ b
+      → is_one_point (end_at ends (at - 1)) (end_at ends at) ≡ b
+  before_at b k e h = let same : k ≡ at - 1 = omega (arith, e) in subst (λ (m : ℕ). is_one_point (end_at ends m)
+      (end_at ends at) ≡ b) same h
 
-  pub next_other : 0 < at → is_one_point (end_at ends (at - 1)) (end_at ends at) ≡ false → next ≡ node + 1 → AreNumbered ends (set tails (end_at ends at).step next) next (at + 1)
+  pub next_other : 0 < at → is_one_point (end_at ends (at - 1)) (end_at ends at) ≡ false → next ≡ node + 1
+      → AreNumbered ends (set tails (end_at ends at).step next) next (at + 1)
   next_other up apart is =
-      more_numbered ends tails node at next sorted n at_in (omega (arith, is)) (omega (arith, is)) (λ z. absurd (omega (arith, z, up)))
-      (λ k e one. absurd (not_both (is_one_point (end_at ends (at - 1)) (end_at ends at)) (before_at true k e one) apart)) (λ k e h. is)
+      more_numbered ends tails node at next sorted n at_in (omega (arith, is)) (omega (arith, is)) (λ z. absurd
+          (omega (arith, z, up)))
+      (λ k e one. absurd (not_both (is_one_point (end_at ends (at - 1)) (end_at ends at))
+          (before_at true k e one) apart)) (λ k e h. is)
 
-  pub next_same : 0 < at → is_one_point (end_at ends (at - 1)) (end_at ends at) ≡ true → next ≡ node → AreNumbered ends (set tails (end_at ends at).step next) next (at + 1)
+  pub next_same : 0 < at → is_one_point (end_at ends (at - 1)) (end_at ends at) ≡ true → next ≡ node
+      → AreNumbered ends (set tails (end_at ends at).step next) next (at + 1)
   next_same up one is =
-      more_numbered ends tails node at next sorted n at_in (omega (arith, is)) (omega (arith, is)) (λ z. absurd (omega (arith, z, up)))
-      (λ k e h. is) (λ k e apart. absurd (not_both (is_one_point (end_at ends (at - 1)) (end_at ends at)) one (before_at false k e apart)))
+      more_numbered ends tails node at next sorted n at_in (omega (arith, is)) (omega (arith, is)) (λ z. absurd
+          (omega (arith, z, up)))
+      (λ k e h. is) (λ k e apart. absurd (not_both (is_one_point (end_at ends (at - 1)) (end_at ends at)) one
+          (before_at false k e apart)))
 
   pub next_first : at ≤ 0 → next ≡ node → AreNumbered ends (set tails (end_at ends at).step next) next (at + 1)
   next_first none is =
-      more_numbered ends tails node at next sorted n at_in (omega (arith, is)) (omega (arith, is)) (λ z. omega (arith, is, n.low, none))
+      more_numbered ends tails node at next sorted n at_in (omega (arith, is)) (omega (arith, is)) (λ z. omega
+          (arith, is, n.low, none))
       (λ k e h. is) (λ k e apart. absurd (omega (arith, e, none)))

@@ -38,14 +38,18 @@ tail_by p true = refl
 tail_by p false = refl
 
 -- a step ends where the reversed one begins
-pub tail_reversed : (pieces : List Piece) (s : ℕ) → tail_of (step_at pieces (reversed_step s)).0.1 (step_at pieces (reversed_step s)).1 ≡ head_of (step_at pieces s).0.1 (step_at pieces s).1
+pub tail_reversed : (pieces : List Piece) (s : ℕ)
+    → tail_of (step_at pieces (reversed_step s)).0.1 (step_at pieces (reversed_step s)).1
+    ≡ head_of (step_at pieces s).0.1 (step_at pieces s).1
 tail_reversed pieces s =
     ap (λ (k : ℕ). tail_of (piece_at pieces k) (reversed_step s % 2 == 1)) (half_reversed s)
     ∙ ap (λ (b : Bool). tail_of (piece_at pieces (s / 2)) b) (heading_reversed s)
     ∙ tail_by (piece_at pieces (s / 2)) (s % 2 == 1)
 
-pub row_is : (pieces : List Piece) (tails : List ℕ) (leaving : List (List ℕ)) (step head : ℕ) → AreNodesOf pieces tails leaving → step < 2 * length pieces
-    → head ≡ get_or tails (reversed_step step) 0 → get_or leaving head [] ≡ filter (leads_to pieces step) (range_with_len 0 (2 * length pieces))
+pub row_is : (pieces : List Piece) (tails : List ℕ) (leaving : List (List ℕ)) (step head : ℕ)
+    → AreNodesOf pieces tails leaving → step < 2 * length pieces
+    → head ≡ get_or tails (reversed_step step) 0
+        → get_or leaving head [] ≡ filter (leads_to pieces step) (range_with_len 0 (2 * length pieces))
 row_is pieces tails leaving step head nodes below is =
     let back = reversed_below step (length pieces) below in
     let there : head < length leaving = omega (arith, is, nodes.below (reversed_step step) back) in
@@ -55,4 +59,5 @@ row_is pieces tails leaving step head nodes below is =
     (λ t h.
     ap (λ (n : ℕ). n == get_or tails t 0) is
     ∙ nodes.tails.alike (reversed_step step) t back (range_below (2 * length pieces) t h)
-    ∙ ap (λ (p : RPoint). same_rpoint p (tail_of (step_at pieces t).0.1 (step_at pieces t).1)) (tail_reversed pieces step))
+    ∙ ap (λ (p : RPoint). same_rpoint p (tail_of (step_at pieces t).0.1 (step_at pieces t).1))
+        (tail_reversed pieces step))

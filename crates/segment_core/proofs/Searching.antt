@@ -15,13 +15,15 @@ use Rattle.segment_core.proofs.Places.{at_set}
 abbrev pub IsIdle : ℕ → ℕ → ℕ → Type 0
 IsIdle bucket idle b = ((b < bucket) × (bucket ≤ b + idle)) ⊎ ((bucket ≤ b) × (bucket + 17 ≤ b + idle))
 
-pub record Underway (pieces : List Piece) (source : ℕ) (costs : List ℕ) (queue : List (List ℕ)) (bucket idle : ℕ) : Type 0 where
+pub record Underway (pieces : List Piece) (source : ℕ) (costs : List ℕ) (queue : List (List ℕ))
+    (bucket idle : ℕ) : Type 0 where
   pub one_each : length costs ≡ 2 * length pieces
   pub ring : length queue ≡ 17
   pub back : cost_at costs (2 * source) ≡ 0
   pub forward : cost_at costs (2 * source + 1) ≡ 0
   pub walked : AreWalked pieces source costs
-  pub settled : (s : ℕ) → s < 2 * length pieces → cost_at costs s < far_of pieces → Waits queue s (cost_at costs s) ⊎ IsEased pieces costs s
+  pub settled : (s : ℕ) → s < 2 * length pieces → cost_at costs s < far_of pieces
+      → Waits queue s (cost_at costs s) ⊎ IsEased pieces costs s
   pub inside : AreInside pieces queue
   pub in_ring : bucket < 17
   pub at_most : idle ≤ 17
@@ -29,7 +31,8 @@ pub record Underway (pieces : List Piece) (source : ℕ) (costs : List ℕ) (que
 
 -- ---- the end
 
-pub search_ends : (pieces : List Piece) (source : ℕ) (costs : List ℕ) (queue : List (List ℕ)) (bucket idle : ℕ) → Underway pieces source costs queue bucket idle → 17 ≤ idle → AreLeast pieces source costs
+pub search_ends : (pieces : List Piece) (source : ℕ) (costs : List ℕ) (queue : List (List ℕ)) (bucket idle : ℕ)
+    → Underway pieces source costs queue bucket idle → 17 ≤ idle → AreLeast pieces source costs
 search_ends pieces source costs queue bucket idle u done = record {
   one_each = u.one_each;
   back = u.back;
@@ -54,22 +57,30 @@ search_ends pieces source costs queue bucket idle u done = record {
 
 -- ---- an empty bucket
 
-idle_next : (bucket idle next b : ℕ) → bucket < 17 → ((bucket ≡ 16) × (next ≡ 0)) ⊎ ((bucket ≢ 16) × (next ≡ bucket + 1)) → b < 17 → IsIdle next (idle + 1) b → (b ≡ bucket) ⊎ IsIdle bucket idle b
+idle_next : (bucket idle next b : ℕ) → bucket < 17
+    → ((bucket ≡ 16) × (next ≡ 0)) ⊎ ((bucket ≢ 16) × (next ≡ bucket + 1)) → b < 17 → IsIdle next (idle + 1) b
+    → (b ≡ bucket) ⊎ IsIdle bucket idle b
 idle_next bucket idle next b in_ring (inl turned) below (inl low) = absurd (omega (arith, low.0, turned.1))
-idle_next bucket idle next b in_ring (inl turned) below (inr high) = by_place (b == bucket) (eqb-true b bucket) (eqb-false b bucket)
+idle_next bucket idle next b in_ring (inl turned) below (inr high) = by_place (b == bucket) (eqb-true b bucket)
+    (eqb-false b bucket)
   where
     by_place : (t : Bool) → (t ≡ true → b ≡ bucket) → (t ≡ false → b ≢ bucket) → (b ≡ bucket) ⊎ IsIdle bucket idle b
     by_place true same other = inl (same refl)
-    by_place false same other = inr (inl (omega (arith, other refl, turned.0, below), omega (arith, high.1, turned.0, turned.1)))
-idle_next bucket idle next b in_ring (inr more) below (inl low) = by_place (b == bucket) (eqb-true b bucket) (eqb-false b bucket)
+    by_place false same other = inr (inl (omega (arith, other refl, turned.0, below), omega
+        (arith, high.1, turned.0, turned.1)))
+idle_next bucket idle next b in_ring (inr more) below (inl low) = by_place (b == bucket) (eqb-true b bucket)
+    (eqb-false b bucket)
   where
     by_place : (t : Bool) → (t ≡ true → b ≡ bucket) → (t ≡ false → b ≢ bucket) → (b ≡ bucket) ⊎ IsIdle bucket idle b
     by_place true same other = inl (same refl)
     by_place false same other = inr (inl (omega (arith, other refl, low.0, more.1), omega (arith, low.1, more.1)))
-idle_next bucket idle next b in_ring (inr more) below (inr high) = inr (inr (omega (arith, high.0, more.1), omega (arith, high.1, more.1)))
+idle_next bucket idle next b in_ring (inr more) below (inr high) = inr (inr (omega (arith, high.0, more.1), omega
+    (arith, high.1, more.1)))
 
-pub nothing_waits : (pieces : List Piece) (source : ℕ) (costs : List ℕ) (queue : List (List ℕ)) (bucket idle next : ℕ) → Underway pieces source costs queue bucket idle → idle < 17
-    → bucket_at queue bucket ≡ [] → ((bucket ≡ 16) × (next ≡ 0)) ⊎ ((bucket ≢ 16) × (next ≡ bucket + 1)) → Underway pieces source costs queue next (idle + 1)
+pub nothing_waits : (pieces : List Piece) (source : ℕ) (costs : List ℕ) (queue : List (List ℕ))
+    (bucket idle next : ℕ) → Underway pieces source costs queue bucket idle → idle < 17
+    → bucket_at queue bucket ≡ [] → ((bucket ≡ 16) × (next ≡ 0)) ⊎ ((bucket ≢ 16) × (next ≡ bucket + 1))
+        → Underway pieces source costs queue next (idle + 1)
 nothing_waits pieces source costs queue bucket idle next u less none turned = record {
   one_each = u.one_each;
   ring = u.ring;
@@ -93,13 +104,16 @@ nothing_waits pieces source costs queue bucket idle next u less none turned = re
 -- ---- a step that waited
 
 -- what is left in the queue after a step was taken, and whether the step was eased
-module _ (pieces : List Piece) (source : ℕ) (costs : List ℕ) (queue rest : List (List ℕ)) (bucket idle step : ℕ) (u : Underway pieces source costs queue bucket idle)
-    (last : bucket_at queue bucket ≡ bucket_at rest bucket ++ step ∷ []) (others : rest ≡ set queue bucket (bucket_at rest bucket)) where
+module _ (pieces : List Piece) (source : ℕ) (costs : List ℕ) (queue rest : List (List ℕ)) (bucket idle step : ℕ)
+    (u : Underway pieces source costs queue bucket idle)
+    (last : bucket_at queue bucket ≡ bucket_at rest bucket ++ step ∷ []) (others : rest
+        ≡ set queue bucket (bucket_at rest bucket)) where
   bucket_below : bucket < length queue
   bucket_below = omega (arith, u.ring, u.in_ring)
 
   pub step_inside : step < 2 * length pieces
-  step_inside = u.inside bucket step (subst (λ (xs : List ℕ). Contains xs step) (sym last) (Contains-append_right (bucket_at rest bucket) (step ∷ []) step (contains_first step [])))
+  step_inside = u.inside bucket step (subst (λ (xs : List ℕ). Contains xs step) (sym last) (Contains-append_right
+      (bucket_at rest bucket) (step ∷ []) step (contains_first step [])))
 
   rest_ring : length rest ≡ 17
   rest_ring = ap length others ∙ length-set queue bucket (bucket_at rest bucket) ∙ u.ring
@@ -109,15 +123,18 @@ module _ (pieces : List Piece) (source : ℕ) (costs : List ℕ) (queue rest : L
   waited b s h = by_set (subst (λ (q : List (List ℕ)). Contains (bucket_at q b) s) others h)
     where
       by_set : Contains (bucket_at (set queue bucket (bucket_at rest bucket)) b) s → Contains (bucket_at queue b) s
-      by_set = at_set (λ xs. Contains xs s → Contains (bucket_at queue b) s) queue bucket b (bucket_at rest bucket) [] bucket_below
-          (λ same w. subst (λ (n : ℕ). Contains (bucket_at queue n) s) (sym same) (subst (λ (xs : List ℕ). Contains xs s) (sym last) (Contains-append_left (bucket_at rest bucket) (step ∷ []) s w)))
+      by_set = at_set (λ xs. Contains xs s → Contains (bucket_at queue b) s) queue bucket b
+          (bucket_at rest bucket) [] bucket_below
+          (λ same w. subst (λ (n : ℕ). Contains (bucket_at queue n) s) (sym same) (subst (λ
+              (xs : List ℕ). Contains xs s) (sym last) (Contains-append_left (bucket_at rest bucket) (step ∷ []) s w)))
           (λ away w. w)
 
   -- what waited still does, unless it is the step in its bucket
   still_waits : (b s : ℕ) → (s ≡ step → b ≢ bucket) → Contains (bucket_at queue b) s → Contains (bucket_at rest b) s
   still_waits b s unless h = subst (λ (q : List (List ℕ)). Contains (bucket_at q b) s) (sym others)
       (at_set (λ xs. Contains xs s) queue bucket b (bucket_at rest bucket) [] bucket_below
-      (λ same. elim (Contains-append_cases (bucket_at rest bucket) (step ∷ []) s (subst (λ (xs : List ℕ). Contains xs s) last (subst (λ (n : ℕ). Contains (bucket_at queue n) s) same h))) [
+      (λ same. elim (Contains-append_cases (bucket_at rest bucket) (step ∷ []) s (subst (λ
+          (xs : List ℕ). Contains xs s) last (subst (λ (n : ℕ). Contains (bucket_at queue n) s) same h))) [
         | inl w ↦ w
         | inr it ↦ elim (first_or_later step [] s it) [
           | inl e ↦ absurd (unless (sym e) same)
@@ -140,7 +157,8 @@ module _ (pieces : List Piece) (source : ℕ) (costs : List ℕ) (queue rest : L
   no_idle b below (inr high) = omega (arith, high.1, below, u.in_ring)
 
   -- the step isn't eased: it waits in another bucket, or is far
-  pub step_passed : (cost_at costs step % 17 ≢ bucket) ⊎ (far_of pieces ≤ cost_at costs step) → Underway pieces source costs rest bucket 0
+  pub step_passed : (cost_at costs step % 17 ≢ bucket) ⊎ (far_of pieces ≤ cost_at costs step)
+      → Underway pieces source costs rest bucket 0
   step_passed unless = record {
     one_each = u.one_each;
     ring = rest_ring;
@@ -157,15 +175,18 @@ module _ (pieces : List Piece) (source : ℕ) (costs : List ℕ) (queue rest : L
     empty = λ b below idle_now. absurd (no_idle b below idle_now);
   }
     where
-      by_case : (s : ℕ) → cost_at costs s < far_of pieces → s ≡ step → (cost_at costs step % 17 ≢ bucket) ⊎ (far_of pieces ≤ cost_at costs step) → cost_at costs s % 17 ≢ bucket
+      by_case : (s : ℕ) → cost_at costs s < far_of pieces → s ≡ step
+          → (cost_at costs step % 17 ≢ bucket) ⊎ (far_of pieces ≤ cost_at costs step) → cost_at costs s % 17 ≢ bucket
       by_case s near same (inl apart) = subst (λ (t : ℕ). cost_at costs t % 17 ≢ bucket) (sym same) apart
-      by_case s near same (inr away) = absurd (omega (arith, away, subst (λ (t : ℕ). cost_at costs t < far_of pieces) same near))
+      by_case s near same (inr away) = absurd (omega (arith, away, subst (λ
+          (t : ℕ). cost_at costs t < far_of pieces) same near))
 
       not_here : (s : ℕ) → cost_at costs s < far_of pieces → s ≡ step → cost_at costs s % 17 ≢ bucket
       not_here s near same = by_case s near same unless
 
   -- the step is eased
-  pub step_eased : (new : List ℕ) (after : List (List ℕ)) → Eases pieces step costs new rest after → IsEased pieces new step → Underway pieces source new after bucket 0
+  pub step_eased : (new : List ℕ) (after : List (List ℕ)) → Eases pieces step costs new rest after
+      → IsEased pieces new step → Underway pieces source new after bucket 0
   step_eased new after e eased = record {
     one_each = e.one_each ∙ u.one_each;
     ring = e.ring ∙ rest_ring;
@@ -182,18 +203,21 @@ module _ (pieces : List Piece) (source : ℕ) (costs : List ℕ) (queue rest : L
       still_eased : (s : ℕ) → cost_at new s ≡ cost_at costs s → IsEased pieces costs s → IsEased pieces new s
       still_eased s same h t t_in follows = omega (arith, h t t_in follows, e.lower t, same)
 
-      by_place : (s : ℕ) → s < 2 * length pieces → cost_at new s < far_of pieces → (b : Bool) → (b ≡ true → s ≡ step) → (b ≡ false → s ≢ step)
+      by_place : (s : ℕ) → s < 2 * length pieces → cost_at new s < far_of pieces → (b : Bool) → (b ≡ true
+          → s ≡ step) → (b ≡ false → s ≢ step)
           → Waits after s (cost_at new s) ⊎ IsEased pieces new s
       by_place s s_in near true same other = inr (subst (λ (t : ℕ). IsEased pieces new t) (sym (same refl)) eased)
       by_place s s_in near false same other = elim (e.waiting s) [
         | inr waits ↦ inl waits
         | inl stays ↦ elim (u.settled s s_in (omega (arith, stays, near))) [
-          | inl waits ↦ inl (subst (λ (n : ℕ). Waits after s n) (sym stays) (e.keeps (cost_at costs s % 17) s (still_waits (cost_at costs s % 17) s (λ is. absurd (other refl is)) waits)))
+          | inl waits ↦ inl (subst (λ (n : ℕ). Waits after s n) (sym stays) (e.keeps (cost_at costs s % 17) s
+              (still_waits (cost_at costs s % 17) s (λ is. absurd (other refl is)) waits)))
           | inr before ↦ inr (still_eased s stays before)
         ]
       ]
 
-  pub less_left : (new : List ℕ) (after : List (List ℕ)) → Eases pieces step costs new rest after → 18 * left_of new after + (17 - 0) < 18 * left_of costs queue + (17 - idle)
+  pub less_left : (new : List ℕ) (after : List (List ℕ)) → Eases pieces step costs new rest after
+      → 18 * left_of new after + (17 - 0) < 18 * left_of costs queue + (17 - idle)
   less_left new after e = omega (arith, e.fewer, left_less, u.at_most)
 
   pub less_left_passed : 18 * left_of costs rest + (17 - 0) < 18 * left_of costs queue + (17 - idle)
@@ -214,16 +238,19 @@ module _ (pieces : List Piece) (source : ℕ) (source_in : source < length piece
   first_costs = set (set far_costs (2 * source) 0) (2 * source + 1) 0
 
   abbrev first_queue : List (List ℕ)
-  first_queue = set (set (replicate 17 []) 0 ([] ++ 2 * source ∷ [])) 0 (bucket_at (set (replicate 17 []) 0 ([] ++ 2 * source ∷ [])) 0 ++ (2 * source + 1) ∷ [])
+  first_queue = set (set (replicate 17 []) 0 ([] ++ 2 * source ∷ [])) 0 (bucket_at (set (replicate 17 []) 0
+      ([] ++ 2 * source ∷ [])) 0 ++ (2 * source + 1) ∷ [])
 
   source_below : 2 * source < length far_costs
   source_below = omega (arith, length-replicate (2 * length pieces) (far_of pieces), source_in)
 
   forward_below : 2 * source + 1 < length (set far_costs (2 * source) 0)
-  forward_below = omega (arith, length-set far_costs (2 * source) 0, length-replicate (2 * length pieces) (far_of pieces), source_in)
+  forward_below = omega (arith, length-set far_costs (2 * source) 0, length-replicate (2 * length pieces)
+      (far_of pieces), source_in)
 
   -- what holds of the source's two steps at no cost, and elsewhere far away, holds of each
-  of_first : (P : ℕ → ℕ → Type 0) (s : ℕ) → s < 2 * length pieces → P (2 * source) 0 → P (2 * source + 1) 0 → P s (far_of pieces) → P s (cost_at first_costs s)
+  of_first : (P : ℕ → ℕ → Type 0) (s : ℕ) → s < 2 * length pieces → P (2 * source) 0 → P (2 * source + 1) 0
+      → P s (far_of pieces) → P s (cost_at first_costs s)
   of_first P s s_in back forward away =
       at_set (P s) (set far_costs (2 * source) 0) (2 * source + 1) s 0 0 forward_below
       (λ same. subst (λ (t : ℕ). P t 0) (sym same) forward)
@@ -241,11 +268,13 @@ module _ (pieces : List Piece) (source : ℕ) (source_in : source < length piece
       (λ near. (0, (step_is_step pieces (2 * source + 1) (omega (arith, source_in)), omega arith, refl)))
       (λ near. absurd (omega (arith, near)))
 
-  begun_settled : (s : ℕ) → s < 2 * length pieces → cost_at first_costs s < far_of pieces → Waits first_queue s (cost_at first_costs s) ⊎ IsEased pieces first_costs s
+  begun_settled : (s : ℕ) → s < 2 * length pieces → cost_at first_costs s < far_of pieces
+      → Waits first_queue s (cost_at first_costs s) ⊎ IsEased pieces first_costs s
   begun_settled s s_in near = inl (
       of_first (λ t c. c < far_of pieces → Waits first_queue t c) s s_in
       (λ close. contains_first (2 * source) ((2 * source + 1) ∷ []))
-      (λ close. contains_later (2 * source) ((2 * source + 1) ∷ []) (2 * source + 1) (contains_first (2 * source + 1) []))
+      (λ close. contains_later (2 * source) ((2 * source + 1) ∷ []) (2 * source + 1) (contains_first
+          (2 * source + 1) []))
       (λ close. absurd (omega (arith, close))) near)
 
   begun_inside : AreInside pieces first_queue
@@ -260,9 +289,11 @@ module _ (pieces : List Piece) (source : ℕ) (source_in : source < length piece
 
   pub search_begins : Underway pieces source first_costs first_queue 0 0
   search_begins = record {
-    one_each = length-set (set far_costs (2 * source) 0) (2 * source + 1) 0 ∙ length-set far_costs (2 * source) 0 ∙ length-replicate (2 * length pieces) (far_of pieces);
+    one_each = length-set (set far_costs (2 * source) 0) (2 * source + 1) 0 ∙ length-set far_costs (2 * source) 0
+        ∙ length-replicate (2 * length pieces) (far_of pieces);
     ring = refl;
-    back = get_or-set_other (set far_costs (2 * source) 0) (2 * source + 1) (2 * source) 0 0 (λ e. omega (arith, e)) ∙ get_or-set_same far_costs (2 * source) 0 0 source_below;
+    back = get_or-set_other (set far_costs (2 * source) 0) (2 * source + 1) (2 * source) 0 0 (λ e. omega
+        (arith, e)) ∙ get_or-set_same far_costs (2 * source) 0 0 source_below;
     forward = get_or-set_same (set far_costs (2 * source) 0) (2 * source + 1) 0 0 forward_below;
     walked = begun_walked;
     settled = begun_settled;
@@ -276,13 +307,20 @@ module _ (pieces : List Piece) (source : ℕ) (source_in : source < length piece
       none_idle b below (inl low) = omega (arith, low.0)
       none_idle b below (inr high) = omega (arith, high.1, below)
 
-pub search_begins_at : (pieces : List Piece) (source far : ℕ) (costs : List ℕ) (q0 q1 q2 : List (List ℕ)) → source < length pieces → far ≡ far_of pieces → costs ≡ replicate (2 * length pieces) far
-    → q0 ≡ replicate 17 [] → q1 ≡ set q0 0 (bucket_at q0 0 ++ 2 * source ∷ []) → q2 ≡ set q1 0 (bucket_at q1 0 ++ (2 * source + 1) ∷ [])
+pub search_begins_at : (pieces : List Piece) (source far : ℕ) (costs : List ℕ) (q0 q1 q2 : List (List ℕ))
+    → source < length pieces → far ≡ far_of pieces → costs ≡ replicate (2 * length pieces) far
+    → q0 ≡ replicate 17 [] → q1 ≡ set q0 0 (bucket_at q0 0 ++ 2 * source ∷ [])
+        → q2 ≡ set q1 0 (bucket_at q1 0 ++ (2 * source + 1) ∷ [])
     → Underway pieces source (set (set costs (2 * source) 0) (2 * source + 1) 0) q2 0 0
 search_begins_at pieces source far costs q0 q1 q2 source_in far_is costs_is is0 is1 is2 =
-    let all : costs ≡ replicate (2 * length pieces) (far_of pieces) = costs_is ∙ ap (λ (n : ℕ). replicate (2 * length pieces) n) far_is in
-    let first : q1 ≡ set (replicate 17 []) 0 ([] ++ 2 * source ∷ []) = is1 ∙ ap (λ (q : List (List ℕ)). set q 0 (bucket_at q 0 ++ 2 * source ∷ [])) is0 in
-    let second : q2 ≡ first_queue pieces source source_in = is2 ∙ ap (λ (q : List (List ℕ)). set q 0 (bucket_at q 0 ++ (2 * source + 1) ∷ [])) first in
-    subst (λ (q : List (List ℕ)). Underway pieces source (set (set costs (2 * source) 0) (2 * source + 1) 0) q 0 0) (sym second)
-    (subst (λ (cs : List ℕ). Underway pieces source (set (set cs (2 * source) 0) (2 * source + 1) 0) (first_queue pieces source source_in) 0 0) (sym all)
+    let all : costs ≡ replicate (2 * length pieces) (far_of pieces) = costs_is
+        ∙ ap (λ (n : ℕ). replicate (2 * length pieces) n) far_is in
+    let first : q1 ≡ set (replicate 17 []) 0 ([] ++ 2 * source ∷ []) = is1
+        ∙ ap (λ (q : List (List ℕ)). set q 0 (bucket_at q 0 ++ 2 * source ∷ [])) is0 in
+    let second : q2 ≡ first_queue pieces source source_in = is2
+        ∙ ap (λ (q : List (List ℕ)). set q 0 (bucket_at q 0 ++ (2 * source + 1) ∷ [])) first in
+    subst (λ (q : List (List ℕ)). Underway pieces source (set (set costs (2 * source) 0) (2 * source + 1) 0) q 0 0)
+        (sym second)
+    (subst (λ (cs : List ℕ). Underway pieces source (set (set cs (2 * source) 0) (2 * source + 1) 0)
+        (first_queue pieces source source_in) 0 0) (sym all)
     (search_begins pieces source source_in))

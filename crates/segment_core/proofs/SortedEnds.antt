@@ -96,7 +96,8 @@ steps_below m a (p ∷ ps) few =
     let even : 2 * a < 2 * m = omega (arith, few) in
     let odd : 2 * a + 1 < 2 * m = omega (arith, few) in
     All-cons (λ e. e.step < 2 * m) (end_of p.to (2 * a)) (end_of p.from (2 * a + 1) ∷ rest) even
-    (All-cons (λ e. e.step < 2 * m) (end_of p.from (2 * a + 1)) rest odd (steps_below m (a + 1) ps (omega (arith, few))))
+    (All-cons (λ e. e.step < 2 * m) (end_of p.from (2 * a + 1)) rest odd (steps_below m (a + 1) ps (omega
+        (arith, few))))
 
 steps_from : (a : ℕ) (ps : List Piece) → All (λ e. 2 * a ≤ e.step) (made (enumerate_from a ps))
 steps_from a [] = All-nil (λ e. 2 * a ≤ e.step)
@@ -105,7 +106,8 @@ steps_from a (p ∷ ps) =
     let odd : 2 * a ≤ 2 * a + 1 = omega arith in
     All-cons (λ e. 2 * a ≤ e.step) (end_of p.to (2 * a)) (end_of p.from (2 * a + 1) ∷ rest) (omega arith)
     (All-cons (λ e. 2 * a ≤ e.step) (end_of p.from (2 * a + 1)) rest odd
-    (All-weaker (λ e. 2 * (a + 1) ≤ e.step) (λ e. 2 * a ≤ e.step) (λ e h. omega (arith, h)) rest (steps_from (a + 1) ps)))
+    (All-weaker (λ e. 2 * (a + 1) ≤ e.step) (λ e. 2 * a ≤ e.step) (λ e h. omega (arith, h)) rest (steps_from
+        (a + 1) ps)))
 
 abbrev same_step : End → End → Bool
 same_step d e = d.step == e.step
@@ -146,17 +148,21 @@ turned a b = by (a == b) (eqb-true a b) (eqb-false a b)
 
 -- ---- all of it
 
-pub sorted_ends : (pieces : List Piece) (ends : List End) (count : ℕ) → length pieces ≤ 65536 → IsPermutation (ends_of pieces) ends
+pub sorted_ends : (pieces : List Piece) (ends : List End) (count : ℕ) → length pieces ≤ 65536
+    → IsPermutation (ends_of pieces) ends
     → IsSorted end_cmp ends → count ≡ 2 * length pieces → AreSortedEnds ends count
 sorted_ends pieces ends count few moved sorted is =
     let all = length_permutation (ends_of pieces) ends moved in
-    let inside = All-permutation (λ e. e.step < 2 * length pieces) (ends_of pieces) ends moved (steps_below (length pieces) 0 pieces (omega arith)) in
-    let differ = IsDistinct-IsPermutation same_step (λ d e. turned d.step e.step) (ends_of pieces) ends moved (steps_differ 0 pieces) in
+    let inside = All-permutation (λ e. e.step < 2 * length pieces) (ends_of pieces) ends moved (steps_below
+        (length pieces) 0 pieces (omega arith)) in
+    let differ = IsDistinct-IsPermutation same_step (λ d e. turned d.step e.step) (ends_of pieces) ends moved
+        (steps_differ 0 pieces) in
     let far = sorted_far (λ d e. is_lt (end_cmp d e)) (ranks_by ends_total (λ e. e)) ends sorted in
     record {
       at_most = omega (arith, all, ends_length pieces, few);
       inside = λ j below. let h = inside j no_end below in omega (arith, h, is);
-      apart = λ i j less below. eqb-false (end_at ends i).step (end_at ends j).step (apart_from_distinct same_step ends i j no_end differ less below);
+      apart = λ i j less below. eqb-false (end_at ends i).step (end_at ends j).step
+          (apart_from_distinct same_step ends i j no_end differ less below);
       between = λ i j order below h.
           one_between (end_at ends i) (end_at ends j) (end_at ends (j + 1)) h
           (far i j no_end order (omega (arith, below))) (far j (j + 1) no_end (omega arith) below);

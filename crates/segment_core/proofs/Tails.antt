@@ -24,20 +24,26 @@ use Rattle.segment_core.proofs.Numbering.{one_turned, one_alone, true_or_false, 
 abbrev pub tail_at : List Piece → ℕ → RPoint
 tail_at pieces s = tail_of (step_at pieces s).0.1 (step_at pieces s).1
 
-end_among : (p : Piece) (k s : ℕ) (b : Bool) → (b ≡ true → s ≡ 2 * k + 1) → (b ≡ false → s ≡ 2 * k) → Contains (both_ends (k, p)) (end_of (tail_of p b) s)
+end_among : (p : Piece) (k s : ℕ) (b : Bool) → (b ≡ true → s ≡ 2 * k + 1) → (b ≡ false → s ≡ 2 * k)
+    → Contains (both_ends (k, p)) (end_of (tail_of p b) s)
 end_among p k s true odd even =
     subst (λ (n : ℕ). Contains (both_ends (k, p)) (end_of p.from n)) (sym (odd refl))
-    (contains_later (end_of p.to (2 * k)) (end_of p.from (2 * k + 1) ∷ []) (end_of p.from (2 * k + 1)) (contains_first (end_of p.from (2 * k + 1)) []))
+    (contains_later (end_of p.to (2 * k)) (end_of p.from (2 * k + 1) ∷ []) (end_of p.from (2 * k + 1))
+        (contains_first (end_of p.from (2 * k + 1)) []))
 end_among p k s false odd even =
-    subst (λ (n : ℕ). Contains (both_ends (k, p)) (end_of p.to n)) (sym (even refl)) (contains_first (end_of p.to (2 * k)) (end_of p.from (2 * k + 1) ∷ []))
+    subst (λ (n : ℕ). Contains (both_ends (k, p)) (end_of p.to n)) (sym (even refl)) (contains_first (end_of p.to
+        (2 * k)) (end_of p.from (2 * k + 1) ∷ []))
 
 -- each step has its end
-step_has_end : (pieces : List Piece) (s : ℕ) → s < 2 * length pieces → Contains (ends_of pieces) (end_of (tail_at pieces s) s)
+step_has_end : (pieces : List Piece) (s : ℕ) → s < 2 * length pieces
+    → Contains (ends_of pieces) (end_of (tail_at pieces s) s)
 step_has_end pieces s below =
     let half : s / 2 < length pieces = omega (arith, below) in
-    among both_ends (enumerate_from 0 pieces) (s / 2, piece_at pieces (s / 2)) (end_of (tail_at pieces s) s) (numbered pieces (s / 2) half)
+    among both_ends (enumerate_from 0 pieces) (s / 2, piece_at pieces (s / 2)) (end_of (tail_at pieces s) s)
+        (numbered pieces (s / 2) half)
     (end_among (piece_at pieces (s / 2)) (s / 2) s (s % 2 == 1)
-    (λ e. let odd = eqb-true (s % 2) 1 e in omega (arith, odd)) (λ e. let even = eqb-false (s % 2) 1 e in omega (arith, even)))
+    (λ e. let odd = eqb-true (s % 2) 1 e in omega (arith, odd)) (λ e. let even = eqb-false (s % 2) 1 e in omega
+        (arith, even)))
 
 tail_lowest : (pieces : List Piece) (s : ℕ) → AreInRange pieces → s < 2 * length pieces → IsEnd (tail_at pieces s)
 tail_lowest pieces s r below = by_way (s % 2 == 1)
@@ -51,12 +57,15 @@ one_where_same p q s t g h =
     ap (λ b. b && (int_eq p.y.num q.y.num && int_eq p.y.den q.y.den)) (parts_tell_values p.x q.x g.x h.x)
     ∙ ap (λ b. same_value p.x q.x && b) (parts_tell_values p.y q.y g.y h.y)
 
-module _ (pieces : List Piece) (ends : List End) (tails : List ℕ) (last : ℕ) (r : AreInRange pieces) (same : IsPermutation (ends_of pieces) ends) (each : length tails ≡ 2 * length pieces)
+module _ (pieces : List Piece) (ends : List End) (tails : List ℕ) (last : ℕ) (r : AreInRange pieces)
+    (same : IsPermutation (ends_of pieces) ends) (each : length tails ≡ 2 * length pieces)
     (n : AreNumbered ends tails last (length ends)) where
   -- where a step's end stands
-  place_of : (s : ℕ) → s < 2 * length pieces → (j : ℕ) × (j < length ends) × (end_at ends j ≡ end_of (tail_at pieces s) s)
+  place_of : (s : ℕ) → s < 2 * length pieces
+      → (j : ℕ) × (j < length ends) × (end_at ends j ≡ end_of (tail_at pieces s) s)
   place_of s below =
-      let found = Contains-permutation (ends_of pieces) ends (end_of (tail_at pieces s) s) same (step_has_end pieces s below) in
+      let found = Contains-permutation (ends_of pieces) ends (end_of (tail_at pieces s) s) same
+          (step_has_end pieces s below) in
       (found.0, found.1, get_or_default ends found.0 no_end (end_of (tail_at pieces s) s) found.1 ∙ found.2)
 
   pub tails_below : (s : ℕ) → s < 2 * length pieces → get_or tails s 0 < last + 1
@@ -81,9 +90,11 @@ module _ (pieces : List Piece) (ends : List End) (tails : List ℕ) (last : ℕ)
   agrees_below : (i j : ℕ) → i < j → j < length ends → Agrees i j
   agrees_below i j less j_in = (n.alike i j less j_in, λ h e. omega (arith, n.unlike i j less j_in h, e))
 
-  turned_false : (i j : ℕ) → is_one_point (end_at ends i) (end_at ends j) ≡ false → (is_one_point (end_at ends j) (end_at ends i) ≡ true) ⊎ (is_one_point (end_at ends j) (end_at ends i) ≡ false)
+  turned_false : (i j : ℕ) → is_one_point (end_at ends i) (end_at ends j) ≡ false
+      → (is_one_point (end_at ends j) (end_at ends i) ≡ true) ⊎ (is_one_point (end_at ends j) (end_at ends i) ≡ false)
       → is_one_point (end_at ends j) (end_at ends i) ≡ false
-  turned_false i j h (inl one) = absurd (not_both (is_one_point (end_at ends i) (end_at ends j)) (one_turned (end_at ends j) (end_at ends i) one) h)
+  turned_false i j h (inl one) = absurd (not_both (is_one_point (end_at ends i) (end_at ends j)) (one_turned
+      (end_at ends j) (end_at ends i) one) h)
   turned_false i j h (inr away) = away
 
   agrees_above : (i j : ℕ) → j < i → i < length ends → Agrees i j
@@ -96,21 +107,25 @@ module _ (pieces : List Piece) (ends : List End) (tails : List ℕ) (last : ℕ)
   agrees_same : (i j : ℕ) → i ≡ j → Agrees i j
   agrees_same i j same = (
     λ h. ap (λ (m : ℕ). node_of_end ends tails m) same,
-    λ h e. not_both (is_one_point (end_at ends i) (end_at ends j)) (subst (λ (m : ℕ). is_one_point (end_at ends i) (end_at ends m) ≡ true) same (one_alone (end_at ends i))) h,
+    λ h e. not_both (is_one_point (end_at ends i) (end_at ends j)) (subst (λ (m : ℕ). is_one_point (end_at ends i)
+        (end_at ends m) ≡ true) same (one_alone (end_at ends i))) h,
   )
 
   agrees : (i j : ℕ) → i < length ends → j < length ends → Agrees i j
   agrees i j i_in j_in = by_less (i == j) (nat_lt i j) (eqb-true i j) (eqb-false i j) (ltb-true i j) (ltb-false i j)
     where
-      by_less : (b d : Bool) → (b ≡ true → i ≡ j) → (b ≡ false → i ≢ j) → (d ≡ true → i < j) → (d ≡ false → j ≤ i) → Agrees i j
+      by_less : (b d : Bool) → (b ≡ true → i ≡ j) → (b ≡ false → i ≢ j) → (d ≡ true → i < j) → (d ≡ false → j ≤ i)
+          → Agrees i j
       by_less true d same apart less more = agrees_same i j (same refl)
       by_less false true same apart less more = agrees_below i j (less refl) j_in
       by_less false false same apart less more = agrees_above i j (omega (arith, more refl, apart refl)) i_in
 
-  compared : (i j : ℕ) → i < length ends → j < length ends → (node_of_end ends tails i == node_of_end ends tails j) ≡ is_one_point (end_at ends i) (end_at ends j)
+  compared : (i j : ℕ) → i < length ends → j < length ends
+      → (node_of_end ends tails i == node_of_end ends tails j) ≡ is_one_point (end_at ends i) (end_at ends j)
   compared i j i_in j_in =
       let h = agrees i j i_in j_in in
-      equal_is (node_of_end ends tails i) (node_of_end ends tails j) (is_one_point (end_at ends i) (end_at ends j)) h.0 h.1
+      equal_is (node_of_end ends tails i) (node_of_end ends tails j) (is_one_point (end_at ends i)
+          (end_at ends j)) h.0 h.1
 
   pub tails_are : AreTailsOf pieces tails
   tails_are = record {
@@ -120,9 +135,12 @@ module _ (pieces : List Piece) (ends : List End) (tails : List ℕ) (last : ℕ)
         let j = place_of t t_in in
         let first : node_of_end ends tails i.0 ≡ get_or tails s 0 = ap (λ (e : End). get_or tails e.step 0) i.2 in
         let second : node_of_end ends tails j.0 ≡ get_or tails t 0 = ap (λ (e : End). get_or tails e.step 0) j.2 in
-        ap (λ (m : ℕ). m == get_or tails t 0) (sym first) ∙ ap (λ (m : ℕ). node_of_end ends tails i.0 == m) (sym second) ∙ compared i.0 j.0 i.1 j.1
-        ∙ ap (λ (e : End). is_one_point e (end_at ends j.0)) i.2 ∙ ap (λ (e : End). is_one_point (end_of (tail_at pieces s) s) e) j.2
-        ∙ one_where_same (tail_at pieces s) (tail_at pieces t) s t (tail_lowest pieces s r s_in) (tail_lowest pieces t r t_in);
+        ap (λ (m : ℕ). m == get_or tails t 0) (sym first)
+            ∙ ap (λ (m : ℕ). node_of_end ends tails i.0 == m) (sym second) ∙ compared i.0 j.0 i.1 j.1
+        ∙ ap (λ (e : End). is_one_point e (end_at ends j.0)) i.2
+            ∙ ap (λ (e : End). is_one_point (end_of (tail_at pieces s) s) e) j.2
+        ∙ one_where_same (tail_at pieces s) (tail_at pieces t) s t (tail_lowest pieces s r s_in)
+            (tail_lowest pieces t r t_in);
   }
 
 both_length : (es : List (ℕ × Piece)) → length (flat_map both_ends es) ≡ 2 * length es

@@ -11,7 +11,8 @@ end_of p step = record { x_num = p.x.num; x_den = p.x.den; y_num = p.y.num; y_de
 
 -- the same parts: in lowest terms, the same point
 abbrev pub is_one_point : End → End → Bool
-is_one_point a b = (int_eq a.x_num b.x_num && int_eq a.x_den b.x_den) && (int_eq a.y_num b.y_num && int_eq a.y_den b.y_den)
+is_one_point a b = (int_eq a.x_num b.x_num && int_eq a.x_den b.x_den) && (int_eq a.y_num b.y_num
+    && int_eq a.y_den b.y_den)
 
 abbrev pub both_ends : ℕ × Piece → List End
 both_ends e = end_of e.1.to (2 * e.0) ∷ end_of e.1.from (2 * e.0 + 1) ∷ []
@@ -35,12 +36,15 @@ pub record AreSortedEnds (ends : List End) (count : ℕ) : Type 0 where
   pub at_most : length ends ≤ 131072
   pub inside : (j : ℕ) → j < length ends → (end_at ends j).step < count
   pub apart : (i j : ℕ) → i < j → j < length ends → (end_at ends i).step ≢ (end_at ends j).step
-  pub between : (i j : ℕ) → i ≤ j → j + 1 < length ends → is_one_point (end_at ends i) (end_at ends (j + 1)) ≡ true → is_one_point (end_at ends j) (end_at ends (j + 1)) ≡ true
+  pub between : (i j : ℕ) → i ≤ j → j + 1 < length ends → is_one_point (end_at ends i) (end_at ends (j + 1)) ≡ true
+      → is_one_point (end_at ends j) (end_at ends (j + 1)) ≡ true
 
 -- one node for one point, for the ends before a number
 pub record AreNumbered (ends : List End) (tails : List ℕ) (node at : ℕ) : Type 0 where
   pub low : node ≤ at
   pub assigned : (j : ℕ) → j < at → node_of_end ends tails j ≤ node
   pub last : (j : ℕ) → j + 1 ≡ at → node_of_end ends tails j ≡ node
-  pub alike : (i j : ℕ) → i < j → j < at → is_one_point (end_at ends i) (end_at ends j) ≡ true → node_of_end ends tails i ≡ node_of_end ends tails j
-  pub unlike : (i j : ℕ) → i < j → j < at → is_one_point (end_at ends i) (end_at ends j) ≡ false → node_of_end ends tails i < node_of_end ends tails j
+  pub alike : (i j : ℕ) → i < j → j < at → is_one_point (end_at ends i) (end_at ends j) ≡ true
+      → node_of_end ends tails i ≡ node_of_end ends tails j
+  pub unlike : (i j : ℕ) → i < j → j < at → is_one_point (end_at ends i) (end_at ends j) ≡ false
+      → node_of_end ends tails i < node_of_end ends tails j

@@ -9,7 +9,8 @@ use Rattle.route_spec.specs.Routes.{Piece, DirectedPiece, TurnWalk, can_follow, 
 
 -- stands for pieces that aren't there
 abbrev pub no_piece : Piece
-no_piece = record { route = 0; from = whole_point (point (pos 0) (pos 0)); to = whole_point (point (pos 0) (pos 0)); direction = point (pos 0) (pos 0) }
+no_piece = record { route = 0; from = whole_point (point (pos 0) (pos 0)); to = whole_point (point (pos 0)
+    (pos 0)); direction = point (pos 0) (pos 0) }
 
 abbrev pub piece_at : List Piece → ℕ → Piece
 piece_at pieces k = get_or pieces k no_piece
@@ -33,7 +34,8 @@ IsEased pieces costs s =
 -- each cost that is known is that of a walk from the source
 abbrev pub AreWalked : List Piece → ℕ → List ℕ → Type 0
 AreWalked pieces source costs =
-    (s : ℕ) → s < 2 * length pieces → cost_at costs s < far_of pieces → (more : ℕ) × TurnWalk pieces source more (step_at pieces s) (cost_at costs s)
+    (s : ℕ) → s < 2 * length pieces → cost_at costs s < far_of pieces
+        → (more : ℕ) × TurnWalk pieces source more (step_at pieces s) (cost_at costs s)
 
 -- the min_by costs of walks from the source to each step
 pub record AreLeast (pieces : List Piece) (source : ℕ) (costs : List ℕ) : Type 0 where
@@ -60,7 +62,8 @@ heading_at pieces s = heading_direction (step_at pieces s).0.1 (step_at pieces s
 
 -- the second step begins where the first ends
 abbrev pub leads_to : List Piece → ℕ → ℕ → Bool
-leads_to pieces s t = same_rpoint (head_of (step_at pieces s).0.1 (step_at pieces s).1) (tail_of (step_at pieces t).0.1 (step_at pieces t).1)
+leads_to pieces s t = same_rpoint (head_of (step_at pieces s).0.1 (step_at pieces s).1) (tail_of
+    (step_at pieces t).0.1 (step_at pieces t).1)
 
 -- the steps that begin where the step ends, in order
 abbrev pub row_of : List Piece → ℕ → List ℕ

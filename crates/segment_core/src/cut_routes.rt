@@ -59,8 +59,8 @@ fn append_route(
     Ok(())
 }
 
-/// The pieces of the routes of a plan: each route is cut at the points that it shares with others, but for its own ends.
-/// They are numbered by route in plan order, and along each route from its first point.
+/// The pieces of the routes of a plan: each route is cut at the points that it shares with others, but for its own
+/// ends. They are numbered by route in plan order, and along each route from its first point.
 ///
 /// Cost: one test for each ordered pair of routes, and a binary search for each cut.
 ///

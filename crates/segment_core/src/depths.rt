@@ -148,9 +148,9 @@ fn lesser_below(forward: u32, back: u32, far: u32) -> Option<u32>
     if least < far { Some(least) } else { None }
 }
 
-/// The turn depth of each piece from the source, in sixteenths of a half turn: the least sum of turns of a walk to it, or
-/// `None` exactly where no walk leads to it. A walk begins on the source in either heading, and goes from the end of a
-/// piece to another piece with that end, away from it.
+/// The turn depth of each piece from the source, in sixteenths of a half turn: the least sum of turns of a walk to it,
+/// or `None` exactly where no walk leads to it. A walk begins on the source in either heading, and goes from the end of
+/// a piece to another piece with that end, away from it.
 ///
 /// ```text
 ///        2          from piece 0 straight on to piece 1 costs nothing,
@@ -158,8 +158,8 @@ fn lesser_below(forward: u32, back: u32, far: u32) -> Option<u32>
 ///        3
 /// ```
 ///
-/// Cost: one sort of the ends of all pieces; then each piece is settled once in each heading, in the order of the costs,
-/// with a turn for each piece that can follow.
+/// Cost: one sort of the ends of all pieces; then each piece is settled once in each heading, in the order of costs, with
+/// a turn for each piece that can follow.
 ///
 /// Source: angular depth of segments after Turner (2007); sixteenths of a half turn are ours.
 pub fn turn_depths(

@@ -64,7 +64,8 @@ fn plan_of(rt: &impl Abort, alloc: Global, routes: &[(i64, i64, i64, i64)]) -> P
     }
 }
 
-/// The routes' pieces have so many neighbours, and these turn depths from the first piece; `None` is where no walk leads.
+/// The routes' pieces have so many neighbours, and these turn depths from the first piece; `None` is where no walk
+/// leads.
 fn has_net(
     rt: &impl Abort,
     alloc: Global,
@@ -172,8 +173,8 @@ fn has_ends(
     }
 }
 
-/// Two routes that cross at a point with fractions; one that two others cut, the later cut first in the plan; and one that
-/// two others cut at one point.
+/// Two routes that cross at a point with fractions; one that two others cut, the later cut first in the plan; and one
+/// that two others cut at one point.
 #[test]
 fn worked_ends(rt: HostRuntime) {
     let alloc = rt.alloc();

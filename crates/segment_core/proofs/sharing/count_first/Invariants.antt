@@ -5,4 +5,5 @@ use Rattle.segment_core.proofs.Counting.{Counting}
 use Rattle.segment_core.proofs.sharing.count_first.Given as goal
 
 abbrev pub invariant-loop-step : goal.invariant-loop-step
-invariant-loop-step l = Counting (counts_at l.nodes.tails.items l.k l.from) (row_of l.pieces (2 * l.k)) l.step-index l.count
+invariant-loop-step l = Counting (counts_at l.nodes.tails.items l.k l.from) (row_of l.pieces
+    (2 * l.k)) l.step-index l.count

@@ -5,4 +5,5 @@ use Rattle.segment_core.proofs.Counting.{Counting}
 use Rattle.segment_core.proofs.sharing.count_second.Given as goal
 
 abbrev pub invariant-loop-step : goal.invariant-loop-step
-invariant-loop-step l = Counting (counts_apart l.nodes.tails.items l.k l.to l.from) (row_of l.pieces (2 * l.k + 1)) l.step-index l.count
+invariant-loop-step l = Counting (counts_apart l.nodes.tails.items l.k l.to l.from) (row_of l.pieces
+    (2 * l.k + 1)) l.step-index l.count
