@@ -92,8 +92,12 @@ end_by_parts p q i j =
 -- and lines
 ends_by_parts : (l m : AxialLine) → HasLowEnds l → HasLowEnds m → has_ends_of l m ≡ same_ends l m
 ends_by_parts l m i j =
-    rw (end_by_parts l.from m.from i.from j.from, end_by_parts l.to m.to i.to j.to,
-    end_by_parts l.from m.to i.from j.to, end_by_parts l.to m.from i.to j.from) refl
+    rw (
+      end_by_parts l.from m.from i.from j.from,
+      end_by_parts l.to m.to i.to j.to,
+      end_by_parts l.from m.to i.from j.to,
+      end_by_parts l.to m.from i.to j.from,
+    ) refl
 
 end_low : (p d : Point) (o : Option Fraction) → IsHit (reach o) → IsLow (end_by p d o)
 unfolding along

@@ -173,13 +173,18 @@ gap_is area before after start c alike fits differ =
     let old = map here_of before.corners in
     let new = map here_of after.corners in
     let passed = front_passed c.front (c.gone ++ c.back) c.back start
-        (subst (λ ps. DifferAt start (c.front ++ (c.gone ++ c.back)) ps) c.new_is
-        (subst (λ ps. DifferAt start ps new) c.old_is differ)) in
+    (subst (λ ps. DifferAt start (c.front ++ (c.gone ++ c.back)) ps) c.new_is
+    (subst (λ ps. DifferAt start ps new) c.old_is differ)) in
     let m = moved (λ p. does_meet_box p p area) old new start c.back c.front c.gone passed
-        (omega (arith, fits, length-map after.corners here_of)) alike c.old_is c.new_is c.gone_in in
+    (omega (arith, fits, length-map after.corners here_of)) alike c.old_is c.new_is c.gone_in in
     record {
       closes = record {
-        front = m.front; gone = m.gone; back = m.back; old_is = m.old_is; new_is = m.new_is; gone_in = m.passes;
+        front = m.front;
+        gone = m.gone;
+        back = m.back;
+        old_is = m.old_is;
+        new_is = m.new_is;
+        gone_in = m.passes;
       };
       start_is = m.front_is;
       count_is = m.gone_is ∙ counted c.front c.gone c.back (ap length c.old_is) (ap length c.new_is);
@@ -189,13 +194,13 @@ gap_is area before after start c alike fits differ =
         → length (map here_of after.corners) ≡ length (front ++ back)
         → length gone ≡ length before.corners - length after.corners
     counted front gone back o n =
-        omega (arith, o, n, length-append front (gone ++ back), length-append gone back, length-append front back,
-        length-map before.corners here_of, length-map after.corners here_of)
-
--- no corners are added
-pub none_more : (area : PlanBox) (before after : Scene) → ClosesUp area before after
-    → length after.corners ≤ length before.corners
-none_more area before after c =
-    omega (arith, ap length c.old_is, ap length c.new_is, length-append c.front (c.gone ++ c.back),
-    length-append c.gone c.back, length-append c.front c.back, length-map before.corners here_of,
-    length-map after.corners here_of)
+        omega (
+          arith,
+          o,
+          n,
+          length-append front (gone ++ back),
+          length-append gone back,
+          length-append front back,
+          length-map before.corners here_of,
+          length-map after.corners here_of,
+        )

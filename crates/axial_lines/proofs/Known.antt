@@ -30,10 +30,14 @@ use Rattle.axial_lines.proofs.CornerPoints.{ends_in_range}
 direction : (p q : Point) → InRange p → InRange q → IsDirection (vector p q)
 direction p q i j =
     record {
-      x = record { low = omega (arith, ints, i.x.low, i.x.high, j.x.low, j.x.high);
-          high = omega (arith, ints, i.x.low, i.x.high, j.x.low, j.x.high) };
-      y = record { low = omega (arith, ints, i.y.low, i.y.high, j.y.low, j.y.high);
-          high = omega (arith, ints, i.y.low, i.y.high, j.y.low, j.y.high) };
+      x = record {
+        low = omega (arith, ints, i.x.low, i.x.high, j.x.low, j.x.high);
+        high = omega (arith, ints, i.x.low, i.x.high, j.x.low, j.x.high);
+      };
+      y = record {
+        low = omega (arith, ints, i.y.low, i.y.high, j.y.low, j.y.high);
+        high = omega (arith, ints, i.y.low, i.y.high, j.y.low, j.y.high);
+      };
     }
 
 whole_small : (z : ℤ) → IsWithin MAX_COORDINATE z → HasCoordinateParts (whole z)
@@ -57,9 +61,9 @@ lines_known scene sound =
     let points = map here_of scene.corners in
     let es = pairs (enumerate_from 0 points) in
     let numbers = each_pair (λ m. m.0 < length scene.corners) (enumerate_from 0 points)
-        (numbers_below (length scene.corners) 0 points (as_many (length-map scene.corners here_of))) in
+    (numbers_below (length scene.corners) 0 points (as_many (length-map scene.corners here_of))) in
     let places = each_pair IsEndInRange (enumerate_from 0 points)
-        (ends_in_range 0 scene.corners (corners-in_range scene sound)) in
+    (ends_in_range 0 scene.corners (corners-in_range scene sound)) in
     subst (All (IsKnownLine scene)) (sym (lines_are scene points refl))
     (All-map (IsKnownLine scene) (line_through scene) (distinct_by (same_line scene) (filter (is_seen_pair scene) es))
     (firsts_hold (λ e. IsKnownLine scene (line_through scene e)) (same_line scene) [] (filter (is_seen_pair scene) es)

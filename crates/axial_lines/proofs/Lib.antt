@@ -7,3 +7,4 @@ mod Stopping
 mod Known
 mod Gaps
 mod Updating
+pub mod Edits

@@ -79,8 +79,8 @@ fresh_is area old lines new =
     let ends = dirty_corners (removal_of area) old lines new in
     let seen = filter (is_seen_pair new) (pairs ends) in
     let known = each_pair (λ n. corner_point new n.0 ≡ n.1) ends
-        (All-filter (λ c. is_dirty_corner (removal_of area) old lines new c.1) (λ n. corner_point new n.0 ≡ n.1)
-        (enumerate_from 0 (map here_of new.corners)) (corners_known new (map here_of new.corners) refl)) in
+    (All-filter (λ c. is_dirty_corner (removal_of area) old lines new c.1) (λ n. corner_point new n.0 ≡ n.1)
+    (enumerate_from 0 (map here_of new.corners)) (corners_known new (map here_of new.corners) refl)) in
     ap (distinct_by same_ends)
     (filter_map_first (is_dirty_line (removal_of area) new) (line_through new) seen
     ∙ ap (map (line_through new))
@@ -107,7 +107,7 @@ removal_updated area before after old ends start count r o g e stopped =
     let fresh = λ (es : List (ℕ × Point)). distinct_by same_ends (lines_with after (Some area) (pairs es)) in
     let all_stopped = λ (es : List (ℕ × Point)). list_all (is_stopped after) (filter (is_seen_pair after) (pairs es)) in
     let are_stopped : all_stopped (dirty_corners boxes before lines after) ≡ true =
-        ap (λ ls. all_stopped (dirty_corners boxes before ls after)) (sym o) ∙ ap all_stopped (sym e) ∙ stopped in
+    ap (λ ls. all_stopped (dirty_corners boxes before ls after)) (sym o) ∙ ap all_stopped (sym e) ∙ stopped in
     ap (λ es. merged comes_before (kept_lines boxes before old start count) (fresh es)) e
     ∙ ap (λ ls. merged comes_before (kept_lines boxes before ls start count)
     (fresh (dirty_corners boxes before ls after))) o

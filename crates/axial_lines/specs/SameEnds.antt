@@ -48,12 +48,20 @@ ends_alike l m n h =
         → (same_end l.from m.to && same_end l.to m.from) ≡ t → (s || t) ≡ true → has_ends_of l n ≡ has_ends_of m n
     by true t e f o =
         let both = and_parts (same_end l.from m.from) (same_end l.to m.to) e in
-        rw (end_equiv.congr l.from m.from n.from both.0, end_equiv.congr l.to m.to n.to both.1,
-        end_equiv.congr l.from m.from n.to both.0, end_equiv.congr l.to m.to n.from both.1) refl
+        rw (
+          end_equiv.congr l.from m.from n.from both.0,
+          end_equiv.congr l.to m.to n.to both.1,
+          end_equiv.congr l.from m.from n.to both.0,
+          end_equiv.congr l.to m.to n.from both.1,
+        ) refl
     by false true e f o =
         let both = and_parts (same_end l.from m.to) (same_end l.to m.from) f in
-        rw (end_equiv.congr l.from m.to n.from both.0, end_equiv.congr l.to m.from n.to both.1,
-        end_equiv.congr l.from m.to n.to both.0, end_equiv.congr l.to m.from n.from both.1)
+        rw (
+          end_equiv.congr l.from m.to n.from both.0,
+          end_equiv.congr l.to m.from n.to both.1,
+          end_equiv.congr l.from m.to n.to both.0,
+          end_equiv.congr l.to m.from n.from both.1,
+        )
         (exchanged (same_end m.to n.from) (same_end m.from n.to) (same_end m.to n.to) (same_end m.from n.from))
     by false false e f o = cc
 

@@ -73,10 +73,7 @@ fn is_dirty_to_another(area: PlanBox, scene: &Scene, p: Point) -> bool
     requires p_in { InRange p }
     ensures { result ≡ dirty.is_dirty_to_another (removal_of area) scene.now p }
 {
-    scene
-        .corners()
-        .iter()
-        .any(|c| !same_point(c.here, p) && is_dirty_pair(area, p, c.here))
+    scene.corners().iter().any(|c| !same_point(c.here, p) && is_dirty_pair(area, p, c.here))
 }
 
 /// Whether the point lies on one of the lines.
@@ -112,13 +109,7 @@ pub(crate) fn dirty_lines(
 }
 
 /// Whether the corner of the new scene is dirty; `dirty` are the dirty ones among the lines of the old scene.
-fn is_dirty_corner(
-    area: PlanBox,
-    old: &Scene,
-    dirty: &[AxialLine],
-    new: &Scene,
-    p: Point,
-) -> bool
+fn is_dirty_corner(area: PlanBox, old: &Scene, dirty: &[AxialLine], new: &Scene, p: Point) -> bool
     requires area_in { IsBoxInRange area }
     requires p_in { InRange p }
     requires lines_of { All (IsKnownLine old.now) dirty.now }

@@ -97,7 +97,7 @@ fn lines_after_removal(
     ensures at_most { IfOk result (λ lines. length lines.items ≤ MAX_AXIAL_LINES) }
     ensures too_many { result ≡ Err TooManyLines → MAX_AXIAL_LINES < length (axial_lines after.now) }
 {
-    let gone = gap(area, before, after);
+    let gone = gap(before, after);
     let Ok(ends) = fresh_ends(alloc, area, before, after, old) else {
         return Err(LinesFault::NoMemory);
     };
