@@ -1,14 +1,14 @@
 -- What is found by adding lines one after the other is the list of those that are like none before them.
 use Rattle.std.proofs.Common.{◌≡◌, ◌∙◌, Bool, true, false, ◌&&◌, ◌||◌, List, [], ◌∷◌, ◌++◌, map, filter, arith, refl, sym, ap, append_assoc}
 use Rattle.std.specs.Prelude.{Option, Some, None}
-use Rattle.std.specs.List.{All, list_any, enumerate_from}
+use Rattle.std.specs.List.{All, list_any}
 use Rattle.std.proofs.lemmas.List.Elements.{All-nil, All-map, All-filter, filter_passes}
 use Rattle.std.proofs.lemmas.List.Folds.{list_any-append}
 use Rattle.plane_spec.specs.declared.Point.{Point}
 use Rattle.plane_spec.specs.declared.PlanBox.{PlanBox}
 use Rattle.plane_spec.specs.Lists.{distinct_by, distinct_after, numbered_pairs}
 use Rattle.plane_spec.specs.Vectors.{vector}
-use Rattle.plane_spec.specs.Fractions.{Fraction, RPoint, IsReduced, same_rpoint, same_value, whole, along, shifted}
+use Rattle.plane_spec.specs.Fractions.{Fraction, RPoint, IsReduced, same_rpoint, same_value, along}
 use Rattle.exact_geom.specs.Parts.{same_parts}
 use Rattle.exact_geom.proofs.Lowest.{reduced_is_reduced, whole_is_reduced}
 use Rattle.exact_geom.proofs.Values.{parts_tell_values}

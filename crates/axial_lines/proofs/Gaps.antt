@@ -4,7 +4,7 @@
 -- begin with the front, so where the points first differ, all of the front is passed. If more points than the front are
 -- the same, the first of back is the first that is gone; it lies in the box too, and front, gone and back may as well
 -- begin one place later. So on, up to the place where the points differ.
-use Rattle.std.proofs.Common.{◌≡◌, ◌∙◌, ℕ, zero, suc, ◌+◌, ◌-◌, ◌<◌, ◌≤◌, Bool, true, false, ◌&&◌, List, [], ◌∷◌, ◌++◌, ◌⊎◌, inl, inr, map, length, get_or, arith, refl, sym, ap, subst, append_assoc}
+use Rattle.std.proofs.Common.{◌≡◌, ◌∙◌, ℕ, zero, suc, ◌+◌, ◌-◌, ◌<◌, ◌≤◌, Bool, true, List, [], ◌∷◌, ◌++◌, ◌⊎◌, inl, inr, map, length, get_or, arith, refl, sym, ap, subst, append_assoc}
 use Rattle.std.specs.List.{list_all}
 use Rattle.std.proofs.lemmas.Bool.{and_parts, and_from, cases_lt}
 use Rattle.std.proofs.lemmas.List.{length-append, length-map}
@@ -63,7 +63,8 @@ alike_next some others k d e h g same alike i below = by (cases_lt i k)
     by (inr more) =
         let last : i ≡ k = omega arith in
         ap (point_at (map here_of some)) last
-        ∙ here_at some k d h ∙ one_point (get_or some k d).here (get_or others k e).here same ∙ sym (here_at others k e g)
+        ∙ here_at some k d h ∙ one_point (get_or some k d).here (get_or others k e).here same
+        ∙ sym (here_at others k e g)
         ∙ ap (point_at (map here_of others)) (sym last)
 
 -- where one of the corners ends, or the points differ

@@ -1,5 +1,5 @@
 -- What code must know of the axial lines of a sound plan: their numbers are corners', and their ends have small parts.
-use Rattle.std.proofs.Common.{◌≡◌, ℕ, ◌+◌, ◌<◌, ◌≤◌, ℤ, pos, lit≤, List, [], ◌∷◌, filter, map, length, All, Option, Some, None, arith, refl, sym, subst}
+use Rattle.std.proofs.Common.{◌≡◌, ℕ, ◌+◌, ◌<◌, ◌≤◌, ℤ, lit≤, List, [], ◌∷◌, filter, map, length, All, Option, Some, None, arith, refl, sym, subst}
 use Rattle.std.specs.List.{enumerate_from}
 use Rattle.std.proofs.lemmas.Int.{ints}
 use Rattle.std.proofs.lemmas.List.{length-map}
@@ -40,9 +40,13 @@ direction p q i j =
       };
     }
 
+-- a whole coordinate
 whole_small : (z : ℤ) → IsWithin MAX_COORDINATE z → HasCoordinateParts (whole z)
 whole_small z h =
-    record { num = within_more _ _ z (lit≤ tt) h; den = record { low = omega (arith, ints); high = omega (arith, ints) } }
+    record {
+      num = within_more _ _ z (lit≤ tt) h;
+      den = record { low = omega (arith, ints); high = omega (arith, ints) };
+    }
 
 -- the end of a line
 end_small : (scene : Scene) (p d : Point) → IsOfSoundPlan scene → InRange p → IsDirection d → (o : Option Fraction)
@@ -50,12 +54,14 @@ end_small : (scene : Scene) (p d : Point) → IsOfSoundPlan scene → InRange p 
 end_small scene p d sound i j None e = record { x = whole_small p.x i.x; y = whole_small p.y i.y }
 end_small scene p d sound i j (Some t) e = along_within p d t i j (stop_is_small scene p d t sound i j e)
 
+-- numbers counted from k on stay below k and how many they are
 numbers_below : (n k : ℕ) (points : List Point) → k + length points ≤ n → All (λ m. m.0 < n) (enumerate_from k points)
 numbers_below n k [] h = All-nil (λ m. m.0 < n)
 numbers_below n k (p ∷ points) h =
     All-cons (λ m. m.0 < n) (k, p) (enumerate_from (k + 1) points) (omega arith)
     (numbers_below n (k + 1) points (omega arith))
 
+-- the axial lines of a sound plan are known
 pub lines_known : (scene : Scene) → IsOfSoundPlan scene → All (IsKnownLine scene) (axial_lines scene)
 lines_known scene sound =
     let points = map here_of scene.corners in

@@ -1,7 +1,7 @@
 -- What code finds after a removal is what the law of removals speaks of.
 use Rattle.std.proofs.Common.{◌≡◌, ◌∙◌, Bool, true, false, ◌||◌, not, ℕ, List, filter, map, length, refl, sym, ap, subst}
-use Rattle.std.specs.Prelude.{Option, Some, None, IfSome}
-use Rattle.std.specs.List.{All, list_all, list_any, enumerate_from}
+use Rattle.std.specs.Prelude.{Some, None, IfSome}
+use Rattle.std.specs.List.{All, list_all, enumerate_from}
 use Rattle.std.proofs.lemmas.List.Elements.{All-filter}
 use Rattle.plane_spec.specs.declared.PlanBox.{PlanBox}
 use Rattle.plane_spec.specs.declared.Point.{Point}
@@ -17,7 +17,6 @@ use Rattle.sight_spec.specs.Axial.{AxialLine, here_of, line_through, is_seen_pai
 use Rattle.sight_spec.specs.Dirty.{was_corner, is_dirty_to_another, is_on_axial_line, is_dirty_line, is_dirty_corner, dirty_corners, corner_point, extent_meets_if_there}
 use Rattle.list_laws.specs.Merged.{merged}
 use Rattle.list_laws.proofs.Elements.{filter_map_first, filter_same_on, found_among_passing}
-use Rattle.list_laws.proofs.Tests.{list_any_agree}
 use Rattle.list_laws.proofs.Numbers.{OfBoth, each_pair}
 use Rattle.dirty_laws.specs.Scenes.{IsEdited, IsRemoved, removal_of}
 use Rattle.dirty_laws.proofs.Edited.{removed_in_box}

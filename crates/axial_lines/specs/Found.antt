@@ -1,12 +1,13 @@
--- Lines as they are found: when two have the same ends, which pairs give one that is wanted, and what is added to those found.
-use Rattle.std.specs.Prelude.{ℕ, ◌+◌, ◌*◌, ◌%◌, ◌^◌, bit_xor, unsigned_abs, ℤ, Bool, true, ◌&&◌, ◌||◌, Option, Some, None, List, [], ◌∷◌, ◌++◌, map, filter, is_some, if◌then◌else◌}
+-- Lines as they are found: when two have the same ends, which pairs give one that is wanted, and what is added to those
+-- that were found.
+use Rattle.std.specs.Prelude.{ℕ, ◌+◌, ◌*◌, ◌%◌, ◌^◌, bit_xor, unsigned_abs, ℤ, Bool, true, ◌&&◌, ◌||◌, Option, Some, None, List, [], ◌∷◌, ◌++◌, map, filter, if◌then◌else◌}
 use Rattle.std.specs.List.{list_any}
 use Rattle.plane_spec.specs.declared.Point.{Point}
 use Rattle.plane_spec.specs.declared.PlanBox.{PlanBox}
 use Rattle.plane_spec.specs.Vectors.{InRange, vector}
 use Rattle.plane_spec.specs.Fractions.{Fraction, RPoint}
 use Rattle.plane_spec.specs.Boxes.{does_extent_meet_box}
-use Rattle.exact_geom.specs.Parts.{HasStopParts, same_parts}
+use Rattle.exact_geom.specs.Parts.{same_parts}
 use Rattle.sight_spec.specs.Scene.{Scene}
 use Rattle.sight_spec.specs.Sight.{are_in_sight}
 use Rattle.sight_spec.specs.Stops.{stop_of}
@@ -75,7 +76,8 @@ is_wanted scene area e = is_wanted_extent area e.0.1 e.1.1 (line_through scene e
 
 -- the lines of the pairs that see each other and whose line is wanted
 abbrev pub lines_with : Scene → Option PlanBox → List Pair → List AxialLine
-lines_with scene area pairs = map (line_through scene) (filter (is_wanted scene area) (filter (is_seen_pair scene) pairs))
+lines_with scene area pairs =
+    map (line_through scene) (filter (is_wanted scene area) (filter (is_seen_pair scene) pairs))
 
 -- the elements and then those of xs, each left out where it is like one before it that isn't
 abbrev pub added : {X : Type 0} → (X → X → Bool) → List X → List X → List X

@@ -2,7 +2,6 @@
 use Rattle.std.specs.Prelude.{◌≡◌, ◌<◌, ℕ, length, Bool, true, ◌||◌, not, if◌then◌else◌, List, pos, get_or, Some}
 use Rattle.std.specs.List.{list_any}
 use Rattle.plane_spec.specs.declared.Point.{Point}
-use Rattle.plane_spec.specs.declared.Corner.{Corner}
 use Rattle.plane_spec.specs.declared.PlanBox.{PlanBox}
 use Rattle.plane_spec.specs.Vectors.{point, same_point}
 use Rattle.plane_spec.specs.Lists.{distinct_by, pairs}
@@ -52,7 +51,8 @@ is_dirty_by area old dirty new p =
     not (was_corner old p)
     || (is_dirty_to_another (removal_of area) new p || list_any (is_on_axial_line old p) dirty)
 
--- the old lines that stay, with `count` corners from `start` on gone, merged with those between the ends that meet the box
+-- the old lines that stay when `count` corners from `start` on are gone, merged with those between the ends that meet
+-- the box
 abbrev pub updated : PlanBox → Scene → Scene → List AxialLine → ℕ → ℕ → List (ℕ × Point) → List AxialLine
 updated area before after old start count ends =
     merged comes_before

@@ -1,6 +1,6 @@
 -- Lines that have the same ends, part for part: it is an equivalence, and such lines have one hash.
-use Rattle.std.proofs.Common.{◌≡◌, ◌∙◌, ◌+◌, ◌%◌, ◌^◌, ℕ, ℤ, Bool, true, false, ◌&&◌, ◌||◌, List, arith, refl, sym, ap}
-use Rattle.std.specs.Ordering.{int_eq, on, eq_of_both}
+use Rattle.std.proofs.Common.{◌≡◌, ◌∙◌, ◌+◌, ◌%◌, ◌^◌, ℕ, Bool, true, false, ◌&&◌, ◌||◌, arith, refl, ap}
+use Rattle.std.specs.Ordering.{int_eq}
 use Rattle.std.specs.Cmp.{IsEquivalence, int_eq_equiv, on_equiv, and_equiv}
 use Rattle.std.specs.Hash as fed
 use Rattle.std.proofs.lemmas.Bool.{and_parts}

@@ -15,13 +15,13 @@ use std::alloc::Global;
 /// The axial lines of a scene: those through all pairs of corners that see each other, in the order of their numbers,
 /// each as far as nothing stops it. A line is left out where an earlier one has its ends.
 ///
-/// `Err(TooManyLines)` exactly where there are more than [`MAX_AXIAL_LINES`](plan_spec::MAX_AXIAL_LINES), but for want of
-/// memory; no more than one line above that is made.
+/// But for want of memory, `Err(TooManyLines)` is answered exactly where there are more than
+/// [`MAX_AXIAL_LINES`](plan_spec::MAX_AXIAL_LINES); no more than one above that is made.
 ///
-/// Cost: for each pair of corners sight and two stops, so at most four passes over the scene.
+/// Cost: for each pair of corners sight, and for those in sight two stops and a look-up by a hash.
 ///
-/// Source: all-line axial maps after Penn, Conroy, Dalton, Dekker, Mottram and Turner (1997); the ends are this project's
-/// own.
+/// Source: all-line axial maps after Penn, Conroy, Dalton, Dekker, Mottram and Turner (1997); where a line ends is this
+/// project's own.
 #[tactic(auto, using(crate::proofs::Distinct::all_wanted))]
 pub fn all_lines(alloc: Global, scene: &Scene) -> Result<Vec<AxialLine>, LinesFault>
     ensures lines { IfOk result (λ lines. lines.items ≡ axial_lines scene.now) }

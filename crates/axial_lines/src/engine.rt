@@ -104,8 +104,8 @@ fn add_rows(
     Ok(())
 }
 
-/// The lines of the pairs that see each other and whose line meets the box, where there is one, each where none before it
-/// has its ends.
+/// The lines of the pairs that see each other and whose line meets the box, where there is one, each where none before
+/// it has its ends.
 ///
 /// Cost: for each pair sight and two stops, and for each line one look-up by a hash of its ends.
 #[tactic(auto, using(crate::proofs::Distinct::added_are_distinct))]

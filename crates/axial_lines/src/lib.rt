@@ -7,17 +7,19 @@
 //! | [`all_lines`] | the axial lines of a scene |
 //! | [`update_lines`] | the axial lines after an edit, from those before it |
 //!
-//! Each pair of corners that see each other gives a line. Beyond each of the two it ends where something stops it, or at
-//! the corner itself where nothing does:
+//! Each pair of corners that see each other gives a line. Beyond each of the two it ends where something stops it, or
+//! at the corner itself where nothing does:
 //!
 //! ```text
-//!   +-------------------------------+
-//!   |        ..............f        |    f, t: the ends of the line through the corners i and j,
-//!   |  j-----i'''          |        |    where an outer wall or another obstacle stops it
-//!   t''|#####|             |        |
+//!    +------------------------+
+//!    |                        |
+//!   from-----4----5----------to    the line of the corners 4 and 5 of a box: along its side,
+//!    |       |####|           |    and on to the outer walls
+//!    |       +----+           |
+//!    +------------------------+
 //! ```
 //!
-//! A line whose two ends are those of an earlier one is left out.
+//! A line whose two ends are those of an earlier one is left out: equal lines are known by a hash of their ends.
 #![tactic(auto)]
 
 mod all;

@@ -48,7 +48,8 @@ impl LineSet {
     /// Cost: one look-up by a hash of the ends.
     pub(crate) fn add(&mut self, line: AxialLine) -> Result<(), LinesFault>
         ensures added { OnOk result (self.new ≡ added has_ends_of self.old (line ∷ [])) }
-        ensures too_many { result ≡ Err TooManyLines → MAX_AXIAL_LINES < length (added has_ends_of self.old (line ∷ [])) }
+        ensures too_many { result ≡ Err TooManyLines
+            → MAX_AXIAL_LINES < length (added has_ends_of self.old (line ∷ [])) }
     {
         let line = ByEnds { line };
         if self.lines.len() < MAX_AXIAL_LINES {

@@ -103,6 +103,10 @@ fn lines(rt: &impl Abort, alloc: Global, scene: &Scene) -> Vec<AxialLine>
     }
 }
 
+fn lines_of(rt: &impl Abort, alloc: Global, plan: &Plan) -> Vec<AxialLine> {
+    lines(rt, alloc, &scene(rt, alloc, plan))
+}
+
 /// The lines after an edit, from those before it.
 #[tactic(auto, using(crate::proofs::Edits::edited_plan))]
 fn updated(rt: &impl Abort, alloc: Global, plan: &Plan, edit: &Edit) -> (Scene, Vec<AxialLine>)
@@ -121,183 +125,159 @@ fn updated(rt: &impl Abort, alloc: Global, plan: &Plan, edit: &Edit) -> (Scene, 
     }
 }
 
-/// A line by its number and its corners, and the parts of the coordinates of its ends: numerators and denominators of x
-/// and y, one end after the other.
-type Row = (
-    usize,
-    (u32, u32),
-    (i128, i128, i128, i128),
-    (i128, i128, i128, i128),
-);
+/// The numerators and denominators of x and y.
+type Parts = (i128, i128, i128, i128);
 
-fn parts(p: &RPoint) -> (i128, i128, i128, i128) {
+fn parts(p: &RPoint) -> Parts {
     (p.x.num(), p.x.den(), p.y.num(), p.y.den())
 }
 
-/// As many lines, and some of them.
-fn has_lines(rt: &impl Abort, found: &[AxialLine], count: usize, rows: &[Row]) {
-    assert!(rt; found.len() == count, "{} lines", found.len());
-    for (k, corners, from, to) in rows {
-        match found.get(*k) {
-            None => panic!(rt; "there are as many lines"),
-            Some(line) => {
-                assert!(rt; (line.first, line.second) == *corners, "line {}", *k);
-                assert!(rt;
-                    parts(&line.from) == *from && parts(&line.to) == *to,
-                    "line {}",
-                    *k
-                );
-            }
+/// The line of a number has these corners and ends.
+fn has_line(
+    rt: &impl Abort,
+    found: &[AxialLine],
+    k: usize,
+    corners: (u32, u32),
+    from: Parts,
+    to: Parts,
+) {
+    match found.get(k) {
+        None => panic!(rt; "there are as many lines"),
+        Some(line) => {
+            assert!(rt; (line.first, line.second) == corners, "line {k}");
+            assert!(rt;
+                parts(&line.from) == from && parts(&line.to) == to,
+                "line {k}"
+            );
         }
     }
 }
 
-/// The lines of the empty room.
-const ROOM: [Row; 6] = [
-    (0, (0, 1), (0, 1, 0, 1), (10, 1, 0, 1)),
-    (1, (0, 2), (0, 1, 0, 1), (10, 1, 10, 1)),
-    (2, (0, 3), (0, 1, 0, 1), (0, 1, 10, 1)),
-    (3, (1, 2), (10, 1, 0, 1), (10, 1, 10, 1)),
-    (4, (1, 3), (10, 1, 0, 1), (0, 1, 10, 1)),
-    (5, (2, 3), (10, 1, 10, 1), (0, 1, 10, 1)),
-];
+/// The lines are those of the empty room.
+fn is_empty_room(rt: &impl Abort, found: &[AxialLine]) {
+    assert!(rt; found.len() == 6);
+    has_line(rt, found, 0, (0, 1), (0, 1, 0, 1), (10, 1, 0, 1));
+    has_line(rt, found, 1, (0, 2), (0, 1, 0, 1), (10, 1, 10, 1));
+    has_line(rt, found, 2, (0, 3), (0, 1, 0, 1), (0, 1, 10, 1));
+    has_line(rt, found, 3, (1, 2), (10, 1, 0, 1), (10, 1, 10, 1));
+    has_line(rt, found, 4, (1, 3), (10, 1, 0, 1), (0, 1, 10, 1));
+    has_line(rt, found, 5, (2, 3), (10, 1, 10, 1), (0, 1, 10, 1));
+}
 
-/// Some lines of the room with a box in its middle.
-const WITH_BOX: [Row; 3] = [
-    (2, (0, 4), (0, 1, 0, 1), (4, 1, 4, 1)),
-    (3, (0, 5), (0, 1, 0, 1), (10, 1, 20, 3)),
-    (16, (4, 5), (0, 1, 4, 1), (10, 1, 4, 1)),
-];
+/// The lines are those of the room with a box in its middle.
+fn is_room_with_box(rt: &impl Abort, found: &[AxialLine]) {
+    assert!(rt; found.len() == 20);
+    has_line(rt, found, 2, (0, 4), (0, 1, 0, 1), (4, 1, 4, 1));
+    has_line(rt, found, 3, (0, 5), (0, 1, 0, 1), (10, 1, 20, 3));
+    has_line(rt, found, 16, (4, 5), (0, 1, 4, 1), (10, 1, 4, 1));
+}
 
-/// Some lines of the room with a screen in it.
-const WITH_SCREEN: [Row; 3] = [
-    (2, (0, 4), (0, 1, 0, 1), (15, 2, 10, 1)),
-    (3, (0, 5), (0, 1, 0, 1), (10, 1, 40, 7)),
-    (12, (4, 5), (0, 1, 4, 1), (10, 1, 4, 1)),
-];
+/// The lines are those of the room with a screen in it.
+fn is_room_with_screen(rt: &impl Abort, found: &[AxialLine]) {
+    assert!(rt; found.len() == 13);
+    has_line(rt, found, 2, (0, 4), (0, 1, 0, 1), (15, 2, 10, 1));
+    has_line(rt, found, 3, (0, 5), (0, 1, 0, 1), (10, 1, 40, 7));
+    has_line(rt, found, 12, (4, 5), (0, 1, 4, 1), (10, 1, 4, 1));
+}
 
-/// How many lines run between the two points, and the corners of the last.
-fn between(lines: &[AxialLine], p: (i128, i128), q: (i128, i128)) -> (usize, (u32, u32)) {
-    let (from, to) = ((p.0, 1, p.1, 1), (q.0, 1, q.1, 1));
+/// Whether the line runs between the two points.
+fn is_between(line: &AxialLine, p: Parts, q: Parts) -> bool {
+    let (from, to) = (parts(&line.from), parts(&line.to));
+    (from == p && to == q) || (from == q && to == p)
+}
+
+/// How many lines run between the two points.
+fn count_between(lines: &[AxialLine], p: Parts, q: Parts) -> usize {
     let mut count = 0usize;
-    let mut corners = (0, 0);
     for line in lines {
-        let (f, t) = (parts(&line.from), parts(&line.to));
-        if (f == from && t == to) || (f == to && t == from) {
+        if is_between(line, p, q) {
             count = count.wrapping_add(1);
-            corners = (line.first, line.second);
         }
     }
-    (count, corners)
+    count
+}
+
+/// Six pairs of corners have one line through two boxes of one height, which is that of the first.
+fn equal_lines(rt: &impl Abort, alloc: Global) {
+    let boxes = [(b'A', at(2, 4), at(4, 6)), (b'B', at(6, 4), at(8, 6))];
+    let found = lines_of(rt, alloc, &room(rt, alloc, &boxes, &[]));
+    let (p, q) = ((0, 1, 4, 1), (10, 1, 4, 1));
+    assert!(rt; count_between(&found, p, q) == 1);
+    for line in &found {
+        assert!(rt; !is_between(line, p, q) || (line.first, line.second) == (4, 5));
+    }
+}
+
+/// The lines after an edit, which are those of the plan after it.
+fn after_edit(rt: &impl Abort, alloc: Global, plan: &Plan, edit: &Edit) -> Vec<AxialLine>
+    requires { HasShift edit.now }
+{
+    let (after, found) = updated(rt, alloc, plan, edit);
+    let expected = lines(rt, alloc, &after);
+    assert!(rt; found.len() == expected.len());
+    for k in 0..found.len() {
+        let (l, m) = (&found[k], &expected[k]);
+        assert!(rt; l.first == m.first && l.second == m.second);
+        assert!(rt; l.from == m.from && l.to == m.to);
+    }
+    found
+}
+
+fn after_removal(rt: &impl Abort, alloc: Global, plan: &Plan, letter: u8) -> Vec<AxialLine> {
+    after_edit(rt, alloc, plan, &Edit::Remove(name(rt, letter)))
+}
+
+fn after_screen_removal(rt: &impl Abort, alloc: Global, plan: &Plan, letter: u8) -> Vec<AxialLine> {
+    after_edit(rt, alloc, plan, &Edit::RemoveScreen(name(rt, letter)))
+}
+
+/// A box is added to the empty room.
+fn box_added(rt: &impl Abort, alloc: Global, room: &Plan) {
+    let points = box_points(rt, alloc, at(4, 4), at(6, 6));
+    let edit = Edit::Add(name(rt, b'A'), points);
+    is_room_with_box(rt, &after_edit(rt, alloc, room, &edit));
+}
+
+/// Lines that stay change their numbers, and those that were hidden come between them.
+fn one_of_three_removed(rt: &impl Abort, alloc: Global) {
+    let boxes = [(b'A', at(4, 4), at(6, 6)), (b'B', at(7, 1), at(8, 2))];
+    let plan = room(rt, alloc, &boxes, &[(b'S', at(2, 7), at(3, 9))]);
+    assert!(rt; after_removal(rt, alloc, &plan, b'A').len() == 32);
+    assert!(rt; after_removal(rt, alloc, &plan, b'B').len() == 29);
+    assert!(rt; after_screen_removal(rt, alloc, &plan, b'S').len() == 39);
 }
 
 #[test]
-fn small_plans_have_these_axial_lines(rt: HostRuntime) {
+fn rooms_have_these_axial_lines(rt: HostRuntime) {
     let alloc = rt.alloc();
-    let middle = (b'A', at(4, 4), at(6, 6));
-    let screen = (b'S', at(3, 4), at(7, 4));
-    let plan = room(&rt, alloc, &[], &[]);
-    has_lines(&rt, &lines(&rt, alloc, &scene(&rt, alloc, &plan)), 6, &ROOM);
-    let plan = room(&rt, alloc, &[middle], &[]);
-    has_lines(
-        &rt,
-        &lines(&rt, alloc, &scene(&rt, alloc, &plan)),
-        20,
-        &WITH_BOX,
-    );
-    let plan = room(&rt, alloc, &[], &[screen]);
-    has_lines(
-        &rt,
-        &lines(&rt, alloc, &scene(&rt, alloc, &plan)),
-        13,
-        &WITH_SCREEN,
-    );
+    let empty = room(&rt, alloc, &[], &[]);
+    let boxed = room(&rt, alloc, &[(b'A', at(4, 4), at(6, 6))], &[]);
+    let screened = room(&rt, alloc, &[], &[(b'S', at(3, 4), at(7, 4))]);
+    is_empty_room(&rt, &lines_of(&rt, alloc, &empty));
+    is_room_with_box(&rt, &lines_of(&rt, alloc, &boxed));
+    is_room_with_screen(&rt, &lines_of(&rt, alloc, &screened));
+    equal_lines(&rt, alloc);
+}
 
-    // six pairs of corners have one line through two boxes of one height
-    let plan = room(
-        &rt,
-        alloc,
-        &[(b'A', at(2, 4), at(4, 6)), (b'B', at(6, 4), at(8, 6))],
-        &[],
-    );
-    let found = lines(&rt, alloc, &scene(&rt, alloc, &plan));
-    assert!(rt; between(&found, (0, 4), (10, 4)) == (1, (4, 5)));
+#[test]
+fn edits_have_the_lines_of_the_plan_after_them(rt: HostRuntime) {
+    let alloc = rt.alloc();
+    let boxed = room(&rt, alloc, &[(b'A', at(4, 4), at(6, 6))], &[]);
+    let screened = room(&rt, alloc, &[], &[(b'S', at(3, 4), at(7, 4))]);
+    is_empty_room(&rt, &after_removal(&rt, alloc, &boxed, b'A'));
+    is_empty_room(&rt, &after_screen_removal(&rt, alloc, &screened, b'S'));
+    box_added(&rt, alloc, &room(&rt, alloc, &[], &[]));
+    one_of_three_removed(&rt, alloc);
 }
 
 #[test]
 fn too_many_lines_are_refused(rt: HostRuntime) {
     let alloc = rt.alloc();
     let most = plan_of(&rt, alloc, curve(&rt, alloc, 181), &[], &[]);
-    assert!(rt; lines(&rt, alloc, &scene(&rt, alloc, &most)).len() == 16290);
+    assert!(rt; lines_of(&rt, alloc, &most).len() == 16290);
     let more = plan_of(&rt, alloc, curve(&rt, alloc, 182), &[], &[]);
     match all_lines(alloc, &scene(&rt, alloc, &more)) {
         Err(LinesFault::TooManyLines) => {}
         _ => panic!(rt; "there are 16471 lines"),
     }
-}
-
-/// The lines after an edit are those of the plan after it.
-fn are_all_lines(
-    rt: &impl Abort,
-    alloc: Global,
-    plan: &Plan,
-    edit: &Edit,
-    count: usize,
-    rows: &[Row],
-)
-    requires { HasShift edit.now }
-{
-    let (after, found) = updated(rt, alloc, plan, edit);
-    let expected = lines(rt, alloc, &after);
-    has_lines(rt, &found, count, rows);
-    assert!(rt; found.len() == expected.len());
-    for k in 0..found.len() {
-        let (l, m) = (&found[k], &expected[k]);
-        assert!(rt; l.first == m.first && l.second == m.second && l.from == m.from && l.to == m.to);
-    }
-}
-
-#[test]
-fn edits_have_the_lines_of_the_plan_after_them(rt: HostRuntime) {
-    let alloc = rt.alloc();
-    let middle = (b'A', at(4, 4), at(6, 6));
-    let empty = room(&rt, alloc, &[], &[]);
-    let points = box_points(&rt, alloc, middle.1, middle.2);
-    are_all_lines(
-        &rt,
-        alloc,
-        &empty,
-        &Edit::Add(name(&rt, b'A'), points),
-        20,
-        &WITH_BOX,
-    );
-    let boxed = room(&rt, alloc, &[middle], &[]);
-    are_all_lines(&rt, alloc, &boxed, &Edit::Remove(name(&rt, b'A')), 6, &ROOM);
-    let screened = room(&rt, alloc, &[], &[(b'S', at(3, 4), at(7, 4))]);
-    are_all_lines(
-        &rt,
-        alloc,
-        &screened,
-        &Edit::RemoveScreen(name(&rt, b'S')),
-        6,
-        &ROOM,
-    );
-
-    // lines that stay change their numbers, and those that were hidden come between them
-    let more = room(
-        &rt,
-        alloc,
-        &[middle, (b'B', at(7, 1), at(8, 2))],
-        &[(b'S', at(2, 7), at(3, 9))],
-    );
-    are_all_lines(&rt, alloc, &more, &Edit::Remove(name(&rt, b'A')), 32, &[]);
-    are_all_lines(&rt, alloc, &more, &Edit::Remove(name(&rt, b'B')), 29, &[]);
-    are_all_lines(
-        &rt,
-        alloc,
-        &more,
-        &Edit::RemoveScreen(name(&rt, b'S')),
-        39,
-        &[],
-    );
 }

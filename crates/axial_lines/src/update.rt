@@ -80,8 +80,8 @@ fn kept_and_fresh(
     Ok(all)
 }
 
-/// The lines after a removal: the old ones whose extent misses the box, and those between dirty corners whose extent meets
-/// it. Where nothing stops an end of a line between dirty corners, all lines are found anew.
+/// The lines after a removal: the old ones whose extent misses the box, and those between dirty corners whose extent
+/// meets it. Where nothing stops an end of a line between dirty corners, all lines are found anew.
 fn lines_after_removal(
     alloc: Global,
     area: PlanBox,
@@ -127,10 +127,10 @@ fn unchanged(alloc: Global, old: &[AxialLine]) -> Result<Vec<AxialLine>, LinesFa
 /// whose extent misses the box and asks the pairs of dirty corners alone; an edit without boxes, of a route, keeps all.
 /// After an addition or a move every corner is dirty, and all lines are found anew.
 ///
-/// `before` and `after` are the scenes of a plan and of that plan after an edit that it accepts, and `boxes` those of the
-/// edit, as `Plan::with` and `Plan::changed` give them.
+/// `before` and `after` are the scenes of a plan and of that plan after an edit that it accepts, and `boxes` those of
+/// the edit, as `Plan::with` and `Plan::changed` give them.
 ///
-/// `Err(TooManyLines)` exactly where there are more than [`MAX_AXIAL_LINES`], but for want of memory.
+/// But for want of memory, `Err(TooManyLines)` is answered exactly where there are more than [`MAX_AXIAL_LINES`].
 ///
 /// Cost: after a removal a pass over the old lines, one over the dirty lines for each corner, and twice sight and two
 /// stops for each pair of dirty corners.

@@ -1,4 +1,4 @@
-use Rattle.std.proofs.Common.{◌≡◌, ◌≤◌, ◌++◌, map, drop}
+use Rattle.std.proofs.Common.{◌≡◌, ◌++◌, map, drop}
 use Rattle.std.specs.List.{enumerate_from}
 use Rattle.sight_spec.specs.Axial.{here_of}
 use Rattle.axial_lines.proofs.corners.numbered_corners.Given as goal

@@ -1,4 +1,4 @@
-use Rattle.std.proofs.Common.{◌≡◌, ◌≤◌, ◌+◌, ◌-◌, ◌++◌, drop, length, ℕ}
+use Rattle.std.proofs.Common.{◌≡◌, ◌≤◌, ◌+◌, ◌-◌, ◌++◌, drop, length}
 use Rattle.list_laws.specs.Merged.{merged}
 use Rattle.line_laws.specs.Lines.{comes_before}
 use Rattle.axial_lines.proofs.kept.merge.Given as goal

@@ -5,4 +5,6 @@ use Rattle.axial_lines.specs.Removal.{is_stopped_if_seen}
 use Rattle.axial_lines.proofs.stopped.are_stopped.Given as goal
 
 abbrev pub invariant-loop-k : goal.invariant-loop-k
-invariant-loop-k l = list_all (is_stopped_if_seen l.scene) (pairs (drop l.k l.ends)) ≡ list_all (is_stopped_if_seen l.scene) (pairs l.ends)
+invariant-loop-k l =
+    list_all (is_stopped_if_seen l.scene) (pairs (drop l.k l.ends))
+    ≡ list_all (is_stopped_if_seen l.scene) (pairs l.ends)

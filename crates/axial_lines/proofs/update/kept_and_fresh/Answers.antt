@@ -1,4 +1,3 @@
-use Rattle.std.proofs.Common.{Some, None}
 use Rattle.line_laws.specs.Lines.{comes_before}
 use Rattle.axial_lines.proofs.Merging.{more_merged}
 use Rattle.axial_lines.proofs.update.kept_and_fresh.Goals as goal

@@ -9,7 +9,8 @@ returns-clause-lines c =
     subst (λ ls. IfOk c.kept_and_fresh.result (λ lines. lines.items ≡ ls))
     (removal_asked c.args.area c.args.before.now c.args.after.now c.args.old.now c.in-Ok.ends.items
     c.deref.result.now c.deref-2.result.now c.gap-gone.result.0 c.gap-gone.result.1 c.are_stopped.result
-    c.requires.edited c.requires.old_are (c.gap-gone.ensures c.args.area c.requires.edited) c.in-Ok.ensures.corners c.deref.ensures.value
+    c.requires.edited c.requires.old_are
+    (c.gap-gone.ensures c.args.area c.requires.edited) c.in-Ok.ensures.corners c.deref.ensures.value
     c.deref-2.ensures.value c.are_stopped.ensures c.if-not-are_stopped.false)
     c.kept_and_fresh.ensures.lines
 
@@ -18,6 +19,7 @@ returns-clause-too_many c =
     subst (λ ls. c.kept_and_fresh.result ≡ Err TooManyLines → MAX_AXIAL_LINES < length ls)
     (removal_asked c.args.area c.args.before.now c.args.after.now c.args.old.now c.in-Ok.ends.items
     c.deref.result.now c.deref-2.result.now c.gap-gone.result.0 c.gap-gone.result.1 c.are_stopped.result
-    c.requires.edited c.requires.old_are (c.gap-gone.ensures c.args.area c.requires.edited) c.in-Ok.ensures.corners c.deref.ensures.value
+    c.requires.edited c.requires.old_are
+    (c.gap-gone.ensures c.args.area c.requires.edited) c.in-Ok.ensures.corners c.deref.ensures.value
     c.deref-2.ensures.value c.are_stopped.ensures c.if-not-are_stopped.false)
     c.kept_and_fresh.ensures.too_many
