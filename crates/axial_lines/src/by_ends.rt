@@ -27,6 +27,7 @@ impl Model for ByEnds {
 }
 
 impl ByEnds {
+    /// The line itself.
     pub(crate) fn line(&self) -> AxialLine
         ensures { result ≡ self.now }
     {
@@ -57,6 +58,7 @@ impl Eq for ByEnds {
 
 // ---- the hash
 
+/// The bits with a number mixed in, by an exclusive or and a product with a prime (Fowler, Noll and Vo).
 fn mixed(bits: u64, n: u64) -> u64
     ensures { result ≡ found.mixed bits n }
 {
@@ -70,18 +72,21 @@ fn low_bits(z: i128) -> u64
     (z.unsigned_abs() % (1 << 64)) as u64
 }
 
+/// The bits with the parts of a fraction mixed in.
 fn with_parts(bits: u64, f: &Frac) -> u64
     ensures { result ≡ found.with_parts bits f.now }
 {
     mixed(mixed(bits, low_bits(f.num())), low_bits(f.den()))
 }
 
+/// Bits of an end.
 fn bits_of_end(p: &RPoint) -> u64
     ensures { result ≡ found.bits_of_end p.now }
 {
     with_parts(with_parts(0, &p.x), &p.y)
 }
 
+/// The square, without what overflows.
 fn squared(n: u64) -> u64
     ensures { result ≡ found.squared n }
 {

@@ -43,7 +43,7 @@ impl LineSet {
         }
     }
 
-    /// Adds the line where none of the others has its ends. On an error the lines are as before.
+    /// Adds the line where none of the others has its ends.
     ///
     /// Cost: one look-up by a hash of the ends.
     pub(crate) fn add(&mut self, line: AxialLine) -> Result<(), LinesFault>
