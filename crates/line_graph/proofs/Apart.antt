@@ -1,12 +1,11 @@
 -- Lines that meet have extents that share a point: whole numbers tell that one lies before the other, and then they
 -- don't meet.
-use Rattle.std.proofs.Common.{◌≡◌, refl, sym, ap, ◌∙◌, arith, ℕ, ◌<◌, ◌≤◌, ℤ, pos, neg_ℤ, ◌+ℤ◌, ◌<ℤ◌, ◌≤ℤ◌, Bool, true, false, min, max}
+use Rattle.std.proofs.Common.{◌≡◌, refl, ap, ◌∙◌, arith, ℕ, ◌<◌, ◌≤◌, ℤ, pos, neg_ℤ, ◌+ℤ◌, ◌<ℤ◌, ◌≤ℤ◌, Bool, true, false, min, max}
 use Rattle.std.specs.Prelude.{◌&&◌, ◌||◌, nat_le, int_lt, unsigned_abs, if◌then◌else◌}
-use Rattle.std.proofs.lemmas.Bool.{cases_Bool, leb-false, cases_lt}
+use Rattle.std.proofs.lemmas.Bool.{leb-false}
 use Rattle.std.proofs.lemmas.Int.{ints, by_lt_z}
 use Rattle.std.proofs.Common.{◌⊎◌, inl, inr}
 use lib.IntN.{negsuc}
-use Rattle.int_laws.proofs.Tests.{tested_less}
 use Rattle.plane_spec.specs.Fractions.{Fraction, RPoint, floor_of, ceil_of, is_before}
 use Rattle.plane_spec.specs.RPoints.{do_rsegments_touch, do_rpoints_cross, is_rpoint_on_segment, orient_of_rpoints}
 use Rattle.plane_spec.specs.Segments.{are_opposite}

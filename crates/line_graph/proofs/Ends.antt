@@ -1,13 +1,13 @@
 -- Where the ends of a line lie, and how large their parts are.
-use Rattle.std.proofs.Common.{◌≡◌, sym, ap, subst, arith, ℕ, ◌^◌, ◌*◌, ℤ, pos, neg_ℤ, ◌+ℤ◌, ◌-ℤ◌, ◌*ℤ◌, ◌≤ℤ◌, ◌<ℤ◌, ◌⊎◌, lit≤, refl, ◌∙◌, false}
+use Rattle.std.proofs.Common.{◌≡◌, sym, subst, arith, ℕ, ◌^◌, ◌*◌, ℤ, pos, neg_ℤ, ◌+ℤ◌, ◌-ℤ◌, ◌*ℤ◌, ◌≤ℤ◌, ◌<ℤ◌, ◌⊎◌, lit≤, refl, ◌∙◌, false}
 use Rattle.std.specs.Prelude.{Option, Some, None, unsigned_abs}
 use Rattle.std.proofs.lemmas.Int.{ints}
 use Rattle.std.proofs.Math.Nat.{div-le_self}
 use Rattle.plane_spec.specs.declared.Point.{Point}
-use Rattle.plane_spec.specs.Vectors.{InRange, IsDirected, IsDirection, IsWithin, point, same_point, vector}
-use Rattle.plane_spec.specs.Fractions.{Fraction, RPoint, reduced, divided, shifted, along, whole, whole_point}
+use Rattle.plane_spec.specs.Vectors.{InRange, IsDirection, IsWithin, same_point, vector}
+use Rattle.plane_spec.specs.Fractions.{Fraction, RPoint, reduced, divided, shifted, along, whole}
 use Rattle.sight_spec.specs.Scene.{Scene}
-use Rattle.sight_spec.specs.Axial.{AxialLine, end_by, end_beyond}
+use Rattle.sight_spec.specs.Axial.{AxialLine, end_by}
 use Rattle.sight_spec.specs.Dirty.{corner_point}
 use Rattle.sight_spec.specs.Stops.{stop_of}
 use Rattle.exact_geom.specs.Parts.{HasPartsWithin}

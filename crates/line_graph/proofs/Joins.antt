@@ -1,16 +1,17 @@
 -- The graph, row by row: of each row the pairs that are near are looked at, and those that meet are joined.
-use Rattle.std.proofs.Common.{◌≡◌, ◌≢◌, refl, sym, ap, ◌∙◌, subst, arith, ℕ, zero, suc, ◌+◌, ◌-◌, ◌<◌, ◌≤◌, Bool, true, false, cond, List, [], ◌∷◌, ◌++◌, length, map, take, get_or, inl, inr, ◌⊎◌, pos}
+use Rattle.std.proofs.Common.{◌≡◌, ◌≢◌, refl, sym, ap, ◌∙◌, subst, arith, ℕ, zero, suc, ◌+◌, ◌-◌, ◌<◌, ◌≤◌, Bool, true, false, List, [], ◌∷◌, ◌++◌, length, map, take, get_or, inl, inr, ◌⊎◌, pos}
 use Rattle.std.specs.Prelude.{All, ◌&&◌, ◌||◌, ◌==◌, not, nat_lt, filter, if◌then◌else◌}
-use Rattle.std.specs.List.{range_with_len, list_any}
+use Rattle.std.specs.List.{range_with_len}
 use Rattle.std.proofs.lemmas.Bool.{cases_Bool, cases_eq, cases_lt, eq-eqb, ne_eqb, lt-ltb, le-ltb}
 use Rattle.std.proofs.lemmas.List.{get_or-map, get_or_default, take_more, length-map}
-use Rattle.std.proofs.lemmas.List.Elements.{filter-append, All-get_or}
+use Rattle.std.proofs.lemmas.List.Elements.{filter-append, All-filter, All-get_or}
 use Rattle.std.proofs.lemmas.List.Folds.{list_any-append}
 use Rattle.graph_spec.specs.Graphs.{Graph, IsSimpleGraph}
+use Rattle.graph_laws.proofs.Agreeing.{all_in_range}
 use Rattle.graph_laws.proofs.SameGraphs.{same_simple_graphs}
 use Rattle.map_laws.proofs.SimpleGraphs.{crossing_graph_is_simple}
 use Rattle.sight_spec.specs.Scene.{Scene}
-use Rattle.sight_spec.specs.Axial.{AxialLine, IsLineOf, crossing_graph, do_meet, line_of_number, no_line}
+use Rattle.sight_spec.specs.Axial.{AxialLine, IsLineOf, crossing_graph, line_of_number, no_line}
 use Rattle.sight_core.specs.Scenes.{IsOfSoundPlan}
 use Rattle.vga_grid.specs.Rows.{is_pair}
 use Rattle.meet_laws.specs.Stretches.{Stretch}
@@ -91,65 +92,63 @@ front_more near after count j false front e f g =
 
 -- ---- which numbers are listed
 
+-- one more number in front
+listed_more : (test : ℕ → Bool) (a n b : ℕ)
+    → has_number (filter test (range_with_len (a + 1) n)) b ≡ ((not (nat_lt b (a + 1)) && nat_lt b (a + 1 + n)) && test b)
+    → has_number (filter test (range_with_len a (suc n))) b ≡ ((not (nat_lt b a) && nat_lt b (a + suc n)) && test b)
+listed_more test a n b rest = elim (cases_eq a b) [
+  | inl same ↦ with_here (test a) refl same
+  | inr apart ↦ with_there (test a) apart
+]
+  where
+    others : Bool
+    others = has_number (filter test (range_with_len (a + 1) n)) b
+
+    or_false : (t : Bool) → t || false ≡ t
+    or_false true = refl
+    or_false false = refl
+
+    here : (t : Bool) → test a ≡ t → a ≡ b
+        → (t || others) ≡ ((not (nat_lt b a) && nat_lt b (a + suc n)) && test b)
+    here t e same =
+        let past : others ≡ false = rest ∙ rw (lt-ltb b (a + 1) (omega (arith, same))) refl in
+        let tested : test b ≡ t = sym (ap test same) ∙ e in
+        rw (past, le-ltb b a (omega (arith, same)), lt-ltb b (a + suc n) (omega (arith, same)), tested) (or_false t)
+
+    same_end : a + 1 + n ≡ a + suc n
+    same_end = omega arith
+
+    same_low : a ≢ b → not (nat_lt b (a + 1)) ≡ not (nat_lt b a)
+    same_low apart = elim (cases_lt b a) [
+      | inl less ↦ rw (lt-ltb b a less, lt-ltb b (a + 1) (omega (arith, less))) refl
+      | inr more ↦ rw (le-ltb b a more, le-ltb b (a + 1) (omega (arith, more, apart))) refl
+    ]
+
+    there : a ≢ b → others ≡ ((not (nat_lt b a) && nat_lt b (a + suc n)) && test b)
+    there apart =
+        rest ∙ ap (λ t. (t && nat_lt b (a + 1 + n)) && test b) (same_low apart)
+        ∙ ap (λ (k : ℕ). (not (nat_lt b a) && nat_lt b k) && test b) same_end
+
+    with_here : (t : Bool) → test a ≡ t → a ≡ b
+        → has_number (if t then a ∷ filter test (range_with_len (a + 1) n) else filter test (range_with_len (a + 1) n)) b
+        ≡ ((not (nat_lt b a) && nat_lt b (a + suc n)) && test b)
+    with_here true e same = ap (λ t. t || others) (eq-eqb a b same) ∙ here true e same
+    with_here false e same = here false e same
+
+    with_there : (t : Bool) → a ≢ b
+        → has_number (if t then a ∷ filter test (range_with_len (a + 1) n) else filter test (range_with_len (a + 1) n)) b
+        ≡ ((not (nat_lt b a) && nat_lt b (a + suc n)) && test b)
+    with_there true apart = ap (λ t. t || others) (ne_eqb a b apart) ∙ there apart
+    with_there false apart = there apart
+
+-- a number is among those that pass if it is in the range and passes
 listed : (test : ℕ → Bool) (a n b : ℕ)
     → has_number (filter test (range_with_len a n)) b ≡ ((not (nat_lt b a) && nat_lt b (a + n)) && test b)
 listed test a zero b = elim (cases_lt b a) [
   | inl less ↦ rw (lt-ltb b a less) refl
-  | inr more ↦ rw (le-ltb b a more, le-ltb b (a + 0) (omega arith)) refl
+  | inr more ↦ rw (le-ltb b a more, le-ltb b (a + 0) (omega (arith, more))) refl
 ]
-listed test a (suc n) b = by (test a) refl
-  where
-    rest : has_number (filter test (range_with_len (a + 1) n)) b ≡ ((not (nat_lt b (a + 1)) && nat_lt b (a + 1 + n)) && test b)
-    rest = listed test (a + 1) n b
-
-    here : (t : Bool) → test a ≡ t → a ≡ b → (t || has_number (filter test (range_with_len (a + 1) n)) b)
-        ≡ ((not (nat_lt b a) && nat_lt b (a + suc n)) && test b)
-    here t e same =
-        let past : has_number (filter test (range_with_len (a + 1) n)) b ≡ false =
-        rest ∙ rw (lt-ltb b (a + 1) (omega (arith, same))) refl in
-        let tested : test b ≡ t = sym (ap test same) ∙ e in
-        rw (past, le-ltb b a (omega (arith, same)), lt-ltb b (a + suc n) (omega (arith, same)), tested) (or_false t)
-      where
-        or_false : (t : Bool) → t || false ≡ t
-        or_false true = refl
-        or_false false = refl
-
-    there : a ≢ b → has_number (filter test (range_with_len (a + 1) n)) b
-        ≡ ((not (nat_lt b a) && nat_lt b (a + suc n)) && test b)
-    there apart =
-        rest ∙ ap (λ t. (t && nat_lt b (a + 1 + n)) && test b) (same_low a b apart)
-        ∙ ap (λ k. (not (nat_lt b a) && nat_lt b k) && test b) (same_end a n)
-      where
-        same_end : (a n : ℕ) → a + 1 + n ≡ a + suc n
-        same_end a n = omega arith
-
-        same_low : (a b : ℕ) → a ≢ b → not (nat_lt b (a + 1)) ≡ not (nat_lt b a)
-        same_low a b apart = elim (cases_lt b a) [
-          | inl less ↦ rw (lt-ltb b a less, lt-ltb b (a + 1) (omega arith)) refl
-          | inr more ↦ rw (le-ltb b a more, le-ltb b (a + 1) (omega (arith, more, apart))) refl
-        ]
-
-    by : (t : Bool) → test a ≡ t
-        → has_number (if t then a ∷ filter test (range_with_len (a + 1) n) else filter test (range_with_len (a + 1) n)) b
-        ≡ ((not (nat_lt b a) && nat_lt b (a + suc n)) && test b)
-    by t e = elim (cases_eq a b) [
-      | inl same ↦ with_here t e same
-      | inr apart ↦ with_there t apart
-    ]
-      where
-        with_here : (t : Bool) → test a ≡ t → a ≡ b
-            → has_number (if t then a ∷ filter test (range_with_len (a + 1) n) else filter test (range_with_len (a + 1) n)) b
-            ≡ ((not (nat_lt b a) && nat_lt b (a + suc n)) && test b)
-        with_here true e same =
-            ap (λ t. t || has_number (filter test (range_with_len (a + 1) n)) b) (eq-eqb a b same) ∙ here true e same
-        with_here false e same = here false e same
-
-        with_there : (t : Bool) → a ≢ b
-            → has_number (if t then a ∷ filter test (range_with_len (a + 1) n) else filter test (range_with_len (a + 1) n)) b
-            ≡ ((not (nat_lt b a) && nat_lt b (a + suc n)) && test b)
-        with_there true apart =
-            ap (λ t. t || has_number (filter test (range_with_len (a + 1) n)) b) (ne_eqb a b apart) ∙ there apart
-        with_there false apart = there apart
+listed test a (suc n) b = listed_more test a n b (listed test (a + 1) n b)
 
 -- of the numbers after i, the near ones are listed
 pub near_listed : (extents : List Extent) (i n b : ℕ) → i < b → i < n
@@ -162,9 +161,23 @@ near_listed extents i n b above within =
     last : (i n : ℕ) → i < n → i + 1 + (n - (i + 1)) ≡ n
     last i n within = omega arith
 
+-- a number that is listed comes after i, and below the end
+record IsPast (i n k : ℕ) : Type 0 where
+  after : i < k
+  before : k < n
+
+pub near_past : (extents : List Extent) (i n m : ℕ) → i < n → m < length (near_below extents i n)
+    → (i < get_or (near_below extents i n) m 0) × (get_or (near_below extents i n) m 0 < n)
+near_past extents i n m within below =
+    let all = All-filter (are_near_at extents i) (IsPast i n) (range_with_len (i + 1) (n - (i + 1)))
+    (all_in_range (IsPast i n) (i + 1) (n - (i + 1))
+    (λ k low high. record { after = omega arith; before = omega (arith, high, within) })) in
+    let here = All-get_or (IsPast i n) (near_below extents i n) m 0 below all in
+    (here.after, here.before)
+
 -- ---- one more of a row
 
-has_more : (near : List ℕ) (m k b : ℕ) → m < length near → k ≡ get_or near m 0
+pub has_more : (near : List ℕ) (m k b : ℕ) → m < length near → k ≡ get_or near m 0
     → has_number (take (m + 1) near) b ≡ (has_number (take m near) b || (k == b))
 has_more near m k b below here =
     ap (λ xs. has_number xs b) (take_more near m 0 below ∙ ap (λ z. take m near ++ z ∷ []) (sym here))
@@ -246,8 +259,8 @@ near_first : (stretches : List Stretch) (lines : List AxialLine) → AreMeasured
 near_first stretches lines measured i j i_in j_in apart =
     apart_dont_meet (stretch_at i) (stretch_at j) (line_of_number lines i) (line_of_number lines j)
     (measured_at i i_in) (measured_at j j_in)
-    (sym (ap (λ e. are_near e (extent_of (line_of_number lines j))) (extent_at i i_in)
-    ∙ ap (are_near (extent_of (line_of_number lines i))) (extent_at j j_in))
+    (ap (λ e. are_near e (extent_of (line_of_number lines j))) (extent_at i i_in)
+    ∙ ap (are_near (get_or (map extent_of lines) i no_extent)) (extent_at j j_in)
     ∙ apart)
   where
     none : Stretch
@@ -279,12 +292,17 @@ pub row_done : (stretches : List Stretch) (lines : List AxialLine) → AreMeasur
 unfolding crossing_graph
 row_done stretches lines measured i a b up i_in = elim (cases_eq a i) [
   | inl here ↦
-      rw (le-ltb a i (omega (arith, here)), lt-ltb a (i + 1) (omega (arith, here)), eq-eqb a i here,
-      near_listed (map extent_of lines) i (length lines) b (omega (arith, here, up)) i_in,
-      lt-ltb a (length lines) (omega (arith, here, i_in)), ne_eqb a b (λ e. omega (arith, e, up)))
+      rw (
+        le-ltb a i (omega (arith, here)),
+        lt-ltb a (i + 1) (omega (arith, here)),
+        eq-eqb a i here,
+        near_listed (map extent_of lines) i (length lines) b (omega (arith, here, up)) i_in,
+        lt-ltb a (length lines) (omega (arith, here, i_in)),
+        ne_eqb a b (λ e. omega (arith, e, up)),
+      )
       (this_row here (cases_lt b (length lines)))
   | inr other ↦
-      rw (ne_eqb a i other) (other_row (same_below other))
+      rw (ne_eqb a i other) (other_row _ (nat_lt a i) (nat_lt a (i + 1)) (same_below other))
 ]
   where
     same_below : (a ≡ i → ⊥) → nat_lt a i ≡ nat_lt a (i + 1)
@@ -293,17 +311,17 @@ row_done stretches lines measured i a b up i_in = elim (cases_eq a i) [
       | inr more ↦ rw (le-ltb a i more, le-ltb a (i + 1) (omega (arith, more, other))) refl
     ]
 
-    other_row : {x y z : Bool} → y ≡ z → ((x && y) || false) ≡ (x && z)
-    other_row {x = true} {y = true} e = e
-    other_row {x = true} {y = false} e = e
-    other_row {x = false} e = refl
+    other_row : (x y z : Bool) → y ≡ z → ((x && y) || false) ≡ (x && z)
+    other_row true true z e = e
+    other_row true false z e = e
+    other_row false y z e = refl
 
     met : a ≡ i → do_meet_at lines a b ≡ do_meet_at lines i b
     met here = ap (λ (k : ℕ). do_meet_at lines k b) here
 
     both : (m near : Bool) → (near ≡ false → m ≡ false) → ((m && false) || (near && m)) ≡ (m && true)
     both true true h = refl
-    both true false h = h refl
+    both true false h = sym (h refl)
     both false true h = refl
     both false false h = refl
 
@@ -319,6 +337,10 @@ row_done stretches lines measured i a b up i_in = elim (cases_eq a i) [
 
 -- ---- the whole graph
 
+count_is : (lines : List AxialLine) → (crossing_graph lines).count ≡ length lines
+unfolding crossing_graph
+count_is lines = refl
+
 -- when all rows are done
 pub rows_ended : (lines : List AxialLine) (i a b : ℕ) → length lines ≤ i
     → ((crossing_graph lines).joins a b && nat_lt a i) ≡ (crossing_graph lines).joins a b
@@ -329,10 +351,6 @@ rows_ended lines i a b past = elim (cases_Bool ((crossing_graph lines).joins a b
       rw (joined, lt-ltb a i (omega (arith, below.0, past, nodes))) refl
   | inr apart ↦ rw apart refl
 ]
-  where
-    count_is : (lines : List AxialLine) → (crossing_graph lines).count ≡ length lines
-    unfolding crossing_graph
-    count_is lines = refl
 
 -- a simple graph that joins the pairs that meet, each with its smaller number first, is the crossing graph
 pub graph_is : (lines : List AxialLine) (graph : Graph) → IsSimpleGraph graph → graph.count ≡ length lines
@@ -341,10 +359,6 @@ graph_is lines graph simple nodes joins =
     same_simple_graphs graph (crossing_graph lines) simple (crossing_graph_is_simple lines)
     (record { count = nodes ∙ sym (count_is lines); joins = λ a b below_a below_b. same a b })
   where
-    count_is : (lines : List AxialLine) → (crossing_graph lines).count ≡ length lines
-    unfolding crossing_graph
-    count_is lines = refl
-
     same : (a b : ℕ) → graph.joins a b ≡ (crossing_graph lines).joins a b
     same a b = elim (cases_eq a b) [
       | inl e ↦

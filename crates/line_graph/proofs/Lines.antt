@@ -1,5 +1,5 @@
 -- Each line of a sound plan's scene leads through the corners of its two numbers.
-use Rattle.std.proofs.Common.{◌≡◌, ◌<◌, ◌≤◌, ◌-◌, ◌+◌, ℕ, Bool, true, false, not, ◌&&◌, List, [], ◌∷◌, length, map, refl, sym, ap, subst, arith, ◌∙◌}
+use Rattle.std.proofs.Common.{◌≡◌, ◌<◌, ◌+◌, ℕ, Bool, true, false, not, List, [], ◌∷◌, length, map, refl, sym, ap, subst, arith, ◌∙◌}
 use Rattle.std.specs.Prelude.{All, drop, filter, if◌then◌else◌}
 use Rattle.std.specs.List.{enumerate_from}
 use Rattle.std.proofs.lemmas.Bool.{and_parts}
@@ -10,7 +10,7 @@ use Rattle.list_laws.proofs.Numbers.{OfBoth, each_pair}
 use Rattle.plane_spec.specs.declared.Point.{Point}
 use Rattle.plane_spec.specs.declared.Corner.{Corner}
 use Rattle.plane_spec.specs.Lists.{pairs, numbered_pairs}
-use Rattle.plane_spec.specs.Vectors.{InRange, same_point, vector, point}
+use Rattle.plane_spec.specs.Vectors.{InRange, same_point}
 use Rattle.plane_spec.specs.Cones.{IsCornerInRange}
 use Rattle.sight_spec.specs.Scene.{Scene}
 use Rattle.sight_spec.specs.Sight.{are_in_sight, is_blocked}

@@ -1,13 +1,13 @@
 -- A line of a scene is the stretch of the line through its corners that its ends bound.
-use Rattle.std.proofs.Common.{◌≡◌, ◌≢◌, refl, sym, ap, subst, arith, ◌∙◌, Bool, true, false, ℤ, pos, neg_ℤ, ◌+ℤ◌, ◌-ℤ◌, ◌*ℤ◌, ◌≤ℤ◌, ◌<ℤ◌, ◌⊎◌, inl, inr}
+use Rattle.std.proofs.Common.{◌≡◌, ◌≢◌, refl, ap, arith, ◌∙◌, Bool, true, false, ℤ, pos, neg_ℤ, ◌+ℤ◌, ◌-ℤ◌, ◌*ℤ◌, ◌≤ℤ◌, ◌<ℤ◌, ◌⊎◌, inl, inr}
 use Rattle.std.specs.Prelude.{int_lt, if◌then◌else◌}
 use Rattle.std.specs.Ordering.{int_eq}
-use Rattle.std.proofs.lemmas.Int.{ints, by_lt_z}
+use Rattle.std.proofs.lemmas.Int.{ints}
 use Rattle.int_laws.proofs.Tests.{tested_equal, equal_tested, less_tested, not_less}
 use Rattle.int_laws.proofs.Signs.{positive_product, negative_product}
 use Rattle.plane_spec.specs.declared.Point.{Point}
-use Rattle.plane_spec.specs.Vectors.{IsDirected, vector, same_point, point}
-use Rattle.plane_spec.specs.Fractions.{Fraction, RPoint, fraction}
+use Rattle.plane_spec.specs.Vectors.{IsDirected, vector, same_point}
+use Rattle.plane_spec.specs.Fractions.{Fraction, RPoint}
 use Rattle.sight_spec.specs.Scene.{Scene}
 use Rattle.sight_spec.specs.Axial.{AxialLine}
 use Rattle.sight_core.specs.Scenes.{IsOfSoundPlan}
@@ -20,7 +20,7 @@ use Rattle.line_graph.specs.Bounds.{AreEndParts}
 use Rattle.line_graph.specs.Measured.{IsMeasured}
 use Rattle.line_graph.specs.Lines.{IsThroughCorners}
 use Rattle.line_graph.specs.Stretches.{parameter_in, parameter_of, stretch_between, stretch_of}
-use Rattle.line_graph.proofs.Ends.{first_of, second_of, IsBack, IsOn, back_of, on_of, in_order, from_small, to_small, ends_comparable}
+use Rattle.line_graph.proofs.Ends.{first_of, second_of, back_of, on_of, in_order, from_small, to_small, ends_comparable}
 
 -- ---- the parameter by one coordinate
 
@@ -82,7 +82,6 @@ other_some d h e = by (directed_parts d h)
     by : IsNonzero d.x ⊎ IsNonzero d.y → IsNonzero d.y
     by (inr s) = s
     by (inl s) = absurd (clash d.x s (tested_equal d.x (pos 0) e))
-
 
 pub parameter_is_at : (r : RPoint) (p d : Point) (n m : ℤ) → IsDirected d → AreEndParts r → IsAt r p d n m
     → IsAt r p d (parameter_of p d r).num (parameter_of p d r).den

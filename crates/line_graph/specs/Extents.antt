@@ -1,5 +1,5 @@
 -- Whole numbers between which a line lies, by which most pairs that don't meet are told.
-use Rattle.std.specs.Prelude.{ℕ, ℤ, pos, neg_ℤ, ◌+ℤ◌, nat_le, min, max, unsigned_abs, Bool, ◌&&◌, int_lt, if◌then◌else◌, List, slice_index_or}
+use Rattle.std.specs.Prelude.{ℕ, ℤ, neg_ℤ, ◌+ℤ◌, nat_le, min, max, unsigned_abs, Bool, ◌&&◌, int_lt, if◌then◌else◌}
 use Rattle.plane_spec.specs.Fractions.{Fraction, floor_of, ceil_of}
 use Rattle.sight_spec.specs.Axial.{AxialLine}
 use Rattle.line_graph.specs.declared.extents.Extent.{Extent}

@@ -1,5 +1,5 @@
 -- The lines that a line may meet, by their numbers, and what is known of a list of lines.
-use Rattle.std.specs.Prelude.{◌≡◌, ℕ, ◌+◌, ◌-◌, ◌<◌, ◌==◌, Bool, ◌&&◌, List, length, filter, slice_index_or}
+use Rattle.std.specs.Prelude.{◌≡◌, ℕ, ◌+◌, ◌-◌, ◌<◌, ◌==◌, Bool, List, length, filter, slice_index_or}
 use Rattle.std.specs.List.{range_with_len, list_any}
 use Rattle.sight_spec.specs.Axial.{AxialLine, do_meet, line_of_number}
 use Rattle.meet_laws.specs.Stretches.{Stretch}

@@ -1,15 +1,16 @@
 //! The graph over lines that joins those that meet.
 
-ghost use Rattle.std.specs.Prelude.{◌≡◌, ◌<◌, ◌≤◌, ◌&&◌, ◌||◌, ◌==◌, ℕ, All, IfOk, length, slice_index, take};
+ghost use Rattle.std.specs.Prelude.{◌≡◌, ◌<◌, ◌≤◌, ◌&&◌, ◌||◌, ◌==◌, ℕ, All, IfOk, length, map, slice_index, take, false};
 ghost use Rattle.graph_spec.specs.Graphs.{IsSimpleGraph};
 ghost use Rattle.plan_spec.specs.declared.limits.TheConstants.{MAX_AXIAL_LINES};
 ghost use Rattle.sight_spec.specs.Axial as axial;
 ghost use Rattle.sight_spec.specs.Axial.{IsLineOf};
 ghost use Rattle.vga_grid.specs.Rows.{graph_of, is_joined};
+ghost use Rattle.line_graph.specs.Extents.{extent_of};
 ghost use Rattle.line_graph.specs.Rows as rows;
 ghost use Rattle.line_graph.specs.Rows.{AreMeasured, has_number};
 
-use crate::extents::extents_of;
+use crate::extents::{Extent, extents_of};
 use crate::meeting::do_meet;
 use crate::near::gather;
 use crate::stretch::{Stretch, stretch_of};
@@ -68,13 +69,40 @@ fn join_row(
     }
 }
 
+/// Joins the lines that meet, row by row. `near` is room for the numbers of a row.
+fn join_rows(
+    graph: &mut BitGraph,
+    stretches: &[Stretch],
+    lines: &[AxialLine],
+    extents: &[Extent],
+    near: &mut [u32],
+)
+    requires measured { AreMeasured stretches.now lines.now }
+    requires few { length lines.now ≤ 16384 }
+    requires extents { extents.now ≡ map extent_of lines.now }
+    requires near { length near.old ≡ length lines.now }
+    requires nodes { graph.old.count ≡ length lines.now }
+    requires none { (a b : ℕ) → is_joined graph.old a b ≡ false }
+    requires simple { IsSimpleGraph (graph_of graph.old) }
+    ensures { graph_of graph.new ≡ axial.crossing_graph lines.now }
+{
+    for i in 0..lines.len() {
+        let count = gather(extents, i, near);
+        join_row(graph, stretches, lines, i, &near[..count]);
+    }
+}
+
 /// The graph over the lines' numbers that joins different lines that meet. All are lines of the scene.
 ///
 /// Cost: of n lines, n^2 / 2 comparisons of whole numbers, and one test of those pairs whose extents share a point.
 /// Memory: the graph's n^2 / 8 bytes and some 80 bytes a line.
 ///
 /// Source: the map of all axial lines after Penn and others (1997).
-pub fn crossing_graph(alloc: Global, scene: &Scene, lines: &[AxialLine]) -> Result<BitGraph, NoMemory>
+pub fn crossing_graph(
+    alloc: Global,
+    scene: &Scene,
+    lines: &[AxialLine],
+) -> Result<BitGraph, NoMemory>
     requires of_scene { All (IsLineOf scene.now) lines.now }
     requires at_most { length lines.now ≤ MAX_AXIAL_LINES }
     ensures { IfOk result (λ graph. graph_of graph ≡ axial.crossing_graph lines.now) }
@@ -83,9 +111,6 @@ pub fn crossing_graph(alloc: Global, scene: &Scene, lines: &[AxialLine]) -> Resu
     let extents = extents_of(alloc, lines)?;
     let mut near = vec![in alloc; 0u32; lines.len()]?;
     let mut graph = BitGraph::empty(alloc, lines.len() as u32)?;
-    for i in 0..lines.len() {
-        let count = gather(&extents, i, &mut near);
-        join_row(&mut graph, &stretches, lines, i, &near[..count]);
-    }
+    join_rows(&mut graph, &stretches, lines, &extents, &mut near);
     Ok(graph)
 }
