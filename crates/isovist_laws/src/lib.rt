@@ -1,0 +1,2 @@
+//! Laws of isovists.
+#![tactic(auto)]
