@@ -5,3 +5,5 @@ pub mod Gaps
 pub mod Places
 pub mod Directions
 pub mod Runs
+pub mod Meetings
+pub mod Areas

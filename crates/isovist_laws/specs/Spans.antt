@@ -2,6 +2,7 @@
 use Rattle.std.specs.Prelude.{◌≡◌, ◌≢◌, ◌<◌, ℤ, pos, ◌≤ℤ◌, ◌<ℤ◌, length, Bool, ◌&&◌, false}
 use Rattle.plane_spec.specs.declared.Point.{Point}
 use Rattle.plane_spec.specs.Vectors.{cross_of, vector, turns_left}
+use Rattle.plane_spec.specs.Fractions.{Fraction, floor_of, ceil_of}
 use Rattle.sight_spec.specs.Scene.{Scene, blockers_of_scene}
 use Rattle.sight_spec.specs.Isovist.{Run, blocker_at, meeting_with}
 
@@ -40,3 +41,10 @@ pub record IsMet (scene : Scene) (p : Point) (r : Run) : Type 0 where
   pub to_turned : cross_of r.to (vector (blocker_at (blockers_of_scene scene) r.wall).a (blocker_at (blockers_of_scene scene) r.wall).b) ≢ pos 0
   pub from_ahead : pos 0 <ℤ (meeting_with scene p r.from r.wall).num
   pub to_ahead : pos 0 <ℤ (meeting_with scene p r.to r.wall).num
+
+-- the floor and the ceiling of f are from 0 to `most`
+pub record HasRoundingWithin (most : ℤ) (f : Fraction) : Type 0 where
+  pub floor_low : pos 0 ≤ℤ floor_of f
+  pub floor_high : floor_of f ≤ℤ most
+  pub ceil_low : pos 0 ≤ℤ ceil_of f
+  pub ceil_high : ceil_of f ≤ℤ most
