@@ -20,6 +20,7 @@ use Rattle.plane_spec.specs.Vectors.{vector, point, same_point, cross_of, turns_
 use Rattle.exact_geom.proofs.Circle.{turns_one_way, turns_chain}
 use Rattle.sight_spec.specs.Scene.{Scene}
 use Rattle.sight_spec.specs.Isovist.{vector_to_corner, corner_directions}
+use Rattle.isovist_laws.specs.Vectors.{is_elsewhere, vectors_to_corners}
 use Rattle.isovist_laws.proofs.Firsts.{front, firsts_rise, holds_in_order, ties_in_firsts}
 use Rattle.isovist_laws.proofs.Places.{stands_at, HasCorner}
 
@@ -87,14 +88,6 @@ apart_by_vector p q some =
         none z = omega (arith, ints)
 
 -- ---- the vectors to corners
-
--- the corner isn't p
-abbrev pub is_elsewhere : Point → Corner → Bool
-is_elsewhere p c = not (same_point c.here p)
-
--- the vectors to the corners other than p
-abbrev pub vectors_to_corners : Scene → Point → List Point
-vectors_to_corners scene p = map (vector_to_corner p) (filter (is_elsewhere p) scene.corners)
 
 pub vectors_directed : (scene : Scene) (p : Point) → All IsDirected (vectors_to_corners scene p)
 vectors_directed scene p =

@@ -4,6 +4,6 @@ pub mod Between
 pub mod Gaps
 pub mod Places
 pub mod Directions
-pub mod Runs
+pub mod Spanning
 pub mod Meetings
 pub mod Areas

@@ -12,11 +12,15 @@ use Rattle.plane_spec.specs.declared.Point.{Point}
 use Rattle.plane_spec.specs.declared.Segment.{Segment}
 use Rattle.plane_spec.specs.Vectors.{vector, cross_of, turns_left}
 use Rattle.plane_spec.specs.Fractions.{Fraction, fraction}
-use Rattle.sight_spec.specs.Scene.{Scene, blockers_of_scene}
+use Rattle.sight_spec.specs.Scene.{Scene, scene_of, blockers_of_scene}
 use Rattle.sight_spec.specs.Stops.{wall_parameter}
-use Rattle.sight_spec.specs.Isovist.{Run, blocker_at, meeting_with}
+use Rattle.sight_spec.specs.Isovist.{Run, blocker_at, meeting_with, runs_of, sectors_of}
+use Rattle.plan_spec.specs.Plan.{Plan}
+use Rattle.std.specs.List.{All}
+use Rattle.std.proofs.lemmas.List.Elements.{All-weaker}
 use Rattle.exact_geom.proofs.Turns.{cross_of_exchanged}
 use Rattle.isovist_laws.specs.Spans.{Wedge, Spans, forth, back, IsSpanned, IsMet, lies_between}
+use Rattle.isovist_laws.proofs.Spanning.{runs_spanned}
 
 -- the fraction, over the positive one of a denominator and its opposite
 up_is : (num den : ℤ) → pos 0 <ℤ den → fraction num den ≡ record { num = num; den = den }
@@ -198,3 +202,9 @@ met scene p r s =
       from_ahead = subst (λ (h : Fraction). pos 0 <ℤ h.num) (sym m.first_is) m.positive;
       to_ahead = subst (λ (h : Fraction). pos 0 <ℤ h.num) (sym m.second_is) m.positive;
     }
+
+-- so it is in each run
+pub runs_met : (plan : Plan) (p : Point) → All (IsMet (scene_of plan) p) (runs_of (sectors_of (scene_of plan) p))
+runs_met plan p =
+    All-weaker (IsSpanned (scene_of plan) p) (IsMet (scene_of plan) p) (met (scene_of plan) p)
+    (runs_of (sectors_of (scene_of plan) p)) (runs_spanned plan p)
