@@ -1,2 +1,4 @@
 pub mod Steps
 pub mod Headings
+pub mod Gaps
+pub mod Sightings

@@ -24,21 +24,21 @@
 //! ```
 #![tactic(auto)]
 
-mod areas;
 mod directions;
 mod fault;
+mod gap;
+mod gaps;
 mod heading;
+mod meeting;
 mod parts;
+mod ray;
 mod rays;
 mod runs;
-mod seeing;
 mod sighted_run;
 mod totals;
 mod triangle;
-mod triangles;
 
 pub use fault::IsovistFault;
 pub use parts::{IsovistParts, types_are_shared};
-pub use seeing::{isovist, isovist_totals};
 pub use totals::IsovistTotals;
 pub use triangle::Triangle;
