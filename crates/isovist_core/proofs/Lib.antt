@@ -1,2 +1,4 @@
 pub mod Sorting
 pub mod Lists
+pub mod Ways
+pub mod Sectors

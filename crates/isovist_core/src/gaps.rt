@@ -3,11 +3,12 @@
 ghost use Rattle.std.specs.Prelude.{◌≡◌, ◌<◌, ◌+ℤ◌, length, IfOk, map, true};
 ghost use Rattle.sight_spec.specs.Isovist as isovists;
 ghost use Rattle.sight_spec.specs.Isovist.{gaps_of};
-ghost use Rattle.plane_spec.specs.Vectors.{IsWithin, turns_left};
+ghost use Rattle.plane_spec.specs.Vectors.{IsDirection, IsWithin, turns_left};
 ghost use Rattle.plane_spec.specs.declared.TheConstants.{MAX_COMPONENT};
 ghost use Rattle.exact_geom.specs.declared.limits.TheConstants.{MAX_DIFFERENCE};
+ghost use Rattle.isovist_core.specs.Steps.{IsStep};
 ghost use Rattle.isovist_core.specs.Headings.{step_of};
-ghost use Rattle.isovist_core.specs.Gaps.{next_of, pair_of, look_of, way_of};
+ghost use Rattle.isovist_core.specs.Gaps.{direction_at, next_of, pair_of, look_of, way_of};
 
 use crate::gap::Gap;
 use crate::heading::Heading;
@@ -29,16 +30,24 @@ fn next_heading(headings: &[Heading], k: usize) -> Heading
     }
 }
 
+/// The gap that begins at the `k`-th direction.
+fn gap_from(headings: &[Heading], k: usize) -> Gap
+    requires { k < length headings.now }
+    ensures { pair_of result ≡ (direction_at (map step_of headings.now) k, next_of (map step_of headings.now) k) }
+{
+    Gap {
+        from: headings[k],
+        to: next_heading(headings, k),
+    }
+}
+
 /// The gaps from each direction to the next, and from the last to the first.
 pub(crate) fn gaps_between(alloc: Global, headings: &[Heading]) -> Result<Vec<Gap>, NoMemory>
     ensures { IfOk result (λ gaps. map pair_of gaps.items ≡ gaps_of (map step_of headings.now)) }
 {
     let mut gaps = Vec::new(alloc);
     for k in 0..headings.len() {
-        gaps.push(Gap {
-            from: headings[k],
-            to: next_heading(headings, k),
-        })?;
+        gaps.push(gap_from(headings, k))?;
     }
     Ok(gaps)
 }
@@ -53,16 +62,26 @@ fn plus(a: i64, b: i64) -> i64
     a + b
 }
 
+/// The sum of two directions.
+fn sum_of(e: Point, f: Point) -> Point
+    requires e_in { IsStep e }
+    requires f_in { IsStep f }
+    ensures value { result ≡ isovists.sum_of e f }
+    ensures direction { IsDirection result }
+{
+    Point {
+        x: plus(e.x, f.x),
+        y: plus(e.y, f.y),
+    }
+}
+
 /// The ray in the direction of the sum of two directions, of which the second is left of the first.
 fn ray_between(gap: &Gap) -> Ray
     requires { turns_left gap.now.from.step gap.now.to.step ≡ true }
     ensures { result.way ≡ isovists.sum_of gap.now.from.step gap.now.to.step }
 {
     Ray {
-        way: Point {
-            x: plus(gap.from.step.x, gap.to.step.x),
-            y: plus(gap.from.step.y, gap.to.step.y),
-        },
+        way: sum_of(gap.from.step, gap.to.step),
     }
 }
 

@@ -1,7 +1,7 @@
 //! The runs of sectors, from what rays into the gaps meet.
 
-ghost use Rattle.std.specs.Prelude.{◌≡◌, length, IfOk, OnOk, map};
-ghost use Rattle.plane_spec.specs.Vectors.{InRange};
+ghost use Rattle.std.specs.Prelude.{◌≡◌, length, IfOk, OnOk, map, int_le, pos};
+ghost use Rattle.plane_spec.specs.Vectors.{InRange, cross_of};
 ghost use Rattle.sight_spec.specs.Isovist as isovists;
 ghost use Rattle.sight_spec.specs.Isovist.{runs_of, sectors_by, sectors_of};
 ghost use Rattle.sight_spec.specs.Stops.{RayHit};
@@ -32,11 +32,18 @@ fn stops_at_once(stop: Option<Frac>) -> bool
     }
 }
 
+/// Whether a gap is a half turn or more, or one direction round to itself.
+fn is_half_turn(gap: &Gap) -> bool
+    ensures { result ≡ int_le (cross_of gap.now.from.step gap.now.to.step) (pos 0) }
+{
+    !turns_left(gap.from.step, gap.to.step)
+}
+
 /// The wall or screen that is seen in a gap, by what the ray into it meets.
 fn wall_in(gap: &Gap, hit: &Meeting) -> Option<u32>
     ensures { result ≡ isovists.wall_by gap.now.from.step gap.now.to.step hit.now }
 {
-    if !turns_left(gap.from.step, gap.to.step) || stops_at_once(hit.stop) {
+    if is_half_turn(gap) || stops_at_once(hit.stop) {
         None
     } else {
         hit.wall
@@ -109,5 +116,6 @@ pub(crate) fn sighted_runs(alloc: Global, scene: &Scene, p: Point) -> Result<Vec
     let gaps = gaps_between(alloc, &headings)?;
     let rays = looks_into(alloc, &gaps)?;
     let hits = ray_hits(alloc, scene, p, &rays)?;
-    runs_by(alloc, &gaps, &hits)
+    let runs = runs_by(alloc, &gaps, &hits)?;
+    Ok(runs)
 }
