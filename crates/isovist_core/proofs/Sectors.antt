@@ -12,9 +12,12 @@ use Rattle.sight_spec.specs.Stops.{RayHit, ray_hit}
 use Rattle.sight_spec.specs.Isovist.{Sector, Run, run, sum_of, stops_at_once, wall_by, wall_between, sector_in, sector_by, sectors_by, sectors_of, gaps_of, corner_directions, runs_of}
 use Rattle.sight_spec.proofs.Runs.{ends_with, reaching_to, with_run, with_sector, runs_push}
 use Rattle.int_laws.proofs.Signs.{tested_positive}
+use Rattle.list_laws.proofs.Elements.{map_twice}
+use Rattle.isovist_core.specs.declared.heading.Heading.{Heading}
+use Rattle.isovist_core.specs.declared.ray.Ray.{Ray}
 use Rattle.isovist_core.specs.declared.gap.Gap.{Gap}
 use Rattle.isovist_core.specs.declared.sighted_run.SightedRun.{SightedRun}
-use Rattle.isovist_core.specs.Gaps.{pair_of, look_of}
+use Rattle.isovist_core.specs.Gaps.{pair_of, look_of, way_of}
 use Rattle.isovist_core.specs.Sightings.{run_of, is_wall, put_sector}
 
 -- the wall of the last sector, if there is one and it has one
@@ -113,7 +116,82 @@ rays_show scene p (gap ∷ gaps) = rw (look_shows scene p gap) (ap (λ r. sector
 
 -- ---- the last run reaches on
 
-pub reach_last : (runs : List SightedRun) (to : SightedRun) (d : SightedRun) → 0 < length runs
-    → run_of to ≡ run (get_or runs (length runs - 1) d).from.step to.to.step (get_or runs (length runs - 1) d).wall
-    → map run_of (set runs (length runs - 1) to) ≡ reaching_to to.to.step (map run_of runs)
-reach_last runs to d some is = ?
+reach_at : (x : SightedRun) (rest : List SightedRun) (r : SightedRun) (to : Heading) → r ≡ get_or (x ∷ rest) (length rest) r
+    → map run_of (set (x ∷ rest) (length rest) (record { from = r.from; to = to; wall = r.wall }))
+    ≡ reaching_to to.step (map run_of (x ∷ rest))
+reach_at x [] r to is = ap (λ (q : SightedRun). run q.from.step to.step q.wall ∷ []) is
+reach_at x (y ∷ rest) r to is = ap (λ t. run_of x ∷ t) (reach_at y rest r to is)
+
+pub reach_last : (runs : List SightedRun) (n : ℕ) (r : SightedRun) (to : Heading) → 0 < n → length runs ≡ n
+    → r ≡ get_or runs (n - 1) r
+    → map run_of (set runs (n - 1) (record { from = r.from; to = to; wall = r.wall }))
+    ≡ reaching_to to.step (map run_of runs)
+reach_last [] n r to some is at = absurd (omega arith)
+reach_last (x ∷ rest) n r to some is at =
+    let e : n - 1 ≡ length rest = omega arith in
+    rw e (reach_at x rest r to (subst (λ m. r ≡ get_or (x ∷ rest) m r) e at))
+
+pub reach_none : (runs : List SightedRun) (n : ℕ) (to : Heading) → n ≤ 0 → length runs ≡ n
+    → map run_of runs ≡ reaching_to to.step (map run_of runs)
+reach_none [] n to none is = refl
+reach_none (x ∷ rest) n to none is = absurd (omega arith)
+
+-- ---- the loop
+
+pub no_runs : runs_of [] ≡ []
+unfolding runs_of
+no_runs = refl
+
+module _ (gaps : List Gap) (hits : List RayHit) (same : length hits ≡ length gaps) (k : ℕ) (below : k < length gaps)
+    (g : Gap) (h : RayHit) (g_is : g ≡ get_or gaps k g) (h_is : h ≡ get_or hits k h) where
+  abbrev here : Sector
+  here = sector_by (pair_of g, h)
+
+  sector_is : get_or (sectors_in gaps hits) k here ≡ here
+  sector_is =
+      sector_at gaps hits k here g h same below
+      ∙ ap (λ (t : Gap). sector_by (pair_of t, get_or hits k h)) (sym g_is)
+      ∙ ap (λ t. sector_by (pair_of g, t)) (sym h_is)
+
+  in_sectors : k < length (sectors_in gaps hits)
+  in_sectors = rw (length_sectors gaps hits same) below
+
+  pub runs_step : runs_of (take (k + 1) (sectors_in gaps hits))
+      ≡ put_sector (last_wall (take k (sectors_in gaps hits))) (pair_of g) (wall_by g.from.step g.to.step h)
+      (runs_of (take k (sectors_in gaps hits)))
+  runs_step =
+      runs_more (sectors_in gaps hits) k here in_sectors
+      ∙ ap (λ (s : Sector). put_sector (last_wall (take k (sectors_in gaps hits))) (s.from, s.to) s.wall
+      (runs_of (take k (sectors_in gaps hits)))) sector_is
+
+  pub last_step : last_wall (take (k + 1) (sectors_in gaps hits)) ≡ wall_by g.from.step g.to.step h
+  last_step = last_more (sectors_in gaps hits) k here in_sectors ∙ ap (λ (s : Sector). s.wall) sector_is
+
+pub all_sectors : (gaps : List Gap) (hits : List RayHit) (k : ℕ) → length hits ≡ length gaps → length gaps ≤ k
+    → take k (sectors_in gaps hits) ≡ sectors_in gaps hits
+all_sectors gaps hits k same last =
+    take_all k (sectors_in gaps hits) (rw (length_sectors gaps hits same) last)
+
+-- ---- all together
+
+-- what the rays into the gaps meet
+pub hits_are : (scene : Scene) (p : Point) (gaps : List Gap) (rays : List Ray) (hits : List RayHit)
+    → map way_of rays ≡ map (λ gap. look_of (pair_of gap)) gaps → hits ≡ map (ray_hit scene p) (map way_of rays)
+    → hits ≡ map (ray_hit scene p) (map look_of (map pair_of gaps))
+hits_are scene p gaps rays hits looks met =
+    met ∙ ap (map (ray_hit scene p)) (looks ∙ sym (map_twice look_of pair_of gaps))
+
+pub as_many : (scene : Scene) (p : Point) (gaps : List Gap) (hits : List RayHit)
+    → hits ≡ map (ray_hit scene p) (map look_of (map pair_of gaps)) → length hits ≡ length gaps
+as_many scene p gaps hits is =
+    ap length is ∙ length-map (map look_of (map pair_of gaps)) (ray_hit scene p)
+    ∙ length-map (map pair_of gaps) look_of ∙ length-map gaps pair_of
+
+pub runs_are : (scene : Scene) (p : Point) (directions : List Point) (gaps : List Gap) (hits : List RayHit)
+    → directions ≡ corner_directions scene p → map pair_of gaps ≡ gaps_of directions
+    → hits ≡ map (ray_hit scene p) (map look_of (map pair_of gaps))
+    → runs_of (sectors_by (map pair_of gaps) hits) ≡ runs_of (sectors_of scene p)
+runs_are scene p directions gaps hits ds gs hs =
+    ap (λ t. runs_of (sectors_by (map pair_of gaps) t)) hs
+    ∙ ap runs_of (rays_show scene p (map pair_of gaps))
+    ∙ ap (λ t. runs_of (map (sector_in scene p) t)) (gs ∙ ap gaps_of ds)

@@ -2,3 +2,4 @@ pub mod Steps
 pub mod Headings
 pub mod Gaps
 pub mod Sightings
+pub mod Areas

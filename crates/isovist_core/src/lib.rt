@@ -24,6 +24,7 @@
 //! ```
 #![tactic(auto)]
 
+mod area;
 mod directions;
 mod fault;
 mod gap;

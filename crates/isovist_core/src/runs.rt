@@ -98,8 +98,9 @@ fn runs_by(alloc: Global, gaps: &[Gap], hits: &[Meeting]) -> Result<Vec<SightedR
     let mut runs = Vec::new(alloc);
     let mut before = None;
     for k in 0..gaps.len() {
-        let wall = wall_in(&gaps[k], &hits[k]);
-        put_sector(&mut runs, before, &gaps[k], wall)?;
+        let gap = gaps[k];
+        let wall = wall_in(&gap, &hits[k]);
+        put_sector(&mut runs, before, &gap, wall)?;
         before = wall;
     }
     Ok(runs)
