@@ -1,4 +1,5 @@
 pub mod Sorting
 pub mod Lists
-pub mod Ways
+pub mod Steps
 pub mod Sectors
+pub mod Rounded

@@ -3,3 +3,4 @@ pub mod Headings
 pub mod Gaps
 pub mod Sightings
 pub mod Areas
+pub mod Sums

@@ -1,7 +1,7 @@
 //! The doubled area of a triangle, not reduced.
 
 ghost use Rattle.std.specs.Prelude.{◌≡◌, neg_ℤ, ◌*ℤ◌, ◌≤ℤ◌, pos};
-ghost use Rattle.exact_geom.specs.Parts.{HasStopParts};
+ghost use Rattle.std.specs.Int.{int_div_euclid};
 ghost use Rattle.exact_geom.specs.declared.limits.TheConstants.{MAX_COORDINATE_PART, MAX_CROSS, MAX_FRACTION_PART, MAX_STOP_PART};
 ghost use Rattle.plane_spec.specs.Fractions as fractions;
 ghost use Rattle.plane_spec.specs.Vectors.{IsDirection, IsWithin, cross_of};
@@ -63,13 +63,26 @@ fn den_of(hit: &Hit) -> i128
     hit.den()
 }
 
+/// The product of two positive parts of hits.
+fn positive_product(a: i128, b: i128) -> i128
+    requires a_in { IsWithin MAX_STOP_PART a }
+    requires b_in { IsWithin MAX_STOP_PART b }
+    requires a_up { pos 1 ≤ℤ a }
+    requires b_up { pos 1 ≤ℤ b }
+    ensures value { result ≡ a *ℤ b }
+    ensures positive { pos 1 ≤ℤ result }
+    ensures within { IsWithin MAX_FRACTION_PART result }
+{
+    a * b
+}
+
 /// The product of the denominators of two hits.
 fn denominator(s: &Hit, t: &Hit) -> i128
     ensures value { result ≡ s.now.den *ℤ t.now.den }
     ensures positive { pos 1 ≤ℤ result }
     ensures within { IsWithin MAX_FRACTION_PART result }
 {
-    product(den_of(s), den_of(t))
+    positive_product(den_of(s), den_of(t))
 }
 
 /// The product of the numerators of two hits, and of the cross product of their directions.
@@ -80,6 +93,18 @@ fn numerator(e: Point, f: Point, s: &Hit, t: &Hit) -> i128
     ensures within { IsWithin MAX_FRACTION_PART result }
 {
     scaled(product(s.num(), t.num()), cross(e, f))
+}
+
+/// The least whole number that isn't below `num / den`. Nothing is negated, since the least value has no opposite.
+fn ceiling(num: i128, den: i128) -> i128
+    requires { pos 1 ≤ℤ den }
+    ensures { result ≡ neg_ℤ (int_div_euclid (neg_ℤ num) den) }
+{
+    if 0 < num {
+        (num - 1) / den + 1
+    } else {
+        num / den
+    }
 }
 
 impl Area {
@@ -115,6 +140,6 @@ impl Area {
     pub(crate) fn ceil(&self) -> i128
         ensures { result ≡ fractions.ceil_of self.now }
     {
-        -(-self.num).div_euclid(self.den)
+        ceiling(self.num, self.den)
     }
 }

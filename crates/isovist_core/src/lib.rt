@@ -36,8 +36,11 @@ mod ray;
 mod rays;
 mod runs;
 mod sighted_run;
+mod sums;
 mod totals;
 mod triangle;
+mod triangles;
+mod ways;
 
 pub use fault::IsovistFault;
 pub use parts::{IsovistParts, types_are_shared};

@@ -4,7 +4,7 @@
 #[derive(Clone, Copy, Debug, PartialEq, Eq)]
 pub struct IsovistTotals {
     /// How many triangles there are.
-    pub triangles: u32,
+    pub triangles: usize,
     /// The sum of the floors of their doubled areas, in the plan's own unit.
     pub floor: i128,
     /// The sum of the ceilings.

@@ -153,3 +153,22 @@ run_area_bounded scene p r s p_in w_in =
     (subst
     (λ h. HasRoundingWithin (pos 80000000000) (area_of r.from r.to (record { num = m.size; den = m.first_den }) h))
     (sym m.second_is) bounds)
+
+-- it stands over a positive denominator
+pub run_area_up : (scene : Scene) (p : Point) (r : Run) → IsSpanned scene p r
+    → pos 1 ≤ℤ ((meeting_with scene p r.from r.wall).den *ℤ (meeting_with scene p r.to r.wall).den)
+run_area_up scene p r s =
+    let m = meets p r.from r.to (blocker_at (blockers_of_scene scene) r.wall) s.spans in
+    let h = area_up p r.from r.to (blocker_at (blockers_of_scene scene) r.wall) m (turned p r.from r.to (blocker_at (blockers_of_scene scene) r.wall) s.spans).less_than_half in
+    subst (λ (t : Fraction). pos 1 ≤ℤ (t.den *ℤ (meeting_with scene p r.to r.wall).den)) (sym m.first_is)
+    (subst (λ (t : Fraction). pos 1 ≤ℤ (m.first_den *ℤ t.den)) (sym m.second_is) h)
+
+-- and so do both hits
+pub dens_up : (scene : Scene) (p : Point) (r : Run) → IsSpanned scene p r
+    → (pos 1 ≤ℤ (meeting_with scene p r.from r.wall).den) × (pos 1 ≤ℤ (meeting_with scene p r.to r.wall).den)
+dens_up scene p r s =
+    let m = meets p r.from r.to (blocker_at (blockers_of_scene scene) r.wall) s.spans in
+    (
+      subst (λ (t : Fraction). pos 1 ≤ℤ t.den) (sym m.first_is) (let h = m.first_positive in omega (arith, ints, h)),
+      subst (λ (t : Fraction). pos 1 ≤ℤ t.den) (sym m.second_is) (let h = m.second_positive in omega (arith, ints, h)),
+    )

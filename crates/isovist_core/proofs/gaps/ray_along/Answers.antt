@@ -1,4 +1,4 @@
-use Rattle.isovist_core.proofs.Ways.{step_is_direction}
+use Rattle.isovist_core.proofs.Steps.{step_is_direction}
 use Rattle.isovist_core.proofs.gaps.ray_along.Goals as goal
 
 pub invariant_of-result : goal.invariant_of-result

@@ -1,4 +1,4 @@
-use Rattle.isovist_core.proofs.Ways.{sum_directed}
+use Rattle.isovist_core.proofs.Steps.{sum_directed}
 use Rattle.isovist_core.proofs.gaps.ray_between.Goals as goal
 
 pub invariant_of-result : goal.invariant_of-result
