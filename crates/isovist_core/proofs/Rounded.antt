@@ -8,12 +8,15 @@ use Rattle.plane_spec.specs.Fractions.{Fraction, floor_of, ceil_of}
 use Rattle.plane_spec.specs.Segments.{IsSegmentInRange}
 use Rattle.plane_spec.specs.Vectors.{InRange, IsWithin}
 use Rattle.sight_spec.specs.Scene.{Scene, blockers_of_scene}
-use Rattle.sight_spec.specs.Isovist.{Triangle, triangle_of, blocker_at, no_segment, sum_of_floors, sum_of_ceilings}
+use Rattle.sight_spec.specs.Isovist.{Triangle, triangle_of, blocker_at, no_segment, sum_of_floors, sum_of_ceilings, runs_of, sectors_of, isovist_in, isovist_by}
 use Rattle.isovist_laws.specs.Spans.{IsSpanned, HasRoundingWithin}
 use Rattle.isovist_laws.proofs.Areas.{floor_reduced, ceil_reduced, run_area_up, run_area_bounded}
 use Rattle.isovist_core.specs.declared.sighted_run.SightedRun.{SightedRun}
 use Rattle.isovist_core.specs.Sightings.{run_of}
-use Rattle.isovist_core.specs.Sums.{area_of_run, triangle_of_run, MAX_AREA, MAX_SUM}
+use Rattle.isovist_core.specs.Sums.{area_of_run, triangle_of_run, IsOfPlan, MAX_AREA, MAX_SUM}
+use Rattle.std.specs.List.{All}
+use Rattle.list_laws.proofs.Elements.{before_map, map_twice}
+use Rattle.isovist_laws.proofs.Spanning.{runs_spanned}
 
 -- ---- walls and screens by number
 
@@ -89,6 +92,12 @@ pub record IsSumOf (k : ℕ) (z : ℤ) : Type 0 where
   pub low : neg_ℤ (pos (k * 80000000000)) ≤ℤ z
   pub high : z ≤ℤ pos (k * 80000000000)
 
+pub none_yet : (z : ℤ) → (pos 0 +ℤ z) ≡ z
+none_yet z = omega (arith, ints)
+
+pub sum_none : IsSumOf 0 (pos 0)
+sum_none = record { low = omega (arith, ints); high = omega (arith, ints) }
+
 pub sum_more : (k : ℕ) (z x : ℤ) → IsSumOf k z → IsWithin MAX_AREA x → IsSumOf (k + 1) (z +ℤ x)
 sum_more k z x s w =
     let a = s.low in let b = s.high in let c = w.low in let d = w.high in
@@ -131,3 +140,23 @@ ceils_end scene p runs k sum total h before =
     let none : ceils_from scene p runs k ≡ pos 0 =
       ap (λ t. sum_of_ceilings (map (triangle_of_run scene p) t)) (drop_all k runs h) in
     omega (arith, ints, none, before)
+
+-- ---- runs of a plan's scene
+
+pub all_spanned : (scene : Scene) (p : Point) (runs : List SightedRun) → IsOfPlan scene
+    → map run_of runs ≡ runs_of (sectors_of scene p) → All (λ r. IsSpanned scene p (run_of r)) runs
+all_spanned scene p runs of_plan is =
+    before_map (IsSpanned scene p) run_of runs
+    (subst (All (IsSpanned scene p)) (sym is)
+    (subst (λ s. All (IsSpanned s p) (runs_of (sectors_of s p))) (sym of_plan.seen) (runs_spanned of_plan.plan p)))
+
+-- the triangles of an isovist
+pub triangles_are : (scene : Scene) (p : Point) (runs : List SightedRun)
+    → map run_of runs ≡ runs_of (sectors_of scene p)
+    → map (triangle_of_run scene p) runs ≡ map (triangle_of scene p) (runs_of (sectors_of scene p))
+triangles_are scene p runs is = sym (map_twice (triangle_of scene p) run_of runs) ∙ ap (map (triangle_of scene p)) is
+
+pub isovist_is : (scene : Scene) (p : Point)
+    → isovist_in scene p ≡ isovist_by (map (triangle_of scene p) (runs_of (sectors_of scene p)))
+unfolding isovist_in
+isovist_is scene p = refl

@@ -1,5 +1,5 @@
 -- The triangles of runs, as the code holds these, and their sums.
-use Rattle.std.specs.Prelude.{ℤ, pos, ◌≡◌, ◌≤ℤ◌, ◌*ℤ◌, ℕ, length, List, map}
+use Rattle.std.specs.Prelude.{ℤ, pos, ◌≡◌, ◌≤ℤ◌, ◌*ℤ◌, ℕ, length, List, map, Option, Some, None}
 use Rattle.plane_spec.specs.declared.Point.{Point}
 use Rattle.plane_spec.specs.Fractions.{Fraction}
 use Rattle.sight_spec.specs.Scene.{Scene, scene_of}
@@ -43,3 +43,8 @@ pub record AreTotals (i : Isovist) (totals : IsovistTotals) : Type 0 where
   pub triangles : totals.triangles ≡ length i.triangles
   pub floor : totals.floor ≡ i.floor
   pub ceil : totals.ceil ≡ i.ceil
+
+-- there is an isovist, and these are its totals
+abbrev pub HasTotals : Option Isovist → IsovistTotals → Type 0
+HasTotals None totals = ⊥
+HasTotals (Some i) totals = AreTotals i totals

@@ -35,6 +35,7 @@ mod parts;
 mod ray;
 mod rays;
 mod runs;
+mod seeing;
 mod sighted_run;
 mod sums;
 mod totals;
@@ -44,5 +45,6 @@ mod ways;
 
 pub use fault::IsovistFault;
 pub use parts::{IsovistParts, types_are_shared};
+pub use seeing::{isovist, isovist_totals};
 pub use totals::IsovistTotals;
 pub use triangle::Triangle;
