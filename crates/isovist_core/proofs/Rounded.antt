@@ -7,13 +7,17 @@ use Rattle.plane_spec.specs.declared.Segment.{Segment}
 use Rattle.plane_spec.specs.Fractions.{Fraction, floor_of, ceil_of}
 use Rattle.plane_spec.specs.Segments.{IsSegmentInRange}
 use Rattle.plane_spec.specs.Vectors.{InRange, IsWithin}
-use Rattle.sight_spec.specs.Scene.{Scene, blockers_of_scene}
-use Rattle.sight_spec.specs.Isovist.{Triangle, triangle_of, blocker_at, no_segment, sum_of_floors, sum_of_ceilings, runs_of, sectors_of, isovist_in, isovist_by}
+use Rattle.sight_spec.specs.Scene.{Scene, scene_of, blockers_of_scene}
+use Rattle.sight_spec.specs.Isovist.{Triangle, triangle_of, blocker_at, no_segment, sum_of_floors, sum_of_ceilings, runs_of, sectors_of, isovist_in, isovist_by, isovist_of, Isovist}
 use Rattle.isovist_laws.specs.Spans.{IsSpanned, HasRoundingWithin}
 use Rattle.isovist_laws.proofs.Areas.{floor_reduced, ceil_reduced, run_area_up, run_area_bounded}
 use Rattle.isovist_core.specs.declared.sighted_run.SightedRun.{SightedRun}
 use Rattle.isovist_core.specs.Sightings.{run_of}
-use Rattle.isovist_core.specs.Sums.{area_of_run, triangle_of_run, IsOfPlan, MAX_AREA, MAX_SUM}
+use Rattle.isovist_core.specs.Sums.{area_of_run, triangle_of_run, IsOfPlan, AreSums, AreTotals, HasTotals, MAX_AREA, MAX_SUM}
+use Rattle.isovist_core.specs.declared.totals.IsovistTotals.{IsovistTotals}
+use Rattle.plan_spec.specs.Plan.{Plan}
+use Rattle.sight_spec.specs.Sight.{is_open}
+use Rattle.std.proofs.Common.{true, Some, Option}
 use Rattle.std.specs.List.{All}
 use Rattle.list_laws.proofs.Elements.{before_map, map_twice}
 use Rattle.isovist_laws.proofs.Spanning.{runs_spanned}
@@ -160,3 +164,37 @@ pub isovist_is : (scene : Scene) (p : Point)
     → isovist_in scene p ≡ isovist_by (map (triangle_of scene p) (runs_of (sectors_of scene p)))
 unfolding isovist_in
 isovist_is scene p = refl
+
+-- the isovist of these triangles and sums
+abbrev isovist : List Triangle → ℤ → ℤ → Isovist
+isovist triangles floor ceil = record { triangles = triangles; floor = floor; ceil = ceil }
+
+-- the triangles of the runs, with their sums, are the isovist
+pub whole : (scene : Scene) (p : Point) (runs : List SightedRun) (triangles : List Triangle) (sums : IsovistTotals)
+    → map run_of runs ≡ runs_of (sectors_of scene p) → triangles ≡ map (triangle_of_run scene p) runs
+    → AreSums (map (triangle_of_run scene p) runs) sums
+    → isovist triangles sums.floor sums.ceil ≡ isovist_in scene p
+whole scene p runs triangles sums runs_are triangles_are_these sums_are =
+    let seen = map (triangle_of_run scene p) runs in
+    ap (λ t. isovist t sums.floor sums.ceil) triangles_are_these
+    ∙ ap (λ z. isovist seen z sums.ceil) sums_are.floor ∙ ap (λ z. isovist seen (sum_of_floors seen) z) sums_are.ceil
+    ∙ ap isovist_by (triangles_are scene p runs runs_are) ∙ sym (isovist_is scene p)
+
+-- and its totals
+pub totals_are : (scene : Scene) (p : Point) (runs : List SightedRun) (sums : IsovistTotals)
+    → map run_of runs ≡ runs_of (sectors_of scene p) → AreSums (map (triangle_of_run scene p) runs) sums
+    → AreTotals (isovist_in scene p) sums
+totals_are scene p runs sums runs_are sums_are =
+    subst (λ i. AreTotals i sums)
+    (ap isovist_by (triangles_are scene p runs runs_are) ∙ sym (isovist_is scene p))
+    (record { triangles = sums_are.triangles; floor = sums_are.floor; ceil = sums_are.ceil })
+
+-- an open point has an isovist
+pub opened : (plan : Plan) (scene : Scene) (p : Point) (i : Isovist) → is_open plan p ≡ true → scene ≡ scene_of plan
+    → i ≡ isovist_in scene p → isovist_of plan p ≡ Some i
+opened plan scene p i open_is seen is = rw open_is (ap (λ t. Some t) (sym (is ∙ ap (λ s. isovist_in s p) seen)))
+
+pub opened_totals : (plan : Plan) (scene : Scene) (p : Point) (totals : IsovistTotals) → is_open plan p ≡ true
+    → scene ≡ scene_of plan → AreTotals (isovist_in scene p) totals → HasTotals (isovist_of plan p) totals
+opened_totals plan scene p totals open_is seen are =
+    rw open_is (subst (λ s. AreTotals (isovist_in s p) totals) seen are)

@@ -1,8 +1,10 @@
-use Rattle.isovist_core.proofs.Rounded.{all_spanned, triangles_are, isovist_is}
+use Rattle.std.proofs.Common.{map, subst}
+use Rattle.isovist_core.specs.Sums.{triangle_of_run, AreSums}
+use Rattle.isovist_core.proofs.Rounded.{all_spanned, totals_are}
 use Rattle.isovist_core.proofs.seeing.totals_in_scene.Goals as goal
 
-pub sums_of-requires : goal.sums_of-requires
-sums_of-requires c = record {
+pub sums_of-totals-requires : goal.sums_of-totals-requires
+sums_of-totals-requires c = record {
   p_in = c.requires.p_in;
   spanned =
       rw c.deref.ensures.value
@@ -10,4 +12,7 @@ sums_of-requires c = record {
 }
 
 pub returns : goal.returns
-returns c = ?
+returns c =
+    let seen = triangle_of_run c.args.scene.now c.args.p in
+    totals_are c.args.scene.now c.args.p c.in_ok-runs.runs.items c.sums_of-totals.result c.in_ok-runs.ensures
+    (subst (λ rs. AreSums (map seen rs) c.sums_of-totals.result) c.deref.ensures.value c.sums_of-totals.ensures)
