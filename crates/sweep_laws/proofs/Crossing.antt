@@ -1,0 +1,153 @@
+-- What crosses a segment, told by the first of the walls and screens that its direction spans.
+use Rattle.std.proofs.Common.{◌≡◌, ◌≢◌, ℤ, ℕ, zero, suc, ◌+◌, ◌<◌, ◌≤◌, pos, neg_ℤ, ◌+ℤ◌, ◌-ℤ◌, ◌*ℤ◌, ◌<ℤ◌, ◌≤ℤ◌, arith, ap, refl, sym, ◌∙◌, subst, List, [], ◌∷◌, ◌++◌, length, get_or, nat_lt}
+use Rattle.std.specs.Prelude.{Bool, true, false, cond, if◌then◌else◌, ◌&&◌, ◌||◌, not, map, int_lt, Option, Some, None}
+use Rattle.std.specs.Ordering.{int_eq}
+use Rattle.std.specs.List.{list_any}
+use Rattle.std.proofs.lemmas.Int.{ints, by_lt_z}
+use Rattle.plane_spec.specs.declared.Point.{Point}
+use Rattle.plane_spec.specs.declared.Segment.{Segment}
+use Rattle.plane_spec.specs.Vectors.{point, vector, cross_of}
+use Rattle.plane_spec.specs.Fractions.{Fraction, is_before}
+use Rattle.sight_spec.specs.Sight.{crosses, starts_into_wall}
+use Rattle.sweep_laws.specs.Order.{Seen, spans, hit_of, side_of, seen_of, crossed_where}
+use Rattle.sweep_laws.specs.Fronts.{seen_at, IsFront, IsBare}
+use Rattle.sweep_laws.proofs.Ring.{positive_product}
+use Rattle.sweep_laws.proofs.Ints.{nonneg_product, times_minus}
+use Rattle.sweep_laws.proofs.Fronts.{by_cases, turned, tested, both_of}
+use Rattle.sweep_laws.proofs.Views.{crosses_where}
+use Rattle.sweep_laws.proofs.Active.{den_up, by_lt}
+
+-- ---- some element of a list
+
+pub record Some_of {X : Type 0} (test : X → Bool) (xs : List X) (d : X) : Type 0 where
+  pub place : ℕ
+  pub within : place < length xs
+  pub holds : test (get_or xs place d) ≡ true
+
+pub any_at : {X : Type 0} (test : X → Bool) (xs : List X) (d : X) → Some_of test xs d → list_any test xs ≡ true
+any_at {X} test xs d s = at xs s.place s.within s.holds
+  where
+    at : (ys : List X) (k : ℕ) → k < length ys → test (get_or ys k d) ≡ true → list_any test ys ≡ true
+    at [] k lt h = absurd (omega arith)
+    at (y ∷ ys) zero lt h = ap (λ t. t || list_any test ys) h
+    at (y ∷ ys) (suc k) lt h = or_second (test y) (list_any test ys) (at ys k (omega arith) h)
+      where
+        or_second : (a b : Bool) → b ≡ true → (a || b) ≡ true
+        or_second true b h = refl
+        or_second false b h = h
+
+pub some_of : {X : Type 0} (test : X → Bool) (xs : List X) (d : X) → list_any test xs ≡ true → Some_of test xs d
+some_of test [] d h = absurd (grind arith)
+some_of {X} test (x ∷ xs) d h = by_cases (test x)
+    (λ k. record { place = 0; within = omega arith; holds = k })
+    (λ k. let rest = some_of test xs d (second (test x) (list_any test xs) k h) in record { place = suc rest.place; within = within_suc rest.place rest.within; holds = rest.holds })
+  where
+    second : (a b : Bool) → a ≡ false → (a || b) ≡ true → b ≡ true
+    second a b h k = grind arith
+    within_suc : (k : ℕ) → k < length xs → suc k < length (x ∷ xs)
+    within_suc k h = omega arith
+
+-- a test of a whole list, by its elements
+pub any_is : {X : Type 0} (test : X → Bool) (xs : List X) (d : X) (r : Bool) → (Some_of test xs d → r ≡ true) → (r ≡ true → Some_of test xs d) → list_any test xs ≡ r
+any_is test xs d r f g = iff_true (list_any test xs) r (λ h. f (some_of test xs d h)) (λ h. any_at test xs d (g h))
+  where
+    iff_true : (a b : Bool) → (a ≡ true → b ≡ true) → (b ≡ true → a ≡ true) → a ≡ b
+    iff_true true true f g = refl
+    iff_true true false f g = sym (f refl)
+    iff_true false true f g = g refl
+    iff_true false false f g = refl
+
+pub mapped_at : {X Y : Type 0} (f : X → Y) (xs : List X) (k : ℕ) (d : X) (e : Y) → k < length xs → get_or (map f xs) k e ≡ f (get_or xs k d)
+mapped_at f [] k d e lt = absurd (omega arith)
+mapped_at f (x ∷ xs) zero d e lt = refl
+mapped_at f (x ∷ xs) (suc k) d e lt = mapped_at f xs k d e (omega arith)
+
+pub nowhere : Segment
+nowhere = record { a = point (pos 0) (pos 0); b = point (pos 0) (pos 0) }
+
+-- ---- behind the first
+
+-- where the hit of w is reached before the end of d, the end is behind w
+side_is : (n to from : ℤ) (a b : ℤ) → a ≡ neg_ℤ to → n +ℤ a -ℤ b ≡ n -ℤ (to +ℤ b)
+side_is n to from a b h = omega (arith, ints, h)
+
+pub side_by_hit : (w : Seen) (d : Point) → side_of w d ≡ (hit_of d w).num -ℤ (hit_of d w).den
+side_by_hit w d = side_is (cross_of w.from w.to) (cross_of d w.to) (cross_of w.from d) (cross_of w.to d) (cross_of w.from d) (turned d w.to)
+
+-- a hit before one that isn't after 1 is before 1
+before_one : (a b c e : ℤ) → pos 0 <ℤ b → pos 0 <ℤ e → int_lt (a *ℤ e) (c *ℤ b) ≡ true → (c -ℤ e) ≤ℤ pos 0 → (a -ℤ b) <ℤ pos 0
+before_one a b c e b_up e_up h k = by_lt_z a b (λ low. omega (arith, ints, low))
+    (λ high. absurd (clash high))
+  where
+    clash : b ≤ℤ a → ⊥
+    clash high =
+        let p = nonneg_product (e -ℤ c) b (omega (arith, ints, k)) (omega (arith, ints, b_up)) in
+        let q = nonneg_product (a -ℤ b) e (omega (arith, ints, high)) (omega (arith, ints, e_up)) in
+        let x : (e -ℤ c) *ℤ b ≡ b *ℤ e -ℤ b *ℤ c = swap (e -ℤ c) b ∙ times_minus b e c in
+        let y : (a -ℤ b) *ℤ e ≡ e *ℤ a -ℤ e *ℤ b = swap (a -ℤ b) e ∙ times_minus e a b in
+        omega (arith, ints, p, q, x, y, h)
+      where
+        swap : (x y : ℤ) → x *ℤ y ≡ y *ℤ x
+        swap x y = omega (arith, ints)
+
+pub front_is_behind : (d : Point) (s t : Seen) → spans d s ≡ true → spans d t ≡ true → is_before (hit_of d s) (hit_of d t) ≡ true → side_of t d ≤ℤ pos 0 → side_of s d <ℤ pos 0
+front_is_behind d s t s_spans t_spans before behind =
+    subst (λ z. z <ℤ pos 0) (sym (side_by_hit s d))
+      (before_one (hit_of d s).num (hit_of d s).den (hit_of d t).num (hit_of d t).den (den_up d s s_spans) (den_up d t t_spans) before (subst (λ z. z ≤ℤ pos 0) (side_by_hit t d) behind))
+
+-- ---- proper crossings
+
+negative_test : (z : ℤ) → z <ℤ pos 0 → int_lt z (pos 0) ≡ true
+negative_test z h = grind (arith, ints)
+
+tested_negative : (z : ℤ) → int_lt z (pos 0) ≡ true → z <ℤ pos 0
+tested_negative z h = omega (arith, ints, h)
+
+weaker : (z : ℤ) → z <ℤ pos 0 → z ≤ℤ pos 0
+weaker z h = omega (arith, ints, h)
+
+pub record Crossed (d : Point) (o : Option Seen) : Type 0 where
+  pub seen : Seen
+  pub is : o ≡ Some seen
+  pub spanned : spans d seen ≡ true
+  pub behind : side_of seen d <ℤ pos 0
+
+crossed_of : (d : Point) (o : Option Seen) → crossed_where d o ≡ true → Crossed d o
+crossed_of d None h = absurd (grind arith)
+crossed_of d (Some s) h =
+    let two = both_of (spans d s) (int_lt (side_of s d) (pos 0)) h in
+    record { seen = s; is = refl; spanned = two.0; behind = tested_negative (side_of s d) two.1 }
+
+crosses_at : (p q : Point) (lines : List Segment) (k : ℕ) → k < length lines → crosses p q (get_or lines k nowhere) ≡ crossed_where (vector p q) (seen_at p lines k)
+crosses_at p q lines k within = crosses_where p q (get_or lines k nowhere) ∙ ap (crossed_where (vector p q)) (sym (mapped_at (seen_of p) lines k nowhere None within))
+
+pub by_same : {P : Type 0} (j k : ℕ) → (j ≡ k → P) → (j ≢ k → P) → P
+by_same j k f g = by_lt j k (λ lt. g (λ e. omega (arith, lt, e))) (λ le. by_lt k j (λ lt. g (λ e. omega (arith, lt, e))) (λ ge. f (omega (arith, le, ge))))
+
+pub some_same : {X : Type 0} (x y : X) → Some x ≡ Some y → x ≡ y
+some_same x y h = ap (λ o. elim o [ Some z ↦ z | None ↦ x ]) h
+
+-- a wall or screen is crossed exactly where the first one that is spanned is
+pub crossed_by_front : (p q : Point) (lines : List Segment) (k : ℕ) (s : Seen) → IsFront p (vector p q) lines k s
+    → list_any (crosses p q) lines ≡ int_lt (side_of s (vector p q)) (pos 0)
+crossed_by_front p q lines k s front =
+    any_is (crosses p q) lines nowhere (int_lt (side_of s (vector p q)) (pos 0))
+      (λ some. let d = vector p q in
+          let c = crossed_of d (seen_at p lines some.place) (sym (crosses_at p q lines some.place some.within) ∙ some.holds) in
+          negative_test _ (by_same some.place k
+            (λ e. subst (λ t. side_of t d <ℤ pos 0) (some_same c.seen s (sym c.is ∙ ap (seen_at p lines) e ∙ front.seen)) c.behind)
+            (λ n. front_is_behind d s c.seen front.spanned c.spanned (front.nearest some.place c.seen some.within n c.is c.spanned) (weaker _ c.behind))))
+      (λ h. record { place = k; within = front.within; holds = crosses_at p q lines k front.within ∙ ap (crossed_where (vector p q)) front.seen ∙ both (spans (vector p q) s) _ front.spanned h })
+  where
+    both : (a b : Bool) → a ≡ true → b ≡ true → (a && b) ≡ true
+    both a b h k = grind arith
+
+pub crossed_by_none : (p q : Point) (lines : List Segment) → IsBare p (vector p q) lines → list_any (crosses p q) lines ≡ false
+crossed_by_none p q lines bare =
+    any_is (crosses p q) lines nowhere false
+      (λ some. let c = crossed_of (vector p q) (seen_at p lines some.place) (sym (crosses_at p q lines some.place some.within) ∙ some.holds) in
+          absurd (clash (spans (vector p q) c.seen) c.spanned (bare.none some.place c.seen some.within c.is)))
+      (λ h. absurd (grind arith))
+  where
+    clash : (b : Bool) → b ≡ true → b ≡ false → ⊥
+    clash b h k = grind arith

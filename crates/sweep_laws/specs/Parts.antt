@@ -1,0 +1,72 @@
+-- What the sweep knows when it answers: the first blocker, the nearest corners, and what the station stands on.
+use Rattle.std.specs.Prelude.{ℤ, pos, ◌≡◌, ℕ, Bool, true, false, ◌&&◌, ◌||◌, not, int_lt, int_le, List, ◌++◌, Option, Some, None, if◌then◌else◌}
+use Rattle.std.specs.Ordering.{int_eq}
+use Rattle.std.specs.List.{list_any}
+use Rattle.plane_spec.specs.declared.Point.{Point}
+use Rattle.plane_spec.specs.declared.Segment.{Segment}
+use Rattle.plane_spec.specs.declared.Corner.{Corner}
+use Rattle.plane_spec.specs.Vectors.{vector, dot_of, turns_left}
+use Rattle.sight_spec.specs.Scene.{Scene, blockers_of_scene}
+use Rattle.sight_spec.specs.Sight.{is_in_interior}
+use Rattle.plane_spec.specs.Fractions.{Fraction, whole, is_before}
+use Rattle.sweep_laws.specs.Order.{Seen, side_of, hit_of}
+use Rattle.sweep_laws.specs.Fronts.{IsFront, IsBare}
+use Rattle.sweep_laws.specs.Groups.{is_own, is_ahead, is_behind, IsNearest}
+
+-- the first blocker that is spanned, with its number, or none
+abbrev pub IsFirst : Scene → Point → Point → Option (ℕ × Seen) → Type 0
+IsFirst scene p d None = IsBare p d (blockers_of_scene scene)
+IsFirst scene p d (Some first) = IsFront p d (blockers_of_scene scene) first.0 first.1
+
+-- the nearest corner of the direction that passes the test, or none
+abbrev pub IsNearestOrNone : Point → Point → (Corner → Bool) → List Corner → Option Point → Type 0
+IsNearestOrNone p d test corners None = list_any test corners ≡ false
+IsNearestOrNone p d test corners (Some v) = IsNearest p d test corners v
+
+-- the direction leads from the wall on which the station stands to the wall's left
+abbrev pub leaves_left : Point → Point → Segment → Bool
+leaves_left p d w = is_in_interior p w && turns_left (vector w.a w.b) d
+
+-- the direction leads from the station into what is blocked
+abbrev pub begins_blocked : Scene → Point → Point → Bool
+begins_blocked scene p d = list_any (leaves_left p d) scene.walls || list_any (is_own p d) scene.corners
+
+-- a point at d is hidden by the first blocker
+abbrev pub is_hidden : Bool → Point → Option Seen → Bool
+is_hidden hides d None = false
+is_hidden hides d (Some s) = int_lt (side_of s d) (pos 0) || (int_eq (side_of s d) (pos 0) && hides)
+
+abbrev pub is_nearer : Point → Option Point → Bool
+is_nearer d None = false
+is_nearer d (Some v) = int_lt (dot_of d v) (dot_of d d)
+
+abbrev pub is_up_to : Point → Option Point → Bool
+is_up_to d None = false
+is_up_to d (Some v) = int_le (dot_of d v) (dot_of d d)
+
+-- ---- how far a ray reaches
+
+-- the earlier of the two, the first where neither is
+abbrev pub nearer_hit : Option Fraction → Option Fraction → Option Fraction
+nearer_hit None hit = hit
+nearer_hit (Some best) None = Some best
+nearer_hit (Some best) (Some hit) = if is_before hit best then Some hit else Some best
+
+-- where the ray meets the first blocker
+abbrev pub line_stop : Point → Option Seen → Option Fraction
+line_stop d None = None
+line_stop d (Some s) = Some (hit_of d s)
+
+-- where it reaches the nearest corner ahead
+abbrev pub corner_stop : Point → Option Point → Option Fraction
+corner_stop d None = None
+corner_stop d (Some v) = Some (record { num = dot_of d v; den = dot_of d d })
+
+-- where it begins, if it begins blocked
+abbrev pub start_stop : Bool → Option Fraction
+start_stop begins = if begins then Some (whole (pos 0)) else None
+
+-- the first of all
+abbrev pub first_stop : Point → Option Seen → Option Point → Bool → Bool → Option Fraction
+first_stop d first ahead from_corner from_wall =
+    nearer_hit (line_stop d first) (nearer_hit (nearer_hit (corner_stop d ahead) (start_stop from_corner)) (start_stop from_wall))
