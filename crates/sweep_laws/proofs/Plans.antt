@@ -10,10 +10,12 @@ use Rattle.std.proofs.lemmas.List.{map-append}
 use Rattle.std.proofs.lemmas.List.Folds.{list_all-append, list_all-map}
 use Rattle.plane_spec.specs.declared.Point.{Point}
 use Rattle.plane_spec.specs.declared.Segment.{Segment}
+use Rattle.plane_spec.specs.declared.Orientation.{Orientation}
+use Rattle.plane_spec.specs.declared.Orientation.TheVariants.{Counterclockwise, Clockwise}
 use Rattle.plane_spec.specs.Lists.{numbered_pairs}
 use Rattle.plane_spec.specs.Vectors.{point, vector, cross_of, same_point, is_in_range}
 use Rattle.plane_spec.specs.Segments.{is_on_segment, do_touch}
-use Rattle.plane_spec.specs.Polygons.{edges_of, edges_touch, folds_back, may_be_edges, crosses_nowhere, has_repeat, borders_touch, is_inside}
+use Rattle.plane_spec.specs.Polygons.{edges_of, edges_touch, folds_back, may_be_edges, crosses_nowhere, is_simple, has_repeat, borders_touch, is_inside}
 use Rattle.plan_spec.specs.declared.item.Screen.{Screen}
 use Rattle.plan_spec.specs.Plan.{Obstacle, Plan}
 use Rattle.plan_spec.specs.Accepted.{each_two, is_polygon, lies_within, segment_lies_within, segment_meets_polygon, polygons_meet, obstacles_apart, screens_apart, touches_border, is_proper_segment, is_sound}
@@ -46,8 +48,8 @@ or_false true b h = absurd (grind arith)
 own_edges : (points : List Point) → is_polygon points ≡ true → each_two stands (edges_of points) ≡ true
 unfolding crosses_nowhere
 own_edges points h =
-    let a = and_parts (nat_le 3 (length points)) (list_all is_in_range points && (not (has_repeat points) && crosses_nowhere points)) h in
-    let b = and_parts (list_all is_in_range points) (not (has_repeat points) && crosses_nowhere points) a.1 in
+    let a = and_parts (list_all is_in_range points) (is_simple points) h in
+    let b = and_parts (nat_le 3 (length points)) (not (has_repeat points) && crosses_nowhere points) a.1 in
     let c = and_parts (not (has_repeat points)) (crosses_nowhere points) b.1 in
     polygon_stands (length points) points refl c.1
 
@@ -180,7 +182,7 @@ round_by : (p : Point) (b : Bool) (es : List Segment) → map (seen_of p) (cond 
 round_by p true es = refl
 round_by p false es = all_turned p es
 
-round_seen : (p : Point) (way : Bool) (points : List Point) → map (seen_of p) (oriented_walls way points) ≡ map (seen_of p) (edges_of points)
+round_seen : (p : Point) (way : Orientation) (points : List Point) → map (seen_of p) (oriented_walls way points) ≡ map (seen_of p) (edges_of points)
 unfolding oriented_walls
 round_seen p way points = round_by p (has_orientation way points) (edges_of points)
 
@@ -188,17 +190,17 @@ obstacles_seen : (p : Point) (os : List Obstacle) → map (seen_of p) (flat_map 
 obstacles_seen p [] = refl
 obstacles_seen p (o ∷ os) =
     map-append (seen_of p) (walls_of_obstacle o) (flat_map walls_of_obstacle os)
-    ∙ ap (λ t. t ++ map (seen_of p) (flat_map walls_of_obstacle os)) (round_seen p true o.points)
+    ∙ ap (λ t. t ++ map (seen_of p) (flat_map walls_of_obstacle os)) (round_seen p Counterclockwise o.points)
     ∙ ap (λ t. map (seen_of p) (edges_of_obstacle o) ++ t) (obstacles_seen p os)
     ∙ sym (map-append (seen_of p) (edges_of_obstacle o) (flat_map edges_of_obstacle os))
 
 pub plan_seen : (p : Point) (plan : Plan) → map (seen_of p) (blockers_of_scene (scene_of plan)) ≡ map (seen_of p) (edges_of_plan plan)
 plan_seen p plan =
     let screens = map segment_of_screen plan.screens in
-    map-append (seen_of p) (oriented_walls false plan.outer ++ flat_map walls_of_obstacle plan.obstacles) screens
+    map-append (seen_of p) (oriented_walls Clockwise plan.outer ++ flat_map walls_of_obstacle plan.obstacles) screens
     ∙ ap (λ t. t ++ map (seen_of p) screens)
-        (map-append (seen_of p) (oriented_walls false plan.outer) (flat_map walls_of_obstacle plan.obstacles)
-        ∙ ap (λ t. t ++ map (seen_of p) (flat_map walls_of_obstacle plan.obstacles)) (round_seen p false plan.outer)
+        (map-append (seen_of p) (oriented_walls Clockwise plan.outer) (flat_map walls_of_obstacle plan.obstacles)
+        ∙ ap (λ t. t ++ map (seen_of p) (flat_map walls_of_obstacle plan.obstacles)) (round_seen p Clockwise plan.outer)
         ∙ ap (λ t. map (seen_of p) (edges_of plan.outer) ++ t) (obstacles_seen p plan.obstacles)
         ∙ sym (map-append (seen_of p) (edges_of plan.outer) (flat_map edges_of_obstacle plan.obstacles)))
     ∙ sym (map-append (seen_of p) (edges_of plan.outer ++ flat_map edges_of_obstacle plan.obstacles) screens)
