@@ -14,12 +14,11 @@ use Rattle.list_laws.proofs.Tests.{list_any_or, list_any_agree}
 use Rattle.sweep_laws.specs.Groups.{back_of, stands_in, is_own, is_ahead, is_behind, no_corner, IsNearest}
 use Rattle.sweep_laws.proofs.Ints.{minus_times, times_less, times_minus}
 use Rattle.sweep_laws.proofs.Fronts.{by_cases, both_of}
-use Rattle.sweep_laws.proofs.After.{AreOneWay}
-use Rattle.sweep_laws.proofs.Corners.{Onward, onward_of, stops_along}
+use Rattle.sweep_laws.proofs.Corners.{onward_of, stops_along}
 use Rattle.sweep_laws.proofs.Reach.{reaches}
 use Rattle.sweep_laws.proofs.Standing.{segment_turned, twin_ends}
 use Rattle.sweep_laws.proofs.Plans.{points_same}
-use Rattle.sweep_laws.proofs.Crossing.{Some_of, any_is}
+use Rattle.sweep_laws.proofs.Crossing.{any_is}
 
 iff_true : (a b : Bool) → (a ≡ true → b ≡ true) → (b ≡ true → a ≡ true) → a ≡ b
 iff_true true true f g = refl

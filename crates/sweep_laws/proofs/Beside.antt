@@ -41,12 +41,6 @@ beside_each f xs (o ∷ os) h =
     let parts = and_parts (stand_beside xs (f o)) (list_all (λ q. stand_beside xs (f q)) os) h in
     beside_join xs (f o) (flat_map f os) parts.0 (beside_each f xs os parts.1)
 
-pub each_beside : {X : Type 0} (f : X → List Segment) (ys : List Segment) (os : List X) → list_all (λ o. stand_beside (f o) ys) os ≡ true → stand_beside (flat_map f os) ys ≡ true
-each_beside f ys [] h = refl
-each_beside f ys (o ∷ os) h =
-    let parts = and_parts (stand_beside (f o) ys) (list_all (λ q. stand_beside (f q) ys) os) h in
-    beside_join_first (f o) (flat_map f os) ys parts.0 (each_beside f ys os parts.1)
-
 pub each_two_join : (xs ys : List Segment) → each_two stands xs ≡ true → each_two stands ys ≡ true → stand_beside xs ys ≡ true → each_two stands (xs ++ ys) ≡ true
 each_two_join [] ys h k b = k
 each_two_join (e ∷ xs) ys h k b =
@@ -62,18 +56,6 @@ each_two_each f (o ∷ os) h k =
     let own = and_parts (each_two stands (f o)) (list_all (λ q. each_two stands (f q)) os) h in
     let rest = and_parts (list_all (λ q. stand_beside (f o) (f q)) os) (each_two (λ q r. stand_beside (f q) (f r)) os) (sym (each_two_cons (λ q r. stand_beside (f q) (f r)) o os) ∙ k) in
     each_two_join (f o) (flat_map f os) own.0 (each_two_each f os own.1 rest.1) (beside_each f (f o) os rest.0)
-
--- asked from the other side
-all_swapped : {X Y : Type 0} (r : X → Y → Bool) (x : X) (xs : List X) (ys : List Y) → list_all (r x) ys ≡ true → list_all (λ y. list_all (λ z. r z y) xs) ys ≡ true → list_all (λ y. list_all (λ z. r z y) (x ∷ xs)) ys ≡ true
-all_swapped r x xs [] h k = refl
-all_swapped r x xs (y ∷ ys) h k =
-    let first = and_parts (r x y) (list_all (r x) ys) h in
-    let second = and_parts (list_all (λ z. r z y) xs) (list_all (λ y. list_all (λ z. r z y) xs) ys) k in
-    and_from (r x y && list_all (λ z. r z y) xs) _ (and_from (r x y) (list_all (λ z. r z y) xs) first.0 second.0) (all_swapped r x xs ys first.1 second.1)
-
-nothing_asked : {Y : Type 0} (ys : List Y) → list_all (λ y. true) ys ≡ true
-nothing_asked [] = refl
-nothing_asked (y ∷ ys) = nothing_asked ys
 
 pub beside_by_columns : (xs ys : List Segment) → list_all (λ f. list_all (λ e. stands e f) xs) ys ≡ true → stand_beside xs ys ≡ true
 beside_by_columns [] ys h = refl

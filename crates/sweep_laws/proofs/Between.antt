@@ -9,8 +9,7 @@ use Rattle.plane_spec.specs.Vectors.{vector, cross_of, orient_of, same_point}
 use Rattle.plane_spec.specs.Segments.{is_between, is_on_segment}
 use Rattle.plane_spec.specs.Polygons.{is_on_edge}
 use Rattle.sight_spec.specs.Sight.{starts_into_wall}
-use Rattle.sweep_laws.specs.Order.{Seen, spans, side_of}
-use Rattle.sweep_laws.proofs.Ring.{diff, is_diff, same_diff, sum_diff, minus_diff, product_diff, positive_product, positive_factor, not_positive_product}
+use Rattle.sweep_laws.proofs.Ring.{diff, is_diff, same_diff, sum_diff, minus_diff, product_diff, positive_product, positive_factor}
 use Rattle.sweep_laws.proofs.Ints.{times_sum, times_minus, nonneg_product, minus_times, times_less}
 use Rattle.sweep_laws.proofs.Fronts.{by_cases, turned, tested, both_of, four_of}
 use Rattle.sweep_laws.proofs.Views.{orient_is_side, orient_is_cross}

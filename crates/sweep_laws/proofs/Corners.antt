@@ -11,7 +11,7 @@ use Rattle.plane_spec.specs.Cones.{is_in_cone}
 use Rattle.sight_spec.specs.Sight.{corner_stops}
 use Rattle.sweep_laws.proofs.Ring.{positive_product}
 use Rattle.sweep_laws.proofs.Ints.{times_minus, nonneg_product, minus_times, times_less}
-use Rattle.sweep_laws.proofs.Fronts.{by_cases, turned, both_of}
+use Rattle.sweep_laws.proofs.Fronts.{by_cases, both_of}
 use Rattle.sweep_laws.proofs.After.{AreOneWay, self_of, same_cone}
 
 -- from m on towards e is the way from s to e

@@ -11,9 +11,8 @@ use Rattle.plane_spec.specs.Fractions.{Fraction, is_before}
 use Rattle.sight_spec.specs.Sight.{crosses, starts_into_wall}
 use Rattle.sweep_laws.specs.Order.{Seen, spans, hit_of, side_of, seen_of, crossed_where}
 use Rattle.sweep_laws.specs.Fronts.{seen_at, IsFront, IsBare}
-use Rattle.sweep_laws.proofs.Ring.{positive_product}
 use Rattle.sweep_laws.proofs.Ints.{nonneg_product, times_minus}
-use Rattle.sweep_laws.proofs.Fronts.{by_cases, turned, tested, both_of}
+use Rattle.sweep_laws.proofs.Fronts.{by_cases, turned, both_of}
 use Rattle.sweep_laws.proofs.Views.{crosses_where}
 use Rattle.sweep_laws.proofs.Active.{den_up, by_lt}
 

@@ -8,12 +8,11 @@ use Rattle.plane_spec.specs.declared.Point.{Point}
 use Rattle.plane_spec.specs.declared.Segment.{Segment}
 use Rattle.plane_spec.specs.Vectors.{point, vector, cross_of}
 use Rattle.sight_spec.specs.Sight.{crosses, starts_into_wall}
-use Rattle.sweep_laws.specs.Order.{Seen, spans, hit_of, side_of, seen_of}
+use Rattle.sweep_laws.specs.Order.{Seen, spans, side_of, seen_of}
 use Rattle.sweep_laws.specs.Fronts.{seen_at, IsFront, IsBare}
-use Rattle.sweep_laws.proofs.Fronts.{by_cases, tested, both_of}
-use Rattle.sweep_laws.proofs.Circle.{is_left_test}
+use Rattle.sweep_laws.proofs.Fronts.{by_cases, both_of}
 use Rattle.sweep_laws.proofs.Between.{faces_where, leaves_where}
-use Rattle.sweep_laws.proofs.Crossing.{Some_of, any_is, mapped_at, nowhere, by_same, some_same, front_is_behind, crossed_by_front, crossed_by_none}
+use Rattle.sweep_laws.proofs.Crossing.{any_is, mapped_at, nowhere, by_same, some_same, front_is_behind, crossed_by_front, crossed_by_none}
 
 -- the wall of the number has the station on its left
 abbrev pub has_on_left : Point → Segment → Bool

@@ -15,7 +15,7 @@ use Rattle.sweep_laws.specs.Parts.{IsFirst}
 use Rattle.sweep_laws.proofs.Fronts.{front_is_before}
 use Rattle.sweep_laws.proofs.Active.{by_lt}
 use Rattle.sweep_laws.proofs.Plans.{lines_apart}
-use Rattle.sweep_laws.proofs.Crossing.{Some_of, some_of, any_at, some_same}
+use Rattle.sweep_laws.proofs.Crossing.{some_of, some_same}
 
 -- a blocker of the list: its number, and how it is seen
 abbrev pub Listed : Type 0

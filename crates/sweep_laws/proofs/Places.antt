@@ -6,10 +6,9 @@ use Rattle.std.proofs.lemmas.Int.{ints, by_lt_z}
 use Rattle.std.proofs.lemmas.Nat.{le-div, div_below}
 use Rattle.plane_spec.specs.declared.Point.{Point}
 use Rattle.plane_spec.specs.Vectors.{point, cross_of, same_point, IsWithin, IsDirection, IsDirected, is_upper, turns_left, turns_by, turns_before}
-use Rattle.sweep_laws.specs.Places.{parts, part_of, place_of}
+use Rattle.sweep_laws.specs.Places.{part_of, place_of}
 use Rattle.sweep_laws.proofs.Ints.{minus_times, times_less}
 use Rattle.sweep_laws.proofs.Active.{by_lt}
-use Rattle.sweep_laws.proofs.Fronts.{by_cases}
 
 yes : (m n : ℕ) → m < n → nat_lt m n ≡ true
 yes m n h = grind arith
@@ -281,9 +280,6 @@ tells_by d e u v l x y hu hv hl hx hy h =
 
 shifted : (q m n : ℕ) → nat_lt (q + m) (q + n) ≡ nat_lt m n
 shifted q m n = by_lt m n (λ lt. yes (q + m) (q + n) (omega (arith, lt)) ∙ sym (yes m n lt)) (λ le. no (q + m) (q + n) (omega (arith, le)) ∙ sym (no m n le))
-
-same_quarter : (a b c e : ℕ) (l : Bool) → Sizes a b → Sizes c e → l ≡ nat_lt (b * c) (e * a) → l ≡ nat_lt (part_of a b) (part_of c e)
-same_quarter a b c e l h k j = j ∙ sym (part_tells a b c e h k)
 
 tells : (d e : Point) → Quarter d → Quarter e → turns_before d e ≡ nat_lt (place_of d) (place_of e)
 tells d e (first a b s h k) (first c f t i j) =

@@ -26,7 +26,7 @@ use Rattle.plan_laws.proofs.Parts.{SoundParts, parts_of_sound, ObstacleParts, pa
 use Rattle.sweep_laws.specs.Order.{Seen, spans, seen_of}
 use Rattle.sweep_laws.specs.Standing.{follows, stands, stand_beside}
 use Rattle.sweep_laws.proofs.Fronts.{turned}
-use Rattle.sweep_laws.proofs.Beside.{beside_join_first, beside_each, each_beside, each_two_join, each_two_each, beside_by_columns, clear_stands, clear_beside, clear_of, polygon_stands}
+use Rattle.sweep_laws.proofs.Beside.{beside_join_first, beside_each, each_two_join, each_two_each, beside_by_columns, clear_stands, clear_beside, clear_of, polygon_stands}
 use Rattle.sweep_laws.proofs.Standing.{MayStand, clear, next, prev, BothApart, ways_of, standing_apart}
 
 -- ---- the edges of a plan, whichever way they are directed

@@ -13,9 +13,8 @@ use Rattle.sight_spec.specs.Scene.{Scene, blockers_of_scene}
 use Rattle.sight_spec.specs.Sight.{crosses, is_in_interior, starts_into_wall, starts_or_ends_in_wall, corner_blocks, is_blocked, are_in_sight}
 use Rattle.list_laws.proofs.Tests.{list_any_or, list_any_agree}
 use Rattle.exact_geom.proofs.Orientation.{orient_of_cycled}
-use Rattle.sweep_laws.specs.Order.{Seen, side_of}
-use Rattle.sweep_laws.specs.Fronts.{IsFront, IsBare}
-use Rattle.sweep_laws.specs.Groups.{is_own, is_ahead, is_behind, IsNearest}
+use Rattle.sweep_laws.specs.Order.{Seen}
+use Rattle.sweep_laws.specs.Groups.{is_own, is_ahead, is_behind}
 use Rattle.sweep_laws.specs.Parts.{IsFirst, IsNearestOrNone, leaves_left, begins_blocked, is_hidden, is_nearer, is_up_to}
 use Rattle.sweep_laws.proofs.Ints.{times_minus}
 use Rattle.sweep_laws.proofs.Fronts.{both_of}

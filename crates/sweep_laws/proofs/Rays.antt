@@ -14,7 +14,7 @@ use Rattle.sweep_laws.specs.Parts.{IsFirst}
 use Rattle.sweep_laws.proofs.Fronts.{by_cases}
 use Rattle.sweep_laws.proofs.Views.{hit_is_where}
 use Rattle.sweep_laws.proofs.Least.{one_way, never_self}
-use Rattle.sweep_laws.proofs.Crossing.{Some_of, any_is, any_at, some_of, mapped_at, nowhere, by_same, some_same}
+use Rattle.sweep_laws.proofs.Crossing.{any_is, any_at, mapped_at, nowhere, by_same}
 
 -- ---- the first place
 

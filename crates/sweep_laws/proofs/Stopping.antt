@@ -18,12 +18,11 @@ use Rattle.sight_spec.specs.Sight.{is_in_interior}
 use Rattle.sight_spec.specs.Stops.{blocker_hit, corner_hit, start_hit, hits_of, stop_of}
 use Rattle.exact_geom.proofs.Values.{same_reduced}
 use Rattle.sweep_laws.specs.Order.{Seen, hit_of, spans, seen_of, hit_where}
-use Rattle.sweep_laws.specs.Fronts.{IsFront, IsBare, seen_at}
 use Rattle.sweep_laws.specs.Groups.{stands_in, is_own, is_ahead, no_corner, IsNearest}
 use Rattle.sweep_laws.specs.Parts.{IsFirst, IsNearestOrNone, leaves_left, nearer_hit, line_stop, corner_stop, start_stop, first_stop}
 use Rattle.sweep_laws.proofs.Fronts.{by_cases, both_of}
 use Rattle.sweep_laws.proofs.Least.{IsUp, none_chain, one_way, never_self, up_best, best_is_least}
-use Rattle.sweep_laws.proofs.Crossing.{Some_of, any_is, any_at, some_of, nowhere}
+use Rattle.sweep_laws.proofs.Crossing.{any_is, any_at, some_of, nowhere}
 use Rattle.sweep_laws.proofs.Rays.{front_hit, any_found, none_before_front, passes_hit, bare_hit}
 use Rattle.sweep_laws.proofs.Points.{seen_first}
 use Rattle.sweep_laws.proofs.Views.{hit_is_where}

@@ -7,12 +7,11 @@ use Rattle.plane_spec.specs.declared.Segment.{Segment}
 use Rattle.plane_spec.specs.Vectors.{vector, cross_of, orient_of}
 use Rattle.plane_spec.specs.Segments.{are_opposite, cross_properly}
 use Rattle.plane_spec.specs.Fractions.{Fraction, fraction}
-use Rattle.sweep_laws.specs.Order.{Seen, spans, hit_of, side_of, seen_of, hit_where, crossed_where}
+use Rattle.sweep_laws.specs.Order.{seen_of, hit_where, crossed_where}
 use Rattle.sight_spec.specs.Stops.{is_across, wall_parameter, blocker_hit}
 use Rattle.sight_spec.specs.Sight.{crosses}
 use Rattle.sweep_laws.proofs.Ring.{diff, is_diff, same_diff, sum_diff, minus_diff, product_diff}
-use Rattle.sweep_laws.proofs.Ints.{times_sum, times_minus}
-use Rattle.sweep_laws.proofs.Fronts.{by_cases, turned, tested}
+use Rattle.sweep_laws.proofs.Fronts.{by_cases, turned}
 use borrow.Author.Differences.{up, down}
 
 -- n is the cross of the ends, x and y are how the ends lie from the ray

@@ -11,7 +11,7 @@ use Rattle.sight_spec.specs.Sight.{is_in_interior}
 use Rattle.plane_spec.specs.Fractions.{Fraction, whole, is_before}
 use Rattle.sweep_laws.specs.Order.{Seen, side_of, hit_of}
 use Rattle.sweep_laws.specs.Fronts.{IsFront, IsBare}
-use Rattle.sweep_laws.specs.Groups.{is_own, is_ahead, is_behind, IsNearest}
+use Rattle.sweep_laws.specs.Groups.{is_own, IsNearest}
 
 -- the first blocker that is spanned, with its number, or none
 abbrev pub IsFirst : Scene → Point → Point → Option (ℕ × Seen) → Type 0
