@@ -12,19 +12,14 @@ use Rattle.plane_spec.specs.Cones.{is_in_cone}
 use Rattle.sight_spec.specs.Sight.{corner_stops, corner_blocks}
 use Rattle.list_laws.proofs.Tests.{list_any_or, list_any_agree}
 use Rattle.sweep_laws.specs.Groups.{back_of, stands_in, is_own, is_ahead, is_behind, no_corner, IsNearest}
-use Rattle.sweep_laws.proofs.Ints.{minus_times, times_less, times_minus}
 use Rattle.sweep_laws.proofs.Fronts.{by_cases, both_of}
 use Rattle.sweep_laws.proofs.Corners.{onward_of, stops_along}
 use Rattle.sweep_laws.proofs.Reach.{reaches}
 use Rattle.sweep_laws.proofs.Standing.{segment_turned, twin_ends}
 use Rattle.sweep_laws.proofs.Plans.{points_same}
 use Rattle.sweep_laws.proofs.Crossing.{any_is}
-
-iff_true : (a b : Bool) → (a ≡ true → b ≡ true) → (b ≡ true → a ≡ true) → a ≡ b
-iff_true true true f g = refl
-iff_true true false f g = sym (f refl)
-iff_true false true f g = g refl
-iff_true false false f g = refl
+use Rattle.int_laws.proofs.Ring.{neg_times, product_swapped, times_minus, times_neg}
+use Rattle.int_laws.proofs.Tests.{agree, at_most_tested, less_tested, tested_at_most, tested_less}
 
 both : (a b : Bool) → a ≡ true → b ≡ true → (a && b) ≡ true
 both a b h k = grind arith
@@ -41,18 +36,6 @@ zero_is z h = grind (arith, ints)
 zero_of : (z : ℤ) → int_eq z (pos 0) ≡ true → z ≡ pos 0
 zero_of z h = grind (arith, ints)
 
-less_is : (x y : ℤ) → x <ℤ y → int_lt x y ≡ true
-less_is x y h = grind (arith, ints)
-
-less_of : (x y : ℤ) → int_lt x y ≡ true → x <ℤ y
-less_of x y h = omega (arith, ints, h)
-
-most_is : (x y : ℤ) → x ≤ℤ y → int_le x y ≡ true
-most_is x y h = grind (arith, ints)
-
-most_of : (x y : ℤ) → int_le x y ≡ true → x ≤ℤ y
-most_of x y h = omega (arith, ints, h)
-
 -- ---- vectors the other way
 
 minus_turned : (x y : ℤ) → x -ℤ y ≡ neg_ℤ (y -ℤ x)
@@ -63,13 +46,13 @@ vector_turned p q = ap (λ t. point t (p.y -ℤ q.y)) (minus_turned p.x q.x) ∙
 
 cross_backs : (a b : Point) → cross_of (back_of a) (back_of b) ≡ cross_of a b
 cross_backs a b =
-    let e = minus_times a.x (neg_ℤ b.y) in let f = times_less b.y a.x in
-    let g = minus_times a.y (neg_ℤ b.x) in let h = times_less b.x a.y in omega (arith, ints, e, f, g, h)
+    let e = neg_times a.x (neg_ℤ b.y) in let f = times_neg a.x b.y in
+    let g = neg_times a.y (neg_ℤ b.x) in let h = times_neg a.y b.x in omega (arith, ints, e, f, g, h)
 
 dot_backs : (a b : Point) → dot_of (back_of a) (back_of b) ≡ dot_of a b
 dot_backs a b =
-    let e = minus_times a.x (neg_ℤ b.x) in let f = times_less b.x a.x in
-    let g = minus_times a.y (neg_ℤ b.y) in let h = times_less b.y a.y in omega (arith, ints, e, f, g, h)
+    let e = neg_times a.x (neg_ℤ b.x) in let f = times_neg a.x b.x in
+    let g = neg_times a.y (neg_ℤ b.y) in let h = times_neg a.y b.y in omega (arith, ints, e, f, g, h)
 
 cross_swapped : (a b : Point) → cross_of a b ≡ pos 0 → cross_of b a ≡ pos 0
 cross_swapped a b h = omega (arith, ints, h)
@@ -82,13 +65,10 @@ dot_parts : (p x q : Point) → dot_of (vector p q) (vector p x) +ℤ dot_of (ve
 dot_parts p x q =
     let dx = q.x -ℤ p.x in let dy = q.y -ℤ p.y in
     let a = times_minus dx x.x p.x in let b = times_minus dy x.y p.y in
-    let c : (q.x -ℤ x.x) *ℤ dx ≡ dx *ℤ q.x -ℤ dx *ℤ x.x = swap (q.x -ℤ x.x) dx ∙ times_minus dx q.x x.x in
-    let e : (q.y -ℤ x.y) *ℤ dy ≡ dy *ℤ q.y -ℤ dy *ℤ x.y = swap (q.y -ℤ x.y) dy ∙ times_minus dy q.y x.y in
+    let c : (q.x -ℤ x.x) *ℤ dx ≡ dx *ℤ q.x -ℤ dx *ℤ x.x = product_swapped (q.x -ℤ x.x) dx ∙ times_minus dx q.x x.x in
+    let e : (q.y -ℤ x.y) *ℤ dy ≡ dy *ℤ q.y -ℤ dy *ℤ x.y = product_swapped (q.y -ℤ x.y) dy ∙ times_minus dy q.y x.y in
     let f = times_minus dx q.x p.x in let g = times_minus dy q.y p.y in
     omega (arith, ints, a, b, c, e, f, g)
-  where
-    swap : (x y : ℤ) → x *ℤ y ≡ y *ℤ x
-    swap x y = omega (arith, ints)
 
 -- ---- points of a segment
 
@@ -103,7 +83,7 @@ in_direction p q x on other =
     let v = vector p x in
     let line : cross_of v d ≡ pos 0 = sym (cross_backs v d) ∙ ap (λ t. cross_of t (back_of d)) (sym (vector_turned p x)) ∙ ap (λ t. cross_of (vector x p) t) (sym (vector_turned p q)) ∙ way.line in
     let dots : dot_of d v ≡ dot_of (vector x p) (vector q p) = dot_swapped d v ∙ sym (dot_backs v d) ∙ ap (λ t. dot_of t (back_of d)) (sym (vector_turned p x)) ∙ ap (λ t. dot_of (vector x p) t) (sym (vector_turned p q)) in
-    both (int_eq (cross_of d v) (pos 0)) (int_lt (pos 0) (dot_of d v)) (zero_is _ (cross_swapped v d line)) (less_is (pos 0) (dot_of d v) (subst (λ t. pos 0 <ℤ t) (sym dots) way.forward))
+    both (int_eq (cross_of d v) (pos 0)) (int_lt (pos 0) (dot_of d v)) (zero_is _ (cross_swapped v d line)) (less_tested (pos 0) (dot_of d v) (subst (λ t. pos 0 <ℤ t) (sym dots) way.forward))
 
 -- and nearer than the end, where it isn't the end
 before_end : (p q x : Point) → is_on_segment x p q ≡ true → same_point x q ≡ false → dot_of (vector p q) (vector p x) <ℤ dot_of (vector p q) (vector p q)
@@ -120,7 +100,7 @@ on_by p q x h near =
     let v = vector p x in
     let two = both_of (int_eq (cross_of d v) (pos 0)) (int_lt (pos 0) (dot_of d v)) h in
     let line = zero_of (cross_of d v) two.0 in
-    let forward = less_of (pos 0) (dot_of d v) two.1 in
+    let forward = tested_less (pos 0) (dot_of d v) two.1 in
     let same = dot_swapped d v in
     reaches x p q d (cross_swapped d v line) line (some (dot_of d v) (dot_of d d) forward near) (from_zero (dot_of v d) (dot_of d v) same forward) (moved (dot_of v d) (dot_of d v) (dot_of d d) same near)
   where
@@ -144,7 +124,7 @@ never_less z h = absurd (omega (arith, ints, h))
 not_at_start : (p d x : Point) → stands_in p d x ≡ true → same_point x p ≡ false
 not_at_start p d x h = by_cases (same_point x p)
     (λ e. let two = both_of (int_eq (cross_of d (vector p x)) (pos 0)) (int_lt (pos 0) (dot_of d (vector p x))) h in
-        absurd (none d.x d.y (x.x -ℤ p.x) (x.y -ℤ p.y) (nothing x.x p.x (ap (λ t. t.x) (points_same x p e))) (nothing x.y p.y (ap (λ t. t.y) (points_same x p e))) (less_of (pos 0) (dot_of d (vector p x)) two.1)))
+        absurd (none d.x d.y (x.x -ℤ p.x) (x.y -ℤ p.y) (nothing x.x p.x (ap (λ t. t.x) (points_same x p e))) (nothing x.y p.y (ap (λ t. t.y) (points_same x p e))) (tested_less (pos 0) (dot_of d (vector p x)) two.1)))
     (λ e. e)
   where
     nothing : (x y : ℤ) → x ≡ y → x -ℤ y ≡ pos 0
@@ -168,15 +148,15 @@ before_where : (p q x : Point) → same_point p q ≡ false
 before_where p q x differ =
     let d = vector p q in
     let v = vector p x in
-    iff_true _ _
+    agree _ _
       (λ h. let two = both_of (not (same_point x q)) (is_on_segment x p q) h in
           or_by (same_point x p) _ (λ other. both (stands_in p d x) (int_lt (dot_of d v) (dot_of d d)) (in_direction p q x two.1 other)
-            (less_is (dot_of d v) (dot_of d d) (before_end p q x two.1 (not_of _ two.0)))))
+            (less_tested (dot_of d v) (dot_of d d) (before_end p q x two.1 (not_of _ two.0)))))
       (λ h. by_cases (same_point x p)
           (λ e. let same = points_same x p e in
               subst (λ t. (not (same_point t q) && is_on_segment t p q) ≡ true) (sym same) (both (not (same_point p q)) (is_on_segment p p q) (of_not _ differ) (at_start p q)))
           (λ other. let two = both_of (stands_in p d x) (int_lt (dot_of d v) (dot_of d d)) (or_rest (same_point x p) _ other h) in
-              let less = less_of (dot_of d v) (dot_of d d) two.1 in
+              let less = tested_less (dot_of d v) (dot_of d d) two.1 in
               both (not (same_point x q)) (is_on_segment x p q) (of_not _ (not_at_end p q x less)) (on_by p q x two.0 (weaker (dot_of d v) (dot_of d d) less))))
   where
     or_by : (a b : Bool) → (a ≡ false → b ≡ true) → (a || b) ≡ true
@@ -193,15 +173,15 @@ after_where : (p q x : Point)
 after_where p q x =
     let d = vector p q in
     let v = vector p x in
-    iff_true _ _
+    agree _ _
       (λ h. let two = both_of (not (same_point x p)) (is_on_segment x q p) h in
           let on = on_turned x q p two.1 in
           both (stands_in p d x) (int_le (dot_of d v) (dot_of d d)) (in_direction p q x on (not_of _ two.0))
-            (most_is (dot_of d v) (dot_of d d) (by_cases (same_point x q)
+            (at_most_tested (dot_of d v) (dot_of d d) (by_cases (same_point x q)
               (λ e. subst (λ t. dot_of d (vector p t) ≤ℤ dot_of d d) (sym (points_same x q e)) (own (dot_of d d)))
               (λ other. weaker (dot_of d v) (dot_of d d) (before_end p q x on other)))))
       (λ h. let two = both_of (stands_in p d x) (int_le (dot_of d v) (dot_of d d)) h in
-          both (not (same_point x p)) (is_on_segment x q p) (of_not _ (not_at_start p d x two.0)) (on_turned x p q (on_by p q x two.0 (most_of (dot_of d v) (dot_of d d) two.1))))
+          both (not (same_point x p)) (is_on_segment x q p) (of_not _ (not_at_start p d x two.0)) (on_turned x p q (on_by p q x two.0 (tested_at_most (dot_of d v) (dot_of d d) two.1))))
   where
     own : (z : ℤ) → z ≤ℤ z
     own z = omega (arith, ints)
@@ -256,7 +236,7 @@ before_by_nearest p d v corners n =
     any_is (is_before_end p d) corners no_corner (int_lt (dot_of d v) (dot_of d d))
       (λ some. let c = get_or corners some.place no_corner in
           let two = both_of (is_ahead p d c) (int_lt (dot_of d (vector p c.here)) (dot_of d d)) some.holds in
-          less_is (dot_of d v) (dot_of d d) (chain (dot_of d v) (dot_of d (vector p c.here)) (dot_of d d) (n.nearest some.place some.within two.0) (less_of (dot_of d (vector p c.here)) (dot_of d d) two.1)))
+          less_tested (dot_of d v) (dot_of d d) (chain (dot_of d v) (dot_of d (vector p c.here)) (dot_of d d) (n.nearest some.place some.within two.0) (tested_less (dot_of d (vector p c.here)) (dot_of d d) two.1)))
       (λ h. let c = get_or corners n.place no_corner in
           record { place = n.place; within = n.within; holds = both (is_ahead p d c) (int_lt (dot_of d (vector p c.here)) (dot_of d d)) n.passes (subst (λ t. int_lt (dot_of d t) (dot_of d d) ≡ true) (sym n.at) h) })
   where
@@ -268,7 +248,7 @@ up_to_by_nearest p d v corners n =
     any_is (is_up_to_end p d) corners no_corner (int_le (dot_of d v) (dot_of d d))
       (λ some. let c = get_or corners some.place no_corner in
           let two = both_of (is_behind p d c) (int_le (dot_of d (vector p c.here)) (dot_of d d)) some.holds in
-          most_is (dot_of d v) (dot_of d d) (chain (dot_of d v) (dot_of d (vector p c.here)) (dot_of d d) (n.nearest some.place some.within two.0) (most_of (dot_of d (vector p c.here)) (dot_of d d) two.1)))
+          at_most_tested (dot_of d v) (dot_of d d) (chain (dot_of d v) (dot_of d (vector p c.here)) (dot_of d d) (n.nearest some.place some.within two.0) (tested_at_most (dot_of d (vector p c.here)) (dot_of d d) two.1)))
       (λ h. let c = get_or corners n.place no_corner in
           record { place = n.place; within = n.within; holds = both (is_behind p d c) (int_le (dot_of d (vector p c.here)) (dot_of d d)) n.passes (subst (λ t. int_le (dot_of d t) (dot_of d d) ≡ true) (sym n.at) h) })
   where

@@ -9,12 +9,13 @@ use Rattle.plane_spec.specs.Vectors.{vector, cross_of, orient_of, same_point}
 use Rattle.plane_spec.specs.Segments.{is_between, is_on_segment}
 use Rattle.plane_spec.specs.Polygons.{is_on_edge}
 use Rattle.sight_spec.specs.Sight.{starts_into_wall}
-use Rattle.sweep_laws.proofs.Ring.{diff, is_diff, same_diff, sum_diff, minus_diff, product_diff, positive_product, positive_factor}
-use Rattle.sweep_laws.proofs.Ints.{times_sum, times_minus, nonneg_product, minus_times, times_less}
-use Rattle.sweep_laws.proofs.Fronts.{by_cases, turned, tested, both_of, four_of}
+use Rattle.sweep_laws.proofs.Fronts.{by_cases, both_of, four_of}
 use Rattle.sweep_laws.proofs.Views.{orient_is_side, orient_is_cross}
-use Rattle.sweep_laws.proofs.Circle.{is_left_test}
 use borrow.Author.Differences.{up, down}
+use Rattle.exact_geom.proofs.Turns.{cross_of_exchanged}
+use Rattle.int_laws.proofs.Ring.{is_diff, minus_diff, neg_times, product_diff, product_swapped, same_diff, sum_diff, times_minus, times_sum, diff, times_neg}
+use Rattle.int_laws.proofs.Signs.{not_negative_product, positive_factor, positive_product, positive_tested, tested_positive}
+use Rattle.int_laws.proofs.Tests.{agree, at_most_tested, tested_equal}
 
 -- the weights of a point on the line
 weight_diff : (a b c d e f g h i j k l : ℕ) →
@@ -37,29 +38,23 @@ weight_y ax ay bx by cx cy =
     rw (is_diff ax, is_diff ay, is_diff bx, is_diff by, is_diff cx, is_diff cy)
     (weight_y_diff (up ax) (down ax) (up ay) (down ay) (up bx) (down bx) (up by) (down by) (up cx) (down cx) (up cy) (down cy))
 
-at_most : (x y : ℤ) → x ≤ℤ y → int_le x y ≡ true
-at_most x y h = grind (arith, ints)
-
 -- n c = g e + h s with n = g + h: how far c is from s and from e
 apart_first : (n g h s c e : ℤ) → n *ℤ c ≡ g *ℤ e +ℤ h *ℤ s → n ≡ g +ℤ h → n *ℤ (c -ℤ s) ≡ g *ℤ (e -ℤ s)
 apart_first n g h s c e w sum =
     let a = times_minus n c s in
     let b = times_minus g e s in
-    let d : n *ℤ s ≡ s *ℤ (g +ℤ h) = ap (λ t. t *ℤ s) sum ∙ swap (g +ℤ h) s in
+    let d : n *ℤ s ≡ s *ℤ (g +ℤ h) = ap (λ t. t *ℤ s) sum ∙ product_swapped (g +ℤ h) s in
     let f = times_sum s g h in
     omega (arith, ints, a, b, d, f, w)
-  where
-    swap : (x y : ℤ) → x *ℤ y ≡ y *ℤ x
-    swap x y = omega (arith, ints)
 
 ordered : (c s e : ℤ) → (c -ℤ s) ≤ℤ pos 0 → pos 0 ≤ℤ (c -ℤ e) → is_between c s e ≡ true
-ordered c s e h k = right_way (int_le s c && int_le c e) (int_le e c) (int_le c s) (at_most e c (omega (arith, ints, k))) (at_most c s (omega (arith, ints, h)))
+ordered c s e h k = right_way (int_le s c && int_le c e) (int_le e c) (int_le c s) (at_most_tested e c (omega (arith, ints, k))) (at_most_tested c s (omega (arith, ints, h)))
   where
     right_way : (x y z : Bool) → y ≡ true → z ≡ true → (x || (y && z)) ≡ true
     right_way x y z h k = grind arith
 
 rising : (c s e : ℤ) → pos 0 ≤ℤ (c -ℤ s) → (c -ℤ e) ≤ℤ pos 0 → is_between c s e ≡ true
-rising c s e h k = first_way (int_le s c) (int_le c e) (int_le e c && int_le c s) (at_most s c (omega (arith, ints, h))) (at_most c e (omega (arith, ints, k)))
+rising c s e h k = first_way (int_le s c) (int_le c e) (int_le e c && int_le c s) (at_most_tested s c (omega (arith, ints, h))) (at_most_tested c e (omega (arith, ints, k)))
   where
     first_way : (x y z : Bool) → x ≡ true → y ≡ true → ((x && y) || z) ≡ true
     first_way x y z h k = grind arith
@@ -73,11 +68,11 @@ between_weights n g h s c e n_up g_up h_up a b =
   where
     pos_side : (u w n g : ℤ) → pos 0 <ℤ n → pos 0 ≤ℤ g → n *ℤ u ≡ g *ℤ w → pos 0 ≤ℤ w → pos 0 ≤ℤ u
     pos_side u w n g n_up g_up e w_up = by_lt_z u (pos 0)
-        (λ low. let p = positive_product n (neg_ℤ u) n_up (omega (arith, ints, low)) in let m = times_less u n in let q = nonneg_product g w g_up w_up in absurd (omega (arith, ints, p, m, q, e)))
+        (λ low. let p = positive_product n (neg_ℤ u) n_up (omega (arith, ints, low)) in let m = times_neg n u in let q = not_negative_product g w g_up w_up in absurd (omega (arith, ints, p, m, q, e)))
         (λ high. high)
     neg_side : (u w n g : ℤ) → pos 0 <ℤ n → pos 0 ≤ℤ g → n *ℤ u ≡ g *ℤ w → w ≤ℤ pos 0 → u ≤ℤ pos 0
     neg_side u w n g n_up g_up e w_low = by_lt_z (pos 0) u
-        (λ high. let p = positive_product n u n_up high in let q = nonneg_product g (neg_ℤ w) g_up (omega (arith, ints, w_low)) in let m = times_less w g in absurd (omega (arith, ints, p, m, q, e)))
+        (λ high. let p = positive_product n u n_up high in let q = not_negative_product g (neg_ℤ w) g_up (omega (arith, ints, w_low)) in let m = times_neg g w in absurd (omega (arith, ints, p, m, q, e)))
         (λ low. low)
 
 farther : (s c e : ℤ) → is_between c s e ≡ true → s <ℤ c → pos 0 <ℤ (e -ℤ s)
@@ -99,8 +94,8 @@ weight_positive n g s c e n_up w between other =
       (λ not_right. let left : c <ℤ s = strictly_left s c not_right other in
           let far : pos 0 <ℤ neg_ℤ (e -ℤ s) = nearer s c e between left in
           let p = positive_product n (neg_ℤ (c -ℤ s)) n_up (omega (arith, ints, left)) in
-          let m = times_less (c -ℤ s) n in
-          let k = times_less (e -ℤ s) g in
+          let m = times_neg n (c -ℤ s) in
+          let k = times_neg g (e -ℤ s) in
           positive_factor g (neg_ℤ (e -ℤ s)) (omega (arith, ints, p, m, k, w)) far)
 
 -- ---- points of the plane
@@ -196,7 +191,7 @@ pub turn_ends : (a b q p : Point) → pos 0 <ℤ cross_of (vector p a) (vector p
 turn_ends a b q p up line = record {
   up = up;
   sum = sum_of_side (cross_of (vector p a) (vector p b)) (cross_of (vector p b) (vector p q)) (cross_of (vector p q) (vector p b)) (cross_of (vector p a) (vector p q))
-      (turned (vector p q) (vector p b)) (sym (orient_is_side a b q p) ∙ line);
+      (cross_of_exchanged (vector p q) (vector p b)) (sym (orient_is_side a b q p) ∙ line);
 }
 
 -- the same with the ends told the other way round, for the second end
@@ -223,9 +218,6 @@ past_second a b q p on h other =
 zero_of_test : (z : ℤ) → int_eq z (pos 0) ≡ true → z ≡ pos 0
 zero_of_test z h = grind (arith, ints)
 
-equal_of_test : (x y : ℤ) → int_eq x y ≡ true → x ≡ y
-equal_of_test x y h = grind (arith, ints)
-
 pub line_of_segment : (q a b : Point) → is_on_segment q a b ≡ true → orient_of a b q ≡ pos 0
 unfolding is_on_segment
 line_of_segment q a b h = zero_of_test _ (both_of (int_eq (orient_of a b q) (pos 0)) (is_between q.x a.x b.x && is_between q.y a.y b.y) h).0
@@ -235,18 +227,12 @@ not_same : (p q a : Point) → pos 0 <ℤ cross_of (vector p a) (vector p q) →
 not_same p q a h = by_cases (same_point q a) (λ e. absurd (none (vector p a).x (vector p a).y (vector p q).x (vector p q).y (moved q.x a.x p.x (both_of (int_eq q.x a.x) (int_eq q.y a.y) e).0) (moved q.y a.y p.y (both_of (int_eq q.x a.x) (int_eq q.y a.y) e).1) h)) (λ e. e)
   where
     moved : (x y z : ℤ) → int_eq x y ≡ true → x -ℤ z ≡ y -ℤ z
-    moved x y z e = ap (λ t. t -ℤ z) (equal_of_test x y e)
+    moved x y z e = ap (λ t. t -ℤ z) (tested_equal x y e)
     none : (x y u v : ℤ) → u ≡ x → v ≡ y → pos 0 <ℤ (x *ℤ v -ℤ y *ℤ u) → ⊥
     none x y u v e f h =
         let k : x *ℤ v ≡ x *ℤ y = ap (λ t. x *ℤ t) f in
         let l : y *ℤ u ≡ y *ℤ x = ap (λ t. y *ℤ t) e in
         omega (arith, ints, k, l, h)
-
-iff_true : (a b : Bool) → (a ≡ true → b ≡ true) → (b ≡ true → a ≡ true) → a ≡ b
-iff_true true true f g = refl
-iff_true true false f g = sym (f refl)
-iff_true false true f g = g refl
-iff_true false false f g = refl
 
 four_true : {a b c d : Bool} → a ≡ true → b ≡ true → c ≡ true → d ≡ true → (a && ((b && c) && d)) ≡ true
 four_true {a} {b} {c} {d} h k j l = grind arith
@@ -267,14 +253,14 @@ same_test x = grind (arith, ints)
 pub leaves_where : (p q : Point) (w : Segment) → starts_into_wall q p w ≡ faces_where p q w
 unfolding starts_into_wall faces_where
 leaves_where p q w =
-    iff_true (starts_into_wall q p w) (faces_where p q w)
+    agree (starts_into_wall q p w) (faces_where p q w)
       (λ h. let all = both_of (is_on_edge q w && (not (same_point q w.a) && not (same_point q w.b))) (int_lt (pos 0) (orient_of w.a w.b p)) h in
           let one = both_of (is_on_edge q w) (not (same_point q w.a) && not (same_point q w.b)) all.0 in
           let two = both_of (not (same_point q w.a)) (not (same_point q w.b)) one.1 in
-          let up = subst (λ t. pos 0 <ℤ t) (orient_is_cross w.a w.b p) (tested (orient_of w.a w.b p) all.1) in
+          let up = subst (λ t. pos 0 <ℤ t) (orient_is_cross w.a w.b p) (tested_positive (orient_of w.a w.b p) all.1) in
           let line = line_of_segment q w.a w.b one.0 in
           let on = turn_ends w.a w.b q p up line in
-          four_true (is_left_test _ up) (is_left_test _ (past_first w.a w.b q p on one.0 (false_of two.0))) (is_left_test _ (past_second w.a w.b q p on one.0 (false_of two.1)))
+          four_true (positive_tested _ up) (positive_tested _ (past_first w.a w.b q p on one.0 (false_of two.0))) (positive_tested _ (past_second w.a w.b q p on one.0 (false_of two.1)))
             (zero_test _ (sym (orient_is_side w.a w.b q p) ∙ line)))
       (λ h. let a = vector p w.a in
           let b = vector p w.b in
@@ -282,14 +268,14 @@ leaves_where p q w =
           let one = both_of (int_lt (pos 0) (cross_of a b)) ((int_lt (pos 0) (cross_of a d) && int_lt (pos 0) (cross_of d b)) && int_eq ((cross_of a b +ℤ cross_of b d) -ℤ cross_of a d) (pos 0)) h in
           let two = both_of (int_lt (pos 0) (cross_of a d) && int_lt (pos 0) (cross_of d b)) (int_eq ((cross_of a b +ℤ cross_of b d) -ℤ cross_of a d) (pos 0)) one.1 in
           let three = both_of (int_lt (pos 0) (cross_of a d)) (int_lt (pos 0) (cross_of d b)) two.0 in
-          let up = tested (cross_of a b) one.0 in
+          let up = tested_positive (cross_of a b) one.0 in
           let line : orient_of w.a w.b q ≡ pos 0 = orient_is_side w.a w.b q p ∙ zero_of_test _ two.1 in
           let on = turn_ends w.a w.b q p up line in
-          let first = tested (cross_of a d) three.0 in
-          let last = tested (cross_of d b) three.1 in
+          let first = tested_positive (cross_of a d) three.0 in
+          let last = tested_positive (cross_of d b) three.1 in
           chain_true (on_wall w.a w.b q p on line (weaker _ first) (weaker _ last))
             (not_true_of (not_same p q w.a first)) (not_true_of (not_same_end p q w.b last))
-            (is_left_test _ (subst (λ t. pos 0 <ℤ t) (sym (orient_is_cross w.a w.b p)) up)))
+            (positive_tested _ (subst (λ t. pos 0 <ℤ t) (sym (orient_is_cross w.a w.b p)) up)))
   where
     weaker : (z : ℤ) → pos 0 <ℤ z → pos 0 ≤ℤ z
     weaker z h = omega (arith, ints, h)
@@ -299,7 +285,7 @@ leaves_where p q w =
         clash : (x : Bool) → x ≡ false → x ≡ true → ⊥
         clash x h k = grind arith
         eq_swap : (x y : ℤ) → int_eq x y ≡ true → int_eq y x ≡ true
-        eq_swap x y h = subst (λ t. int_eq t x ≡ true) (equal_of_test x y h) (same_test x)
+        eq_swap x y h = subst (λ t. int_eq t x ≡ true) (tested_equal x y h) (same_test x)
         both_swap : {a b : Bool} → a ≡ true → b ≡ true → (a && b) ≡ true
         both_swap {a} {b} h k = grind arith
         swap : same_point q b ≡ true → same_point b q ≡ true
@@ -311,21 +297,21 @@ leaves_where p q w =
 more_up : (n u g x h y : ℤ) → n *ℤ u +ℤ h *ℤ y ≡ g *ℤ x → pos 0 <ℤ n → pos 0 <ℤ u → pos 0 ≤ℤ h → pos 0 <ℤ y → pos 0 <ℤ x → pos 0 <ℤ g
 more_up n u g x h y e n_up u_up h_up y_up x_up =
     let p = positive_product n u n_up u_up in
-    let q = nonneg_product h y h_up (omega (arith, ints, y_up)) in
+    let q = not_negative_product h y h_up (omega (arith, ints, y_up)) in
     positive_factor g x (omega (arith, ints, p, q, e)) x_up
 
 swap_products : (ab cd ad bc ac bd cb : ℤ) → ab *ℤ cd +ℤ ad *ℤ bc ≡ ac *ℤ bd → cb ≡ neg_ℤ bc → ab *ℤ cd +ℤ ac *ℤ neg_ℤ bd ≡ cb *ℤ ad
 swap_products ab cd ad bc ac bd cb e f =
-    let m = times_less bd ac in
-    let k : cb *ℤ ad ≡ neg_ℤ (bc *ℤ ad) = ap (λ t. t *ℤ ad) f ∙ minus_times bc ad in
+    let m = times_neg ac bd in
+    let k : cb *ℤ ad ≡ neg_ℤ (bc *ℤ ad) = ap (λ t. t *ℤ ad) f ∙ neg_times bc ad in
     omega (arith, ints, e, m, k)
 
 -- a, b, c as vectors from the station, c at or past a, and d between a and b and past c: then c is before b
 pub before_end : (a b c d : Point) → pos 0 <ℤ cross_of a b → pos 0 <ℤ cross_of a d → pos 0 <ℤ cross_of d b → pos 0 <ℤ cross_of c d → pos 0 ≤ℤ cross_of a c → pos 0 <ℤ cross_of c b
 before_end a b c d ab ad db cd ac =
     more_up (cross_of a b) (cross_of c d) (cross_of c b) (cross_of a d) (cross_of a c) (cross_of d b)
-      (subst (λ t. cross_of a b *ℤ cross_of c d +ℤ cross_of a c *ℤ t ≡ cross_of c b *ℤ cross_of a d) (sym (turned b d))
-        (swap_products (cross_of a b) (cross_of c d) (cross_of a d) (cross_of b c) (cross_of a c) (cross_of b d) (cross_of c b) (four_of a b c d) (turned b c)))
+      (subst (λ t. cross_of a b *ℤ cross_of c d +ℤ cross_of a c *ℤ t ≡ cross_of c b *ℤ cross_of a d) (sym (cross_of_exchanged b d))
+        (swap_products (cross_of a b) (cross_of c d) (cross_of a d) (cross_of b c) (cross_of a c) (cross_of b d) (cross_of c b) (four_of a b c d) (cross_of_exchanged b c)))
       ab cd ac db ad
 
 pub data OneOnOther (a b c e : Point) : Type 0 where
@@ -338,7 +324,7 @@ pub overlap : (p d a b c e : Point) → pos 0 <ℤ cross_of (vector p a) (vector
     → orient_of a b c ≡ pos 0 → orient_of c e a ≡ pos 0 → OneOnOther a b c e
 overlap p d a b c e ab_up ce_up ad db cd de line other_line =
     by_lt_z (cross_of (vector p a) (vector p c)) (pos 0)
-      (λ low. let ca : pos 0 ≤ℤ cross_of (vector p c) (vector p a) = back_up _ _ (turned (vector p a) (vector p c)) low in
+      (λ low. let ca : pos 0 ≤ℤ cross_of (vector p c) (vector p a) = back_up _ _ (cross_of_exchanged (vector p a) (vector p c)) low in
           first (on_wall c e a p (turn_ends c e a p ce_up other_line) other_line ca
             (weaken _ (before_end (vector p c) (vector p e) (vector p a) d ce_up cd de ad ca))))
       (λ high. third (on_wall a b c p (turn_ends a b c p ab_up line) line high

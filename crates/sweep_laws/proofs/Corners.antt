@@ -9,18 +9,18 @@ use Rattle.plane_spec.specs.Segments.{is_between, is_on_segment}
 use Rattle.plane_spec.specs.declared.Corner.{Corner}
 use Rattle.plane_spec.specs.Cones.{is_in_cone}
 use Rattle.sight_spec.specs.Sight.{corner_stops}
-use Rattle.sweep_laws.proofs.Ring.{positive_product}
-use Rattle.sweep_laws.proofs.Ints.{times_minus, nonneg_product, minus_times, times_less}
 use Rattle.sweep_laws.proofs.Fronts.{by_cases, both_of}
 use Rattle.sweep_laws.proofs.After.{AreOneWay, self_of, same_cone}
+use Rattle.int_laws.proofs.Ring.{neg_times, product_swapped, times_minus, times_neg}
+use Rattle.int_laws.proofs.Signs.{not_negative_product, positive_product, positive_sum, square}
 
 -- from m on towards e is the way from s to e
 onward : (m s e : ℤ) → is_between m s e ≡ true → pos 0 ≤ℤ ((e -ℤ m) *ℤ (e -ℤ s))
 onward m s e h = by_lt_z e m
-    (λ back. let p = nonneg_product (neg_ℤ (e -ℤ m)) (neg_ℤ (e -ℤ s)) (omega (arith, ints, back)) (back_from m s e h back) in
-        let f = minus_times (e -ℤ m) (neg_ℤ (e -ℤ s)) in let g = times_less (e -ℤ s) (e -ℤ m) in omega (arith, ints, p, f, g))
+    (λ back. let p = not_negative_product (neg_ℤ (e -ℤ m)) (neg_ℤ (e -ℤ s)) (omega (arith, ints, back)) (back_from m s e h back) in
+        let f = neg_times (e -ℤ m) (neg_ℤ (e -ℤ s)) in let g = times_neg (e -ℤ m) (e -ℤ s) in omega (arith, ints, p, f, g))
     (λ ahead. by_lt_z m e
-      (λ more. nonneg_product (e -ℤ m) (e -ℤ s) (omega (arith, ints, ahead)) (ahead_from m s e h more))
+      (λ more. not_negative_product (e -ℤ m) (e -ℤ s) (omega (arith, ints, ahead)) (ahead_from m s e h more))
       (λ end. none (e -ℤ m) (e -ℤ s) (omega (arith, ints, ahead, end))))
   where
     none : (x y : ℤ) → x ≡ pos 0 → pos 0 ≤ℤ (x *ℤ y)
@@ -33,7 +33,7 @@ onward m s e h = by_lt_z e m
 onward_strictly : (m s e : ℤ) → is_between m s e ≡ true → int_eq m e ≡ false → pos 0 <ℤ ((e -ℤ m) *ℤ (e -ℤ s))
 onward_strictly m s e h other = by_lt_z e m
     (λ back. let p = positive_product (neg_ℤ (e -ℤ m)) (neg_ℤ (e -ℤ s)) (omega (arith, ints, back)) (back_from m s e h back) in
-        let f = minus_times (e -ℤ m) (neg_ℤ (e -ℤ s)) in let g = times_less (e -ℤ s) (e -ℤ m) in omega (arith, ints, p, f, g))
+        let f = neg_times (e -ℤ m) (neg_ℤ (e -ℤ s)) in let g = times_neg (e -ℤ m) (e -ℤ s) in omega (arith, ints, p, f, g))
     (λ ahead. let more = apart m e ahead other in positive_product (e -ℤ m) (e -ℤ s) (omega (arith, ints, more)) (ahead_from m s e h more))
   where
     apart : (m e : ℤ) → m ≤ℤ e → int_eq m e ≡ false → m <ℤ e
@@ -49,44 +49,33 @@ pub record Onward (v p q : Point) : Type 0 where
   pub rest : AreOneWay (vector v q) (vector v q)
   pub whole : AreOneWay (vector p q) (vector p q)
 
-sum_first : (a b : ℤ) → pos 0 <ℤ a → pos 0 ≤ℤ b → pos 0 <ℤ (a +ℤ b)
-sum_first a b h k = omega (arith, ints, h, k)
-
 sum_second : (a b : ℤ) → pos 0 ≤ℤ a → pos 0 <ℤ b → pos 0 <ℤ (a +ℤ b)
 sum_second a b h k = omega (arith, ints, h, k)
 
-square_up : (z : ℤ) → pos 0 ≤ℤ (z *ℤ z)
-square_up z = by_lt_z z (pos 0)
-    (λ low. let p = positive_product (neg_ℤ z) (neg_ℤ z) (omega (arith, ints, low)) (omega (arith, ints, low)) in let f = minus_times z (neg_ℤ z) in let g = times_less z z in omega (arith, ints, p, f, g))
-    (λ high. nonneg_product z z high high)
-
 square_of_first : (x y : ℤ) → pos 0 <ℤ (x *ℤ y) → pos 0 <ℤ (x *ℤ x)
 square_of_first x y h = by_lt_z x (pos 0)
-    (λ low. let p = positive_product (neg_ℤ x) (neg_ℤ x) (omega (arith, ints, low)) (omega (arith, ints, low)) in let f = minus_times x (neg_ℤ x) in let g = times_less x x in omega (arith, ints, p, f, g))
+    (λ low. let p = positive_product (neg_ℤ x) (neg_ℤ x) (omega (arith, ints, low)) (omega (arith, ints, low)) in let f = neg_times x (neg_ℤ x) in let g = times_neg x x in omega (arith, ints, p, f, g))
     (λ high. by_lt_z (pos 0) x (λ up. positive_product x x up up) (λ none. absurd (zero x y (omega (arith, ints, high, none)) h)))
   where
     zero : (x y : ℤ) → x ≡ pos 0 → pos 0 <ℤ (x *ℤ y) → ⊥
     zero x y e h = let k : x *ℤ y ≡ pos 0 *ℤ y = ap (λ t. t *ℤ y) e in omega (arith, ints, k, h)
 
 square_of_second : (x y : ℤ) → pos 0 <ℤ (x *ℤ y) → pos 0 <ℤ (y *ℤ y)
-square_of_second x y h = square_of_first y x (subst (λ t. pos 0 <ℤ t) (swap x y) h)
-  where
-    swap : (x y : ℤ) → x *ℤ y ≡ y *ℤ x
-    swap x y = omega (arith, ints)
+square_of_second x y h = square_of_first y x (subst (λ t. pos 0 <ℤ t) (product_swapped x y) h)
 
 -- with one of the two products of coordinates positive
 onward_by : (v p q : Point) → cross_of (vector v q) (vector p q) ≡ pos 0
     → pos 0 ≤ℤ ((q.x -ℤ v.x) *ℤ (q.x -ℤ p.x)) → pos 0 ≤ℤ ((q.y -ℤ v.y) *ℤ (q.y -ℤ p.y))
     → (pos 0 <ℤ ((q.x -ℤ v.x) *ℤ (q.x -ℤ p.x))) ⊎ (pos 0 <ℤ ((q.y -ℤ v.y) *ℤ (q.y -ℤ p.y))) → Onward v p q
 onward_by v p q line x_up y_up (inl h) = record {
-  way = record { line = line; forward = sum_first _ _ h y_up };
-  rest = self_of (vector v q) (sum_first _ _ (square_of_first (q.x -ℤ v.x) (q.x -ℤ p.x) h) (square_up (q.y -ℤ v.y)));
-  whole = self_of (vector p q) (sum_first _ _ (square_of_second (q.x -ℤ v.x) (q.x -ℤ p.x) h) (square_up (q.y -ℤ p.y)));
+  way = record { line = line; forward = positive_sum _ _ h y_up };
+  rest = self_of (vector v q) (positive_sum _ _ (square_of_first (q.x -ℤ v.x) (q.x -ℤ p.x) h) (square (q.y -ℤ v.y)));
+  whole = self_of (vector p q) (positive_sum _ _ (square_of_second (q.x -ℤ v.x) (q.x -ℤ p.x) h) (square (q.y -ℤ p.y)));
 }
 onward_by v p q line x_up y_up (inr h) = record {
   way = record { line = line; forward = sum_second _ _ x_up h };
-  rest = self_of (vector v q) (sum_second _ _ (square_up (q.x -ℤ v.x)) (square_of_first (q.y -ℤ v.y) (q.y -ℤ p.y) h));
-  whole = self_of (vector p q) (sum_second _ _ (square_up (q.x -ℤ p.x)) (square_of_second (q.y -ℤ v.y) (q.y -ℤ p.y) h));
+  rest = self_of (vector v q) (sum_second _ _ (square (q.x -ℤ v.x)) (square_of_first (q.y -ℤ v.y) (q.y -ℤ p.y) h));
+  whole = self_of (vector p q) (sum_second _ _ (square (q.x -ℤ p.x)) (square_of_second (q.y -ℤ v.y) (q.y -ℤ p.y) h));
 }
 
 -- the rest of a vector is in line with it where the part is
@@ -94,14 +83,11 @@ rest_diff : (px py qx qy vx vy : ℤ) → (qx -ℤ px) *ℤ (vy -ℤ py) -ℤ (q
 rest_diff px py qx qy vx vy h =
     let a = times_minus (qx -ℤ px) vy py in
     let b = times_minus (qy -ℤ py) vx px in
-    let c : (qx -ℤ vx) *ℤ (qy -ℤ py) ≡ (qy -ℤ py) *ℤ qx -ℤ (qy -ℤ py) *ℤ vx = swap (qx -ℤ vx) (qy -ℤ py) ∙ times_minus (qy -ℤ py) qx vx in
-    let d : (qy -ℤ vy) *ℤ (qx -ℤ px) ≡ (qx -ℤ px) *ℤ qy -ℤ (qx -ℤ px) *ℤ vy = swap (qy -ℤ vy) (qx -ℤ px) ∙ times_minus (qx -ℤ px) qy vy in
+    let c : (qx -ℤ vx) *ℤ (qy -ℤ py) ≡ (qy -ℤ py) *ℤ qx -ℤ (qy -ℤ py) *ℤ vx = product_swapped (qx -ℤ vx) (qy -ℤ py) ∙ times_minus (qy -ℤ py) qx vx in
+    let d : (qy -ℤ vy) *ℤ (qx -ℤ px) ≡ (qx -ℤ px) *ℤ qy -ℤ (qx -ℤ px) *ℤ vy = product_swapped (qy -ℤ vy) (qx -ℤ px) ∙ times_minus (qx -ℤ px) qy vy in
     let e = times_minus (qx -ℤ px) qy py in
-    let f : (qx -ℤ px) *ℤ (qy -ℤ py) ≡ (qy -ℤ py) *ℤ qx -ℤ (qy -ℤ py) *ℤ px = swap (qx -ℤ px) (qy -ℤ py) ∙ times_minus (qy -ℤ py) qx px in
+    let f : (qx -ℤ px) *ℤ (qy -ℤ py) ≡ (qy -ℤ py) *ℤ qx -ℤ (qy -ℤ py) *ℤ px = product_swapped (qx -ℤ px) (qy -ℤ py) ∙ times_minus (qy -ℤ py) qx px in
     omega (arith, ints, a, b, c, d, e, f, h)
-  where
-    swap : (x y : ℤ) → x *ℤ y ≡ y *ℤ x
-    swap x y = omega (arith, ints)
 
 zero_of_test : (z : ℤ) → int_eq z (pos 0) ≡ true → z ≡ pos 0
 zero_of_test z h = grind (arith, ints)

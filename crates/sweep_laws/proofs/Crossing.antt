@@ -11,10 +11,13 @@ use Rattle.plane_spec.specs.Fractions.{Fraction, is_before}
 use Rattle.sight_spec.specs.Sight.{crosses, starts_into_wall}
 use Rattle.sweep_laws.specs.Order.{Seen, spans, hit_of, side_of, seen_of, crossed_where}
 use Rattle.sweep_laws.specs.Fronts.{seen_at, IsFront, IsBare}
-use Rattle.sweep_laws.proofs.Ints.{nonneg_product, times_minus}
-use Rattle.sweep_laws.proofs.Fronts.{by_cases, turned, both_of}
+use Rattle.sweep_laws.proofs.Fronts.{by_cases, both_of}
 use Rattle.sweep_laws.proofs.Views.{crosses_where}
 use Rattle.sweep_laws.proofs.Active.{den_up, by_lt}
+use Rattle.exact_geom.proofs.Turns.{cross_of_exchanged}
+use Rattle.int_laws.proofs.Ring.{product_swapped, times_minus}
+use Rattle.int_laws.proofs.Signs.{not_negative_product}
+use Rattle.int_laws.proofs.Tests.{agree}
 
 -- ---- some element of a list
 
@@ -48,13 +51,7 @@ some_of {X} test (x ∷ xs) d h = by_cases (test x)
 
 -- a test of a whole list, by its elements
 pub any_is : {X : Type 0} (test : X → Bool) (xs : List X) (d : X) (r : Bool) → (Some_of test xs d → r ≡ true) → (r ≡ true → Some_of test xs d) → list_any test xs ≡ r
-any_is test xs d r f g = iff_true (list_any test xs) r (λ h. f (some_of test xs d h)) (λ h. any_at test xs d (g h))
-  where
-    iff_true : (a b : Bool) → (a ≡ true → b ≡ true) → (b ≡ true → a ≡ true) → a ≡ b
-    iff_true true true f g = refl
-    iff_true true false f g = sym (f refl)
-    iff_true false true f g = g refl
-    iff_true false false f g = refl
+any_is test xs d r f g = agree (list_any test xs) r (λ h. f (some_of test xs d h)) (λ h. any_at test xs d (g h))
 
 pub mapped_at : {X Y : Type 0} (f : X → Y) (xs : List X) (k : ℕ) (d : X) (e : Y) → k < length xs → get_or (map f xs) k e ≡ f (get_or xs k d)
 mapped_at f [] k d e lt = absurd (omega arith)
@@ -71,7 +68,7 @@ side_is : (n to from : ℤ) (a b : ℤ) → a ≡ neg_ℤ to → n +ℤ a -ℤ b
 side_is n to from a b h = omega (arith, ints, h)
 
 pub side_by_hit : (w : Seen) (d : Point) → side_of w d ≡ (hit_of d w).num -ℤ (hit_of d w).den
-side_by_hit w d = side_is (cross_of w.from w.to) (cross_of d w.to) (cross_of w.from d) (cross_of w.to d) (cross_of w.from d) (turned d w.to)
+side_by_hit w d = side_is (cross_of w.from w.to) (cross_of d w.to) (cross_of w.from d) (cross_of w.to d) (cross_of w.from d) (cross_of_exchanged d w.to)
 
 -- a hit before one that isn't after 1 is before 1
 before_one : (a b c e : ℤ) → pos 0 <ℤ b → pos 0 <ℤ e → int_lt (a *ℤ e) (c *ℤ b) ≡ true → (c -ℤ e) ≤ℤ pos 0 → (a -ℤ b) <ℤ pos 0
@@ -80,14 +77,11 @@ before_one a b c e b_up e_up h k = by_lt_z a b (λ low. omega (arith, ints, low)
   where
     clash : b ≤ℤ a → ⊥
     clash high =
-        let p = nonneg_product (e -ℤ c) b (omega (arith, ints, k)) (omega (arith, ints, b_up)) in
-        let q = nonneg_product (a -ℤ b) e (omega (arith, ints, high)) (omega (arith, ints, e_up)) in
-        let x : (e -ℤ c) *ℤ b ≡ b *ℤ e -ℤ b *ℤ c = swap (e -ℤ c) b ∙ times_minus b e c in
-        let y : (a -ℤ b) *ℤ e ≡ e *ℤ a -ℤ e *ℤ b = swap (a -ℤ b) e ∙ times_minus e a b in
+        let p = not_negative_product (e -ℤ c) b (omega (arith, ints, k)) (omega (arith, ints, b_up)) in
+        let q = not_negative_product (a -ℤ b) e (omega (arith, ints, high)) (omega (arith, ints, e_up)) in
+        let x : (e -ℤ c) *ℤ b ≡ b *ℤ e -ℤ b *ℤ c = product_swapped (e -ℤ c) b ∙ times_minus b e c in
+        let y : (a -ℤ b) *ℤ e ≡ e *ℤ a -ℤ e *ℤ b = product_swapped (a -ℤ b) e ∙ times_minus e a b in
         omega (arith, ints, p, q, x, y, h)
-      where
-        swap : (x y : ℤ) → x *ℤ y ≡ y *ℤ x
-        swap x y = omega (arith, ints)
 
 pub front_is_behind : (d : Point) (s t : Seen) → spans d s ≡ true → spans d t ≡ true → is_before (hit_of d s) (hit_of d t) ≡ true → side_of t d ≤ℤ pos 0 → side_of s d <ℤ pos 0
 front_is_behind d s t s_spans t_spans before behind =

@@ -7,8 +7,8 @@ use Rattle.std.proofs.lemmas.Nat.{le-div, div_below}
 use Rattle.plane_spec.specs.declared.Point.{Point}
 use Rattle.plane_spec.specs.Vectors.{point, cross_of, same_point, IsWithin, IsDirection, IsDirected, is_upper, turns_left, turns_by, turns_before}
 use Rattle.sweep_laws.specs.Places.{part_of, place_of}
-use Rattle.sweep_laws.proofs.Ints.{minus_times, times_less}
 use Rattle.sweep_laws.proofs.Active.{by_lt}
+use Rattle.int_laws.proofs.Ring.{neg_times, times_neg}
 
 yes : (m n : ℕ) → m < n → nat_lt m n ≡ true
 yes m n h = grind arith
@@ -249,23 +249,23 @@ less_by z m n h = by_lt n m (λ lt. up z m n h lt ∙ sym (yes n m lt)) (λ le. 
 first_cross : (a b c e : ℕ) → cross_at (pos a) (pos b) (pos c) (pos e) ≡ pos (e * a) -ℤ pos (b * c)
 first_cross a b c e = omega (arith, ints)
 second_cross : (a b c e : ℕ) → cross_at (neg_ℤ (pos b)) (pos a) (neg_ℤ (pos e)) (pos c) ≡ pos (e * a) -ℤ pos (b * c)
-second_cross a b c e = let f = minus_times (pos b) (pos c) in let g = times_less (pos e) (pos a) in omega (arith, ints, f, g)
+second_cross a b c e = let f = neg_times (pos b) (pos c) in let g = times_neg (pos a) (pos e) in omega (arith, ints, f, g)
 third_cross : (a b c e : ℕ) → cross_at (neg_ℤ (pos a)) (neg_ℤ (pos b)) (neg_ℤ (pos c)) (neg_ℤ (pos e)) ≡ pos (e * a) -ℤ pos (b * c)
 third_cross a b c e =
-    let f = minus_times (pos a) (neg_ℤ (pos e)) in let g = times_less (pos e) (pos a) in
-    let h = minus_times (pos b) (neg_ℤ (pos c)) in let i = times_less (pos c) (pos b) in omega (arith, ints, f, g, h, i)
+    let f = neg_times (pos a) (neg_ℤ (pos e)) in let g = times_neg (pos a) (pos e) in
+    let h = neg_times (pos b) (neg_ℤ (pos c)) in let i = times_neg (pos b) (pos c) in omega (arith, ints, f, g, h, i)
 fourth_cross : (a b c e : ℕ) → cross_at (pos b) (neg_ℤ (pos a)) (pos e) (neg_ℤ (pos c)) ≡ pos (e * a) -ℤ pos (b * c)
-fourth_cross a b c e = let f = times_less (pos c) (pos b) in let g = minus_times (pos a) (pos e) in omega (arith, ints, f, g)
+fourth_cross a b c e = let f = times_neg (pos b) (pos c) in let g = neg_times (pos a) (pos e) in omega (arith, ints, f, g)
 
 -- a quarter turn on
 on_first : (a b c e : ℕ) → cross_at (pos a) (pos b) (neg_ℤ (pos e)) (pos c) ≡ pos (a * c + b * e) -ℤ pos 0
-on_first a b c e = let f = times_less (pos e) (pos b) in omega (arith, ints, f)
+on_first a b c e = let f = times_neg (pos b) (pos e) in omega (arith, ints, f)
 on_third : (a b c e : ℕ) → cross_at (neg_ℤ (pos a)) (neg_ℤ (pos b)) (pos e) (neg_ℤ (pos c)) ≡ pos (a * c + b * e) -ℤ pos 0
-on_third a b c e = let f = minus_times (pos a) (neg_ℤ (pos c)) in let g = times_less (pos c) (pos a) in let h = minus_times (pos b) (pos e) in omega (arith, ints, f, g, h)
+on_third a b c e = let f = neg_times (pos a) (neg_ℤ (pos c)) in let g = times_neg (pos a) (pos c) in let h = neg_times (pos b) (pos e) in omega (arith, ints, f, g, h)
 off_second : (a b c e : ℕ) → cross_at (neg_ℤ (pos b)) (pos a) (pos c) (pos e) ≡ pos 0 -ℤ pos (b * e + a * c)
-off_second a b c e = let f = minus_times (pos b) (pos e) in omega (arith, ints, f)
+off_second a b c e = let f = neg_times (pos b) (pos e) in omega (arith, ints, f)
 off_fourth : (a b c e : ℕ) → cross_at (pos b) (neg_ℤ (pos a)) (neg_ℤ (pos c)) (neg_ℤ (pos e)) ≡ pos 0 -ℤ pos (b * e + a * c)
-off_fourth a b c e = let f = times_less (pos e) (pos b) in let g = minus_times (pos a) (neg_ℤ (pos c)) in let h = times_less (pos c) (pos a) in omega (arith, ints, f, g, h)
+off_fourth a b c e = let f = times_neg (pos b) (pos e) in let g = neg_times (pos a) (neg_ℤ (pos c)) in let h = times_neg (pos a) (pos c) in omega (arith, ints, f, g, h)
 
 some_product : (a b c e : ℕ) → 0 < a → 0 < c → nat_lt 0 (a * c + b * e) ≡ true
 some_product a b c e h k = yes 0 (a * c + b * e) (let g = le_times 1 a c (omega (arith, h)) in omega (arith, g, k))

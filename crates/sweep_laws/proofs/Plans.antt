@@ -25,9 +25,10 @@ use Rattle.plan_laws.proofs.Pairs.{each_two_cons}
 use Rattle.plan_laws.proofs.Parts.{SoundParts, parts_of_sound, ObstacleParts, parts_of_obstacles, ScreenParts, parts_of_screens}
 use Rattle.sweep_laws.specs.Order.{Seen, spans, seen_of}
 use Rattle.sweep_laws.specs.Standing.{follows, stands, stand_beside}
-use Rattle.sweep_laws.proofs.Fronts.{turned}
 use Rattle.sweep_laws.proofs.Beside.{beside_join_first, beside_each, each_two_join, each_two_each, beside_by_columns, clear_stands, clear_beside, clear_of, polygon_stands}
 use Rattle.sweep_laws.proofs.Standing.{MayStand, clear, next, prev, BothApart, ways_of, standing_apart}
+use Rattle.exact_geom.proofs.Turns.{cross_of_exchanged}
+use Rattle.int_laws.proofs.Tests.{tested_equal}
 
 -- ---- the edges of a plan, whichever way they are directed
 
@@ -163,8 +164,8 @@ seen_turned p e =
     let m = cross_of (vector p e.b) (vector p e.a) in
     let a : Seen = record { from = vector p e.a; to = vector p e.b } in
     let b : Seen = record { from = vector p e.b; to = vector p e.a } in
-    ap (λ t. cond t (Some b) (cond (int_lt m (pos 0)) (Some a) None)) (up_down n m (turned (vector p e.a) (vector p e.b)))
-    ∙ ap (λ t. cond (int_lt n (pos 0)) (Some b) (cond t (Some a) None)) (down_up n m (turned (vector p e.a) (vector p e.b)))
+    ap (λ t. cond t (Some b) (cond (int_lt m (pos 0)) (Some a) None)) (up_down n m (cross_of_exchanged (vector p e.a) (vector p e.b)))
+    ∙ ap (λ t. cond (int_lt n (pos 0)) (Some b) (cond t (Some a) None)) (down_up n m (cross_of_exchanged (vector p e.a) (vector p e.b)))
     ∙ either_order (int_lt (pos 0) n) (int_lt n (pos 0)) b a (one_way n)
   where
     up_down : (n m : ℤ) → m ≡ neg_ℤ n → int_lt (pos 0) m ≡ int_lt n (pos 0)
@@ -227,13 +228,10 @@ pub same_length : {X Y : Type 0} (f : X → Y) (xs : List X) → length (map f x
 same_length f [] = refl
 same_length f (x ∷ xs) = ap suc (same_length f xs)
 
-number_same : (x y : ℤ) → int_eq x y ≡ true → x ≡ y
-number_same x y h = grind (arith, ints)
-
 pub points_same : (p q : Point) → same_point p q ≡ true → p ≡ q
 points_same p q h =
     let parts = and_parts (int_eq p.x q.x) (int_eq p.y q.y) h in
-    ap (λ t. point t p.y) (number_same p.x q.x parts.0) ∙ ap (λ t. point q.x t) (number_same p.y q.y parts.1)
+    ap (λ t. point t p.y) (tested_equal p.x q.x parts.0) ∙ ap (λ t. point q.x t) (tested_equal p.y q.y parts.1)
 
 stand_cases : {P : Type 0} (t a b : Bool) → (not t || (a || b)) ≡ true → (t ≡ false → P) → (a ≡ true → P) → (b ≡ true → P) → P
 stand_cases false a b h f g k = f refl

@@ -27,10 +27,10 @@ use Rattle.sweep_laws.proofs.Rays.{front_hit, any_found, none_before_front, pass
 use Rattle.sweep_laws.proofs.Points.{seen_first}
 use Rattle.sweep_laws.proofs.Views.{hit_is_where}
 use Rattle.sweep_laws.proofs.Active.{den_up}
-use Rattle.int_laws.proofs.Ring.{dot_times, dot_times_across}
-use Rattle.int_laws.proofs.Signs.{zero_factor}
-use Rattle.sweep_laws.proofs.Ints.{nonneg_product, times_minus}
+use Rattle.int_laws.proofs.Ring.{dot_times, dot_times_across, times_minus}
+use Rattle.int_laws.proofs.Signs.{zero_factor, not_negative_product, tested_positive}
 use Rattle.sweep_laws.proofs.Plans.{points_same}
+use Rattle.int_laws.proofs.Tests.{agree, less_tested, not_less}
 
 -- ---- tests of lists
 
@@ -230,12 +230,6 @@ zero_of z h = grind (arith, ints)
 both : (a b : Bool) → a ≡ true → b ≡ true → (a && b) ≡ true
 both a b h k = grind arith
 
-iff_true : (a b : Bool) → (a ≡ true → b ≡ true) → (b ≡ true → a ≡ true) → a ≡ b
-iff_true true true f g = refl
-iff_true true false f g = sym (f refl)
-iff_true false true f g = g refl
-iff_true false false f g = refl
-
 -- a corner at the station stands across no direction, and at no distance
 own_zero : (p d : Point) (c : Corner) → same_point c.here p ≡ true → (cross_of d (vector p c.here) ≡ pos 0) × (dot_of d (vector p c.here) ≡ pos 0)
 own_zero p d c h = products d.x d.y (c.here.x -ℤ p.x) (c.here.y -ℤ p.y) (nothing c.here.x p.x (ap (λ t. t.x) same)) (nothing c.here.y p.y (ap (λ t. t.y) same))
@@ -257,7 +251,7 @@ unfolding corner_hit
 corner_hit_is p d c some =
     let v = vector p c.here in
     ap (λ t. cond t (Some (corner_time p d c)) None)
-      (iff_true (int_eq (cross_of d v) (pos 0) && (int_le (pos 0) (dot_of d v) && is_in_cone c d)) (is_own p d c || is_ahead p d c)
+      (agree (int_eq (cross_of d v) (pos 0) && (int_le (pos 0) (dot_of d v) && is_in_cone c d)) (is_own p d c || is_ahead p d c)
         (λ h. let one = both_of (int_eq (cross_of d v) (pos 0)) (int_le (pos 0) (dot_of d v) && is_in_cone c d) h in
             let two = both_of (int_le (pos 0) (dot_of d v)) (is_in_cone c d) one.1 in
             by_cases (int_lt (pos 0) (dot_of d v))
@@ -285,23 +279,14 @@ corner_hit_is p d c some =
     or_rest a b h k = grind arith
 
 zero_before : (k n : ℤ) → pos 0 <ℤ k → is_before (whole (pos 0)) (record { num = k; den = n }) ≡ true
-zero_before k n h = less (pos 0 *ℤ n) (k *ℤ pos 1) (omega (arith, ints, h))
-  where
-    less : (x y : ℤ) → x <ℤ y → int_lt x y ≡ true
-    less x y h = grind (arith, ints)
-
-not_less : (x y : ℤ) → y ≤ℤ x → int_lt x y ≡ false
-not_less x y h = grind (arith, ints)
+zero_before k n h = less_tested (pos 0 *ℤ n) (k *ℤ pos 1) (omega (arith, ints, h))
 
 ahead_up : (p d : Point) (corners : List Corner) (v : Point) → IsNearest p d (is_ahead p d) corners v → pos 0 <ℤ dot_of d v
 ahead_up p d corners v n =
     let c = get_or corners n.place no_corner in
     let one = both_of (stands_in p d c.here) (is_in_cone c d) n.passes in
     let two = both_of (int_eq (cross_of d (vector p c.here)) (pos 0)) (int_lt (pos 0) (dot_of d (vector p c.here))) one.0 in
-    subst (λ t. pos 0 <ℤ dot_of d t) n.at (less_of (dot_of d (vector p c.here)) two.1)
-  where
-    less_of : (z : ℤ) → int_lt (pos 0) z ≡ true → pos 0 <ℤ z
-    less_of z h = omega (arith, ints, h)
+    subst (λ t. pos 0 <ℤ dot_of d t) n.at (tested_positive (dot_of d (vector p c.here)) two.1)
 
 -- each hit of a corner is at 0 or later
 corner_later : (p d : Point) (c : Corner) → pos 0 <ℤ dot_of d d → passes_hit (λ k. is_before k (whole (pos 0))) (corner_hit p d c) ≡ false
@@ -357,7 +342,7 @@ ahead_least p d corners v some own n =
       where
         grows : (x y z : ℤ) → pos 0 <ℤ z → x ≤ℤ y → (x *ℤ z) ≤ℤ (y *ℤ z)
         grows x y z h k =
-            let g = nonneg_product z (y -ℤ x) (omega (arith, ints, h)) (omega (arith, ints, k)) in
+            let g = not_negative_product z (y -ℤ x) (omega (arith, ints, h)) (omega (arith, ints, k)) in
             let e = times_minus z y x in
             omega (arith, ints, g, e)
     by_ahead false k f = refl

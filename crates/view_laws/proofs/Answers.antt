@@ -19,7 +19,6 @@ use Rattle.sweep_laws.specs.Fronts.{IsFront}
 use Rattle.sweep_laws.specs.Groups.{stands_in, is_ahead, is_behind, back_of}
 use Rattle.sweep_laws.specs.Parts.{IsFirst, IsNearestOrNone, begins_blocked, is_hidden, is_nearer, is_up_to}
 use Rattle.sweep_laws.proofs.Fronts.{both_of}
-use Rattle.sweep_laws.proofs.Ints.{nonneg_product}
 use Rattle.sweep_laws.proofs.Crossing.{nowhere}
 use Rattle.sweep_laws.proofs.Facing.{hides_itself}
 use Rattle.sweep_laws.proofs.Points.{first_hides, seen_first, sight_is}
@@ -27,6 +26,8 @@ use Rattle.sweep_laws.proofs.Rays.{near_wall_is}
 use Rattle.view_laws.specs.Views.{length_of, front_of, hides_at, Told, IsTold, is_hidden_by, is_before_end_of, is_up_to_end_of, is_seen_by, number_by}
 use Rattle.view_laws.proofs.Lengths.{IsAlong, hit_before}
 use Rattle.view_laws.proofs.Nearest.{Really, unmet, there, beyond, really, lengths_tell, lengths_tell_up_to}
+use Rattle.int_laws.proofs.Signs.{not_negative_product, tested_positive}
+use Rattle.int_laws.proofs.Tests.{tested_at_most, tested_less}
 
 -- ---- the first, as it is told
 
@@ -69,25 +70,19 @@ pub ahead_along : (p d : Point) (c : Corner) → is_ahead p d c ≡ true → IsA
 ahead_along p d c h =
     let one = both_of (stands_in p d c.here) (is_in_cone c d) h in
     let two = both_of (int_eq (cross_of d (vector p c.here)) (pos 0)) (int_lt (pos 0) (dot_of d (vector p c.here))) one.0 in
-    record { line = zero_of (cross_of d (vector p c.here)) two.0; ahead = less_of (dot_of d (vector p c.here)) two.1 }
+    record { line = zero_of (cross_of d (vector p c.here)) two.0; ahead = tested_positive (dot_of d (vector p c.here)) two.1 }
   where
     zero_of : (z : ℤ) → int_eq z (pos 0) ≡ true → z ≡ pos 0
     zero_of z h = grind (arith, ints)
-
-    less_of : (z : ℤ) → int_lt (pos 0) z ≡ true → pos 0 <ℤ z
-    less_of z h = omega (arith, ints, h)
 
 pub behind_along : (p d : Point) (c : Corner) → is_behind p d c ≡ true → IsAlong d (vector p c.here)
 behind_along p d c h =
     let one = both_of (stands_in p d c.here) (is_in_cone c (back_of d)) h in
     let two = both_of (int_eq (cross_of d (vector p c.here)) (pos 0)) (int_lt (pos 0) (dot_of d (vector p c.here))) one.0 in
-    record { line = zero_of (cross_of d (vector p c.here)) two.0; ahead = less_of (dot_of d (vector p c.here)) two.1 }
+    record { line = zero_of (cross_of d (vector p c.here)) two.0; ahead = tested_positive (dot_of d (vector p c.here)) two.1 }
   where
     zero_of : (z : ℤ) → int_eq z (pos 0) ≡ true → z ≡ pos 0
     zero_of z h = grind (arith, ints)
-
-    less_of : (z : ℤ) → int_lt (pos 0) z ≡ true → pos 0 <ℤ z
-    less_of z h = omega (arith, ints, h)
 
 -- a point beyond what is behind the first is hidden by the first
 end_past : (d v : Point) (s : Seen) → IsDirected d → IsAlong d v → spans d s ≡ true → int_lt (side_of s v) (pos 0) ≡ true → dot_of d v ≤ℤ dot_of d d → int_lt (side_of s d) (pos 0) ≡ true
@@ -107,18 +102,15 @@ end_past d v s some along spanned past near =
     behind o s v w z h near s_up w_up e = by_lt_z o w
         (λ lt. less z (omega (arith, ints, e, lt)))
         (λ le. absurd (
-        let a = nonneg_product w (s -ℤ v) (omega (arith, ints, w_up)) (omega (arith, ints, near)) in
+        let a = not_negative_product w (s -ℤ v) (omega (arith, ints, w_up)) (omega (arith, ints, near)) in
         let b = times_minus w s v in
-        let c = nonneg_product s (o -ℤ w) (omega (arith, ints, s_up)) (omega (arith, ints, le)) in
+        let c = not_negative_product s (o -ℤ w) (omega (arith, ints, s_up)) (omega (arith, ints, le)) in
         let f = times_minus s o w in
-        let g = less_of (o *ℤ s) (v *ℤ w) h in
+        let g = tested_less (o *ℤ s) (v *ℤ w) h in
         omega (arith, ints, a, b, c, f, g)))
       where
         less : (z : ℤ) → z <ℤ pos 0 → int_lt z (pos 0) ≡ true
         less z h = grind (arith, ints)
-
-        less_of : (x y : ℤ) → int_lt x y ≡ true → x <ℤ y
-        less_of x y h = omega (arith, ints, h)
 
 or_first : (a b : Bool) → a ≡ true → (a || b) ≡ true
 or_first a b h = grind arith
@@ -186,9 +178,6 @@ up_to_candidate p d test corners first told hidden some hides (there v n along e
     record { corner = Some v; is = n; agrees = ap (λ t. hidden || t) (lengths_tell_up_to d v some along) ∙ ap (λ t. hidden || is_up_to_end_of t d) (sym e) }
 up_to_candidate p d test corners first told hidden some hides (beyond v f n along e h far) =
     record { corner = Some v; is = n; agrees = either hidden (int_le (dot_of d v) (dot_of d d)) (is_up_to_end_of told d) by_near (λ k. by_near (lengths_tell_up_to d v some along ∙ by_told told far k)) }
-  where
-    weaker : (x y : ℤ) → int_le x y ≡ true → x ≤ℤ y
-    weaker x y h = omega (arith, ints, h)
 
     by_near : int_le (dot_of d v) (dot_of d d) ≡ true → hidden ≡ true
     by_near k = hides v f e along h (weaker (dot_of d v) (dot_of d d) k)

@@ -24,6 +24,7 @@ use Rattle.view_laws.proofs.Answers.{ahead_along, behind_along}
 use Rattle.view_laws.proofs.Without.{behind_first}
 use Rattle.view_laws.proofs.Steps.{IsBlocker}
 use Rattle.view_laws.proofs.Tellings.{AreHidden}
+use Rattle.int_laws.proofs.Signs.{positive_tested, tested_positive}
 
 -- ---- walls
 
@@ -88,14 +89,11 @@ blocker_of p w s p_in a_in b_in h =
     let a = vector p w.a in let b = vector p w.b in
     by_cases (int_lt (pos 0) (cross_of a b))
     (λ k. subst IsBlocker (some_same (record { from = a; to = b }) s (sym (ap (λ t. cond t (Some (record { from = a; to = b })) (cond (int_lt (cross_of a b) (pos 0)) (Some (record { from = b; to = a })) None)) k) ∙ h))
-    (blocker_by a b (difference_in p w.a p_in a_in) (difference_in p w.b p_in b_in) (less_of (cross_of a b) k)))
+    (blocker_by a b (difference_in p w.a p_in a_in) (difference_in p w.b p_in b_in) (tested_positive (cross_of a b) k)))
     (λ k. by_cases (int_lt (cross_of a b) (pos 0))
     (λ l. subst IsBlocker (some_same (record { from = b; to = a }) s (sym (ap (λ t. cond t (Some (record { from = a; to = b })) (cond (int_lt (cross_of a b) (pos 0)) (Some (record { from = b; to = a })) None)) k ∙ ap (λ t. cond t (Some (record { from = b; to = a })) None) l) ∙ h))
     (blocker_by b a (difference_in p w.b p_in b_in) (difference_in p w.a p_in a_in) (turned a b l)))
     (λ l. none_some s (sym (ap (λ t. cond t (Some (record { from = a; to = b })) (cond (int_lt (cross_of a b) (pos 0)) (Some (record { from = b; to = a })) None)) k ∙ ap (λ t. cond t (Some (record { from = b; to = a })) None) l) ∙ h)))
-  where
-    less_of : (z : ℤ) → int_lt (pos 0) z ≡ true → pos 0 <ℤ z
-    less_of z h = omega (arith, ints, h)
 
     turned : (a b : Point) → int_lt (cross_of a b) (pos 0) ≡ true → pos 0 <ℤ cross_of b a
     turned a b h = omega (arith, ints, h)
@@ -117,13 +115,10 @@ ArePast scene p d kept = (j : ℕ) → j < length scene.corners → kept j ≡ f
     → IsPastOne p d (blockers_of_scene scene) (vector p (get_or scene.corners j no_corner).here)
 
 along_stands : (p d x : Point) → IsAlong d (vector p x) → stands_in p d x ≡ true
-along_stands p d x a = both (int_eq (cross_of d (vector p x)) (pos 0)) (int_lt (pos 0) (dot_of d (vector p x))) (zero_is (cross_of d (vector p x)) a.line) (less_is (dot_of d (vector p x)) a.ahead)
+along_stands p d x a = both (int_eq (cross_of d (vector p x)) (pos 0)) (int_lt (pos 0) (dot_of d (vector p x))) (zero_is (cross_of d (vector p x)) a.line) (positive_tested (dot_of d (vector p x)) a.ahead)
   where
     zero_is : (z : ℤ) → z ≡ pos 0 → int_eq z (pos 0) ≡ true
     zero_is z h = grind (arith, ints)
-
-    less_is : (z : ℤ) → pos 0 <ℤ z → int_lt (pos 0) z ≡ true
-    less_is z h = grind (arith, ints)
 
     both : (a b : Bool) → a ≡ true → b ≡ true → (a && b) ≡ true
     both a b h k = grind arith

@@ -7,7 +7,7 @@ use Rattle.plane_spec.specs.declared.Corner.{Corner}
 use Rattle.plane_spec.specs.Vectors.{dot_of, vector, cross_of, turns_left, IsDirected}
 use Rattle.plane_spec.specs.Cones.{is_in_cone}
 use Rattle.int_laws.proofs.Ring.{product_swapped, times_minus}
-use Rattle.int_laws.proofs.Signs.{positive_product, positive_factor}
+use Rattle.int_laws.proofs.Signs.{positive_product, positive_factor, positive_tested, tested_positive}
 use Rattle.int_laws.proofs.Tests.{agree}
 use Rattle.sweep_laws.specs.Order.{Seen, spans, side_of, is_in_front, are_apart}
 use Rattle.sweep_laws.specs.Groups.{back_of, no_corner}
@@ -59,14 +59,8 @@ left_along a d v some along =
     same_sign : (k m x y u w : ℤ) → x ≡ neg_ℤ u → y ≡ neg_ℤ w → pos 0 <ℤ k → pos 0 <ℤ m → k *ℤ x ≡ m *ℤ y → int_lt (pos 0) u ≡ int_lt (pos 0) w
     same_sign k m x y u w x_is y_is k_up m_up e =
         agree (int_lt (pos 0) u) (int_lt (pos 0) w)
-        (λ h. test w (positive_factor w m (subst (λ t. pos 0 <ℤ t) (products ∙ product_swapped m w) (positive_product k u k_up (less u h))) m_up))
-        (λ h. test u (positive_factor u k (subst (λ t. pos 0 <ℤ t) (sym products ∙ product_swapped k u) (positive_product m w m_up (less w h))) k_up))
-      where
-        less : (z : ℤ) → int_lt (pos 0) z ≡ true → pos 0 <ℤ z
-        less z h = omega (arith, ints, h)
-
-        test : (z : ℤ) → pos 0 <ℤ z → int_lt (pos 0) z ≡ true
-        test z h = grind (arith, ints)
+        (λ h. positive_tested w (positive_factor w m (subst (λ t. pos 0 <ℤ t) (products ∙ product_swapped m w) (positive_product k u k_up (tested_positive u h))) m_up))
+        (λ h. positive_tested u (positive_factor u k (subst (λ t. pos 0 <ℤ t) (sym products ∙ product_swapped k u) (positive_product m w m_up (tested_positive w h))) k_up))
 
         products : k *ℤ u ≡ m *ℤ w
         products =

@@ -13,9 +13,9 @@ use Rattle.sight_spec.specs.Scene.{Scene, blockers_of_scene}
 use Rattle.sight_spec.specs.Stops.{stop_of}
 use Rattle.exact_geom.proofs.Circle.{dot_itself}
 use Rattle.exact_geom.proofs.Values.{same_reduced}
-use Rattle.int_laws.proofs.Ring.{product_swapped, product_grouped, times_minus}
+use Rattle.int_laws.proofs.Ring.{product_swapped, product_grouped, times_minus, product_turned}
 use Rattle.int_laws.proofs.Signs.{positive_product}
-use Rattle.int_laws.proofs.Tests.{same_test}
+use Rattle.int_laws.proofs.Tests.{same_test, equal_tested, less_tested}
 use Rattle.sweep_laws.specs.Order.{Seen, spans, hit_of}
 use Rattle.sweep_laws.specs.Fronts.{IsFront}
 use Rattle.sweep_laws.specs.Groups.{is_own, is_ahead}
@@ -76,29 +76,20 @@ one_of : (z : ℤ) → pos 0 <ℤ z → pos 1 ≤ℤ z
 one_of z h = omega (arith, ints, h)
 
 same_in_terms : (f g : Fraction) → IsSame f g → reduced f ≡ reduced g
-same_in_terms f g s = same_reduced f g (one_of f.den s.up) (one_of g.den s.up_too) (equal (f.num *ℤ g.den) (g.num *ℤ f.den) s.value)
-  where
-    equal : (x y : ℤ) → x ≡ y → int_eq x y ≡ true
-    equal x y h = grind (arith, ints)
+same_in_terms f g s = same_reduced f g (one_of f.den s.up) (one_of g.den s.up_too) (equal_tested (f.num *ℤ g.den) (g.num *ℤ f.den) s.value)
 
 -- f n < l d as g n' < l d'
 same_before : (f g h : Fraction) → IsSame f g → is_before f h ≡ is_before g h
 same_before f g h s =
     sym (same_test (f.num *ℤ h.den) (h.num *ℤ f.den) g.den (one_of g.den s.up_too))
-    ∙ ap (λ t. int_lt t ((h.num *ℤ f.den) *ℤ g.den)) (turn f.num h.den g.den ∙ ap (λ t. t *ℤ h.den) s.value ∙ turn g.num f.den h.den)
-    ∙ ap (λ t. int_lt ((g.num *ℤ h.den) *ℤ f.den) t) (turn h.num f.den g.den)
+    ∙ ap (λ t. int_lt t ((h.num *ℤ f.den) *ℤ g.den)) (product_turned f.num h.den g.den ∙ ap (λ t. t *ℤ h.den) s.value ∙ product_turned g.num f.den h.den)
+    ∙ ap (λ t. int_lt ((g.num *ℤ h.den) *ℤ f.den) t) (product_turned h.num f.den g.den)
     ∙ same_test (g.num *ℤ h.den) (h.num *ℤ g.den) f.den (one_of f.den s.up)
-  where
-    turn : (x y z : ℤ) → (x *ℤ y) *ℤ z ≡ (x *ℤ z) *ℤ y
-    turn x y z = product_grouped x y z ∙ ap (λ t. x *ℤ t) (product_swapped y z) ∙ sym (product_grouped x z y)
 
 -- ---- the corner, as it is told
 
 zero_later : (n m : ℤ) → pos 0 <ℤ n → is_before (whole (pos 0)) (record { num = n; den = m }) ≡ true
-zero_later n m h = less (pos 0 *ℤ m) (n *ℤ pos 1) (omega (arith, ints, h))
-  where
-    less : (x y : ℤ) → x <ℤ y → int_lt x y ≡ true
-    less x y h = grind (arith, ints)
+zero_later n m h = less_tested (pos 0 *ℤ m) (n *ℤ pos 1) (omega (arith, ints, h))
 
 corner_same : (d v : Point) → IsDirected d → IsAlong d v → IsSame (record { num = dot_of d v; den = dot_of d d }) (record { num = pos (length_of v); den = pos (length_of d) })
 corner_same d v some along = record { up = dot_itself d some; up_too = above (pos (length_of d)) (some_length d some); value = in_proportion d v some along }
@@ -128,10 +119,7 @@ stays l f h = ap (λ t. cond t (Some f) (Some l)) (one_way l f h)
 -- a value that isn't less than one that is later is later
 later_on : (l f g : Fraction) → pos 0 <ℤ l.den → pos 0 <ℤ f.den → g.den ≡ f.den → f.num ≤ℤ g.num → is_before l f ≡ true → is_before l g ≡ true
 later_on l f g l_up f_up e le h = subst (λ t. int_lt (l.num *ℤ t) (g.num *ℤ l.den) ≡ true) (sym e)
-    (less (l.num *ℤ f.den) (g.num *ℤ l.den) (chain (l.num *ℤ f.den) (f.num *ℤ l.den) (g.num *ℤ l.den) h (grows f.num g.num l.den l_up le)))
-  where
-    less : (x y : ℤ) → x <ℤ y → int_lt x y ≡ true
-    less x y h = grind (arith, ints)
+    (less_tested (l.num *ℤ f.den) (g.num *ℤ l.den) (chain (l.num *ℤ f.den) (f.num *ℤ l.den) (g.num *ℤ l.den) h (grows f.num g.num l.den l_up le)))
 
     chain : (x y z : ℤ) → int_lt x y ≡ true → y ≤ℤ z → x <ℤ z
     chain x y z h k = omega (arith, ints, h, k)
@@ -144,12 +132,9 @@ later_on l f g l_up f_up e le h = subst (λ t. int_lt (l.num *ℤ t) (g.num *ℤ
 same_after : (l f g : Fraction) → IsSame f g → is_before l f ≡ true → is_before l g ≡ true
 same_after l f g s h =
     sym (sym (same_test (l.num *ℤ f.den) (f.num *ℤ l.den) g.den (one_of g.den s.up_too))
-    ∙ ap (λ t. int_lt t ((f.num *ℤ l.den) *ℤ g.den)) (turn l.num f.den g.den)
-    ∙ ap (λ t. int_lt ((l.num *ℤ g.den) *ℤ f.den) t) (turn f.num l.den g.den ∙ ap (λ t. t *ℤ l.den) s.value ∙ turn g.num f.den l.den)
+    ∙ ap (λ t. int_lt t ((f.num *ℤ l.den) *ℤ g.den)) (product_turned l.num f.den g.den)
+    ∙ ap (λ t. int_lt ((l.num *ℤ g.den) *ℤ f.den) t) (product_turned f.num l.den g.den ∙ ap (λ t. t *ℤ l.den) s.value ∙ product_turned g.num f.den l.den)
     ∙ same_test (l.num *ℤ g.den) (g.num *ℤ l.den) f.den (one_of f.den s.up)) ∙ h
-  where
-    turn : (x y z : ℤ) → (x *ℤ y) *ℤ z ≡ (x *ℤ z) *ℤ y
-    turn x y z = product_grouped x y z ∙ ap (λ t. x *ℤ t) (product_swapped y z) ∙ sym (product_grouped x z y)
 
 hit_up : (d : Point) (s : Seen) → spans d s ≡ true → pos 0 <ℤ (cross_of d s.to +ℤ cross_of s.from d)
 hit_up d s h = let two = both_of (int_lt (pos 0) (cross_of s.from d)) (int_lt (pos 0) (cross_of d s.to)) h in sum (cross_of d s.to) (cross_of s.from d) two.1 two.0

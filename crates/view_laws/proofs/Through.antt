@@ -23,6 +23,7 @@ use Rattle.sweep_laws.proofs.Plans.{edges_of_plan, two_at, may_of, same_length, 
 use Rattle.sweep_laws.proofs.Crossing.{mapped_at, nowhere, some_same}
 use Rattle.view_laws.proofs.Endings.{none_some}
 use Rattle.view_laws.proofs.Bodies.{by_ends}
+use Rattle.int_laws.proofs.Signs.{positive_tested}
 
 -- the point is on the segment, at none of its ends
 record IsWithinOne (c x y : Point) : Type 0 where
@@ -75,10 +76,7 @@ passes_at p c f s h spanned on =
     (λ l. none_some s (sym (ap (λ t. cond t (Some (record { from = a; to = b })) (cond (int_lt (cross_of a b) (pos 0)) (Some (record { from = b; to = a })) None)) k ∙ ap (λ t. cond t (Some (record { from = b; to = a })) None) l) ∙ h)))
   where
     turned : (a b : Point) → int_lt (cross_of a b) (pos 0) ≡ true → int_lt (pos 0) (cross_of b a) ≡ true
-    turned a b h = test (cross_of b a) (omega (arith, ints, h))
-      where
-        test : (z : ℤ) → pos 0 <ℤ z → int_lt (pos 0) z ≡ true
-        test z h = grind (arith, ints)
+    turned a b h = positive_tested (cross_of b a) (omega (arith, ints, h))
 
 -- ---- edges
 

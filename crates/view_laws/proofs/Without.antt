@@ -7,25 +7,20 @@ use Rattle.plane_spec.specs.Vectors.{cross_of, dot_of, IsDirected}
 use Rattle.plane_spec.specs.Fractions.{is_before}
 use Rattle.sight_spec.specs.Scene.{Scene, blockers_of_scene}
 use Rattle.exact_geom.proofs.Circle.{dot_itself}
-use Rattle.int_laws.proofs.Ring.{product_swapped, times_minus}
-use Rattle.int_laws.proofs.Signs.{positive_product}
+use Rattle.int_laws.proofs.Ring.{product_swapped, times_minus, neg_times}
+use Rattle.int_laws.proofs.Signs.{positive_product, tested_positive}
 use Rattle.sweep_laws.specs.Order.{Seen, spans, hit_of, side_of}
 use Rattle.sweep_laws.specs.Fronts.{seen_at}
 use Rattle.sweep_laws.specs.Parts.{IsFirst}
-use Rattle.sweep_laws.proofs.Fronts.{by_cases, both_of, tested, four_of, sides_are}
+use Rattle.sweep_laws.proofs.Fronts.{by_cases, both_of, four_of, sides_are}
 use Rattle.sweep_laws.proofs.Active.{before_chain, den_up}
 use Rattle.sweep_laws.proofs.Crossing.{by_same, some_same}
 use Rattle.view_laws.specs.Kept.{IsKeptFirst, AreCovered}
 use Rattle.view_laws.specs.Views.{is_past_first}
 use Rattle.view_laws.proofs.Lengths.{IsAlong, alike_of, scaled, hit_before, past_of_hit}
+use Rattle.int_laws.proofs.Tests.{less_tested, tested_less}
 
 -- ---- covers
-
-less : (x y : ℤ) → x <ℤ y → int_lt x y ≡ true
-less x y h = grind (arith, ints)
-
-less_of : (x y : ℤ) → int_lt x y ≡ true → x <ℤ y
-less_of x y h = omega (arith, ints, h)
 
 -- a wall with both ends strictly behind the line of another is hit after it
 pub cover_before : (d : Point) (cover w : Seen) → spans d w ≡ true → int_lt (side_of cover w.from) (pos 0) ≡ true → int_lt (side_of cover w.to) (pos 0) ≡ true → is_before (hit_of d cover) (hit_of d w) ≡ true
@@ -33,7 +28,7 @@ cover_before d cover w spanned from_past to_past =
     let two = both_of (int_lt (pos 0) (cross_of w.from d)) (int_lt (pos 0) (cross_of d w.to)) spanned in
     falls (cross_of d w.to) (cross_of w.from d) (side_of cover w.from) (side_of cover w.to)
     (cross_of cover.from cover.to *ℤ (cross_of d w.to +ℤ cross_of w.from d)) (cross_of w.from w.to *ℤ (cross_of d cover.to +ℤ cross_of cover.from d))
-    (tested _ two.1) (tested _ two.0) (less_of _ _ from_past) (less_of _ _ to_past) (sides_are d w cover)
+    (tested_positive _ two.1) (tested_positive _ two.0) (tested_less _ _ from_past) (tested_less _ _ to_past) (sides_are d w cover)
   where
     falls : (a b x y p q : ℤ) → pos 0 <ℤ a → pos 0 <ℤ b → x <ℤ pos 0 → y <ℤ pos 0 → a *ℤ x +ℤ b *ℤ y ≡ p -ℤ q → int_lt p q ≡ true
     falls a b x y p q a_up b_up x_down y_down e =
@@ -41,7 +36,7 @@ cover_before d cover w spanned from_past to_past =
         let g = positive_product b (pos 0 -ℤ y) b_up (omega (arith, ints, y_down)) in
         let i = times_minus a (pos 0) x in
         let j = times_minus b (pos 0) y in
-        less p q (omega (arith, ints, e, f, g, i, j))
+        less_tested p q (omega (arith, ints, e, f, g, i, j))
 
 clash : {P : Type 0} (b : Bool) → b ≡ true → b ≡ false → P
 clash b h k = absurd (grind arith)
@@ -86,7 +81,7 @@ behind_first scene p d v (Some f) k cover front some along within seen spanned b
 pub right_of_arc : (a d : Point) (w : Seen) → pos 0 <ℤ cross_of w.from w.to → pos 0 ≤ℤ cross_of a d → cross_of a w.from <ℤ pos 0 → cross_of a w.to <ℤ pos 0 → spans d w ≡ false
 right_of_arc a d w up left from_right to_right = by_cases (spans d w)
     (λ h. let two = both_of (int_lt (pos 0) (cross_of w.from d)) (int_lt (pos 0) (cross_of d w.to)) h in
-    absurd (against (cross_of a w.from) (cross_of d w.to) (cross_of a w.to) (cross_of w.from d) (cross_of a d) (cross_of w.from w.to) from_right (tested _ two.1) to_right (tested _ two.0) left up (four_of a w.from d w.to)))
+    absurd (against (cross_of a w.from) (cross_of d w.to) (cross_of a w.to) (cross_of w.from d) (cross_of a d) (cross_of w.from w.to) from_right (tested_positive _ two.1) to_right (tested_positive _ two.0) left up (four_of a w.from d w.to)))
     (λ h. h)
   where
     against : (x m y n l o : ℤ) → x <ℤ pos 0 → pos 0 <ℤ m → y <ℤ pos 0 → pos 0 <ℤ n → pos 0 ≤ℤ l → pos 0 <ℤ o → x *ℤ m +ℤ y *ℤ n ≡ l *ℤ o → ⊥
@@ -107,7 +102,7 @@ right_of_arc a d w up left from_right to_right = by_cases (spans d w)
 pub left_of_arc : (a d : Point) (w : Seen) → pos 0 <ℤ cross_of w.from w.to → cross_of a d ≤ℤ pos 0 → pos 0 <ℤ cross_of a w.from → pos 0 <ℤ cross_of a w.to → spans d w ≡ false
 left_of_arc a d w up right from_left to_left = by_cases (spans d w)
     (λ h. let two = both_of (int_lt (pos 0) (cross_of w.from d)) (int_lt (pos 0) (cross_of d w.to)) h in
-    absurd (against (cross_of a w.from) (cross_of d w.to) (cross_of a w.to) (cross_of w.from d) (cross_of a d) (cross_of w.from w.to) from_left (tested _ two.1) to_left (tested _ two.0) right up (four_of a w.from d w.to)))
+    absurd (against (cross_of a w.from) (cross_of d w.to) (cross_of a w.to) (cross_of w.from d) (cross_of a d) (cross_of w.from w.to) from_left (tested_positive _ two.1) to_left (tested_positive _ two.0) right up (four_of a w.from d w.to)))
     (λ h. h)
   where
     against : (x m y n l o : ℤ) → pos 0 <ℤ x → pos 0 <ℤ m → pos 0 <ℤ y → pos 0 <ℤ n → l ≤ℤ pos 0 → pos 0 <ℤ o → x *ℤ m +ℤ y *ℤ n ≡ l *ℤ o → ⊥
@@ -144,13 +139,6 @@ none_right a d v some left right along =
 
 pub none_left : (a d v : Point) → IsDirected d → cross_of a d ≤ℤ pos 0 → pos 0 <ℤ cross_of a v → IsAlong d v → ⊥
 none_left a d v some right left along = none_right (record { x = neg_ℤ a.x; y = neg_ℤ a.y }) d v some (up (cross_of (record { x = neg_ℤ a.x; y = neg_ℤ a.y }) d) (cross_of a d) (flip a d) right) (down (cross_of (record { x = neg_ℤ a.x; y = neg_ℤ a.y }) v) (cross_of a v) (flip a v) left) along
-  where
-    minus_product : (x y : ℤ) → neg_ℤ x *ℤ y ≡ neg_ℤ (x *ℤ y)
-    minus_product x y =
-        let e : neg_ℤ x ≡ pos 0 -ℤ x = omega (arith, ints) in
-        let f : neg_ℤ x *ℤ y ≡ y *ℤ (pos 0 -ℤ x) = ap (λ t. t *ℤ y) e ∙ product_swapped (pos 0 -ℤ x) y in
-        let g = times_minus y (pos 0) x in
-        omega (arith, ints, f, g)
 
     flip : (a d : Point) → cross_of (record { x = neg_ℤ a.x; y = neg_ℤ a.y }) d ≡ neg_ℤ (cross_of a d)
     flip a d = let e = minus_product a.x d.y in let f = minus_product a.y d.x in omega (arith, ints, e, f)
