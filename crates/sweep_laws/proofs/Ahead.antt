@@ -12,7 +12,6 @@ use Rattle.plane_spec.specs.Cones.{is_in_cone}
 use Rattle.sight_spec.specs.Sight.{corner_stops, corner_blocks}
 use Rattle.list_laws.proofs.Tests.{list_any_or, list_any_agree}
 use Rattle.sweep_laws.specs.Groups.{back_of, stands_in, is_own, is_ahead, is_behind, no_corner, IsNearest}
-use Rattle.sweep_laws.proofs.Fronts.{by_cases, both_of}
 use Rattle.sweep_laws.proofs.Corners.{onward_of, stops_along}
 use Rattle.sweep_laws.proofs.Reach.{reaches}
 use Rattle.sweep_laws.proofs.Standing.{segment_turned, twin_ends}
@@ -20,21 +19,10 @@ use Rattle.sweep_laws.proofs.Plans.{points_same}
 use Rattle.sweep_laws.proofs.Crossing.{any_is}
 use Rattle.int_laws.proofs.Ring.{neg_times, product_swapped, times_minus, times_neg}
 use Rattle.int_laws.proofs.Tests.{agree, at_most_tested, less_tested, tested_at_most, tested_less}
-
-both : (a b : Bool) → a ≡ true → b ≡ true → (a && b) ≡ true
-both a b h k = grind arith
-
-not_of : (a : Bool) → not a ≡ true → a ≡ false
-not_of a h = grind arith
+use Rattle.sweep_laws.proofs.Tests.{at_most_itself, at_most_of_less, both_of, both_true, by_cases, no_difference, other_of_either, tested_not, tested_zero, zero_tested}
 
 of_not : (a : Bool) → a ≡ false → not a ≡ true
 of_not a h = ap not h
-
-zero_is : (z : ℤ) → z ≡ pos 0 → int_eq z (pos 0) ≡ true
-zero_is z h = grind (arith, ints)
-
-zero_of : (z : ℤ) → int_eq z (pos 0) ≡ true → z ≡ pos 0
-zero_of z h = grind (arith, ints)
 
 -- ---- vectors the other way
 
@@ -83,7 +71,7 @@ in_direction p q x on other =
     let v = vector p x in
     let line : cross_of v d ≡ pos 0 = sym (cross_backs v d) ∙ ap (λ t. cross_of t (back_of d)) (sym (vector_turned p x)) ∙ ap (λ t. cross_of (vector x p) t) (sym (vector_turned p q)) ∙ way.line in
     let dots : dot_of d v ≡ dot_of (vector x p) (vector q p) = dot_swapped d v ∙ sym (dot_backs v d) ∙ ap (λ t. dot_of t (back_of d)) (sym (vector_turned p x)) ∙ ap (λ t. dot_of (vector x p) t) (sym (vector_turned p q)) in
-    both (int_eq (cross_of d v) (pos 0)) (int_lt (pos 0) (dot_of d v)) (zero_is _ (cross_swapped v d line)) (less_tested (pos 0) (dot_of d v) (subst (λ t. pos 0 <ℤ t) (sym dots) way.forward))
+    both_true (int_eq (cross_of d v) (pos 0)) (int_lt (pos 0) (dot_of d v)) (zero_tested _ (cross_swapped v d line)) (less_tested (pos 0) (dot_of d v) (subst (λ t. pos 0 <ℤ t) (sym dots) way.forward))
 
 -- and nearer than the end, where it isn't the end
 before_end : (p q x : Point) → is_on_segment x p q ≡ true → same_point x q ≡ false → dot_of (vector p q) (vector p x) <ℤ dot_of (vector p q) (vector p q)
@@ -99,7 +87,7 @@ on_by p q x h near =
     let d = vector p q in
     let v = vector p x in
     let two = both_of (int_eq (cross_of d v) (pos 0)) (int_lt (pos 0) (dot_of d v)) h in
-    let line = zero_of (cross_of d v) two.0 in
+    let line = tested_zero (cross_of d v) two.0 in
     let forward = tested_less (pos 0) (dot_of d v) two.1 in
     let same = dot_swapped d v in
     reaches x p q d (cross_swapped d v line) line (some (dot_of d v) (dot_of d d) forward near) (from_zero (dot_of v d) (dot_of d v) same forward) (moved (dot_of v d) (dot_of d v) (dot_of d d) same near)
@@ -113,7 +101,7 @@ on_by p q x h near =
 
 at_start : (p q : Point) → is_on_segment p p q ≡ true
 unfolding is_on_segment
-at_start p q = both (int_eq (orient_of p q p) (pos 0)) (is_between p.x p.x q.x && is_between p.y p.y q.y) (zero_is _ (twin_ends p q)) (both (is_between p.x p.x q.x) (is_between p.y p.y q.y) (own p.x q.x) (own p.y q.y))
+at_start p q = both_true (int_eq (orient_of p q p) (pos 0)) (is_between p.x p.x q.x && is_between p.y p.y q.y) (zero_tested _ (twin_ends p q)) (both_true (is_between p.x p.x q.x) (is_between p.y p.y q.y) (own p.x q.x) (own p.y q.y))
   where
     own : (x y : ℤ) → is_between x x y ≡ true
     own x y = grind (arith, ints)
@@ -124,11 +112,9 @@ never_less z h = absurd (omega (arith, ints, h))
 not_at_start : (p d x : Point) → stands_in p d x ≡ true → same_point x p ≡ false
 not_at_start p d x h = by_cases (same_point x p)
     (λ e. let two = both_of (int_eq (cross_of d (vector p x)) (pos 0)) (int_lt (pos 0) (dot_of d (vector p x))) h in
-        absurd (none d.x d.y (x.x -ℤ p.x) (x.y -ℤ p.y) (nothing x.x p.x (ap (λ t. t.x) (points_same x p e))) (nothing x.y p.y (ap (λ t. t.y) (points_same x p e))) (tested_less (pos 0) (dot_of d (vector p x)) two.1)))
+        absurd (none d.x d.y (x.x -ℤ p.x) (x.y -ℤ p.y) (no_difference x.x p.x (ap (λ t. t.x) (points_same x p e))) (no_difference x.y p.y (ap (λ t. t.y) (points_same x p e))) (tested_less (pos 0) (dot_of d (vector p x)) two.1)))
     (λ e. e)
   where
-    nothing : (x y : ℤ) → x ≡ y → x -ℤ y ≡ pos 0
-    nothing x y e = omega (arith, ints, e)
     none : (x y u v : ℤ) → u ≡ pos 0 → v ≡ pos 0 → pos 0 <ℤ (x *ℤ u +ℤ y *ℤ v) → ⊥
     none x y u v a b h =
         let e : x *ℤ u ≡ x *ℤ pos 0 = ap (λ t. x *ℤ t) a in
@@ -150,23 +136,18 @@ before_where p q x differ =
     let v = vector p x in
     agree _ _
       (λ h. let two = both_of (not (same_point x q)) (is_on_segment x p q) h in
-          or_by (same_point x p) _ (λ other. both (stands_in p d x) (int_lt (dot_of d v) (dot_of d d)) (in_direction p q x two.1 other)
-            (less_tested (dot_of d v) (dot_of d d) (before_end p q x two.1 (not_of _ two.0)))))
+          or_by (same_point x p) _ (λ other. both_true (stands_in p d x) (int_lt (dot_of d v) (dot_of d d)) (in_direction p q x two.1 other)
+            (less_tested (dot_of d v) (dot_of d d) (before_end p q x two.1 (tested_not _ two.0)))))
       (λ h. by_cases (same_point x p)
           (λ e. let same = points_same x p e in
-              subst (λ t. (not (same_point t q) && is_on_segment t p q) ≡ true) (sym same) (both (not (same_point p q)) (is_on_segment p p q) (of_not _ differ) (at_start p q)))
-          (λ other. let two = both_of (stands_in p d x) (int_lt (dot_of d v) (dot_of d d)) (or_rest (same_point x p) _ other h) in
+              subst (λ t. (not (same_point t q) && is_on_segment t p q) ≡ true) (sym same) (both_true (not (same_point p q)) (is_on_segment p p q) (of_not _ differ) (at_start p q)))
+          (λ other. let two = both_of (stands_in p d x) (int_lt (dot_of d v) (dot_of d d)) (other_of_either (same_point x p) _ other h) in
               let less = tested_less (dot_of d v) (dot_of d d) two.1 in
-              both (not (same_point x q)) (is_on_segment x p q) (of_not _ (not_at_end p q x less)) (on_by p q x two.0 (weaker (dot_of d v) (dot_of d d) less))))
+              both_true (not (same_point x q)) (is_on_segment x p q) (of_not _ (not_at_end p q x less)) (on_by p q x two.0 (at_most_of_less (dot_of d v) (dot_of d d) less))))
   where
     or_by : (a b : Bool) → (a ≡ false → b ≡ true) → (a || b) ≡ true
     or_by true b f = refl
     or_by false b f = f refl
-    or_rest : (a b : Bool) → a ≡ false → (a || b) ≡ true → b ≡ true
-    or_rest a b h k = grind arith
-    weaker : (x y : ℤ) → x <ℤ y → x ≤ℤ y
-    weaker x y h = omega (arith, ints, h)
-
 -- where a point lies on the segment after its start
 after_where : (p q x : Point)
     → (not (same_point x p) && is_on_segment x q p) ≡ (stands_in p (vector p q) x && int_le (dot_of (vector p q) (vector p x)) (dot_of (vector p q) (vector p q)))
@@ -176,17 +157,12 @@ after_where p q x =
     agree _ _
       (λ h. let two = both_of (not (same_point x p)) (is_on_segment x q p) h in
           let on = on_turned x q p two.1 in
-          both (stands_in p d x) (int_le (dot_of d v) (dot_of d d)) (in_direction p q x on (not_of _ two.0))
+          both_true (stands_in p d x) (int_le (dot_of d v) (dot_of d d)) (in_direction p q x on (tested_not _ two.0))
             (at_most_tested (dot_of d v) (dot_of d d) (by_cases (same_point x q)
-              (λ e. subst (λ t. dot_of d (vector p t) ≤ℤ dot_of d d) (sym (points_same x q e)) (own (dot_of d d)))
-              (λ other. weaker (dot_of d v) (dot_of d d) (before_end p q x on other)))))
+              (λ e. subst (λ t. dot_of d (vector p t) ≤ℤ dot_of d d) (sym (points_same x q e)) (at_most_itself (dot_of d d)))
+              (λ other. at_most_of_less (dot_of d v) (dot_of d d) (before_end p q x on other)))))
       (λ h. let two = both_of (stands_in p d x) (int_le (dot_of d v) (dot_of d d)) h in
-          both (not (same_point x p)) (is_on_segment x q p) (of_not _ (not_at_start p d x two.0)) (on_turned x p q (on_by p q x two.0 (tested_at_most (dot_of d v) (dot_of d d) two.1))))
-  where
-    own : (z : ℤ) → z ≤ℤ z
-    own z = omega (arith, ints)
-    weaker : (x y : ℤ) → x <ℤ y → x ≤ℤ y
-    weaker x y h = omega (arith, ints, h)
+          both_true (not (same_point x p)) (is_on_segment x q p) (of_not _ (not_at_start p d x two.0)) (on_turned x p q (on_by p q x two.0 (tested_at_most (dot_of d v) (dot_of d d) two.1))))
 
 abbrev pub is_before_end : Point → Point → Corner → Bool
 is_before_end p d c = is_ahead p d c && int_lt (dot_of d (vector p c.here)) (dot_of d d)
@@ -238,7 +214,7 @@ before_by_nearest p d v corners n =
           let two = both_of (is_ahead p d c) (int_lt (dot_of d (vector p c.here)) (dot_of d d)) some.holds in
           less_tested (dot_of d v) (dot_of d d) (chain (dot_of d v) (dot_of d (vector p c.here)) (dot_of d d) (n.nearest some.place some.within two.0) (tested_less (dot_of d (vector p c.here)) (dot_of d d) two.1)))
       (λ h. let c = get_or corners n.place no_corner in
-          record { place = n.place; within = n.within; holds = both (is_ahead p d c) (int_lt (dot_of d (vector p c.here)) (dot_of d d)) n.passes (subst (λ t. int_lt (dot_of d t) (dot_of d d) ≡ true) (sym n.at) h) })
+          record { place = n.place; within = n.within; holds = both_true (is_ahead p d c) (int_lt (dot_of d (vector p c.here)) (dot_of d d)) n.passes (subst (λ t. int_lt (dot_of d t) (dot_of d d) ≡ true) (sym n.at) h) })
   where
     chain : (x y z : ℤ) → x ≤ℤ y → y <ℤ z → x <ℤ z
     chain x y z h k = omega (arith, ints, h, k)
@@ -250,7 +226,7 @@ up_to_by_nearest p d v corners n =
           let two = both_of (is_behind p d c) (int_le (dot_of d (vector p c.here)) (dot_of d d)) some.holds in
           at_most_tested (dot_of d v) (dot_of d d) (chain (dot_of d v) (dot_of d (vector p c.here)) (dot_of d d) (n.nearest some.place some.within two.0) (tested_at_most (dot_of d (vector p c.here)) (dot_of d d) two.1)))
       (λ h. let c = get_or corners n.place no_corner in
-          record { place = n.place; within = n.within; holds = both (is_behind p d c) (int_le (dot_of d (vector p c.here)) (dot_of d d)) n.passes (subst (λ t. int_le (dot_of d t) (dot_of d d) ≡ true) (sym n.at) h) })
+          record { place = n.place; within = n.within; holds = both_true (is_behind p d c) (int_le (dot_of d (vector p c.here)) (dot_of d d)) n.passes (subst (λ t. int_le (dot_of d t) (dot_of d d) ≡ true) (sym n.at) h) })
   where
     chain : (x y z : ℤ) → x ≤ℤ y → y ≤ℤ z → x ≤ℤ z
     chain x y z h k = omega (arith, ints, h, k)

@@ -15,6 +15,7 @@ use Rattle.plane_spec.proofs.Laws.{touching_is_symmetric}
 use Rattle.plan_spec.specs.Accepted.{each_two}
 use Rattle.plan_laws.proofs.Pairs.{each_two_cons}
 use Rattle.sweep_laws.specs.Standing.{follows, stands, stand_beside}
+use Rattle.sweep_laws.proofs.Tests.{neither_of, same_tested, tested_not}
 
 -- ---- lists in two parts
 
@@ -75,30 +76,26 @@ beside_by_columns (e ∷ xs) ys h =
 
 -- ---- edges that don't touch
 
-or_false : (a b : Bool) → (a || b) ≡ false → (a ≡ false) × (b ≡ false)
-or_false false b h = (refl, h)
-or_false true b h = absurd (grind arith)
-
 pub clear_stands : (e f : Segment) → edges_touch e f ≡ false → stands e f ≡ true
 clear_stands e f h = ap (λ t. not t || (follows e f || follows f e)) h
 
 none_touches : (e : Segment) (ys : List Segment) → list_any (edges_touch e) ys ≡ false → list_all (stands e) ys ≡ true
 none_touches e [] h = refl
 none_touches e (f ∷ ys) h =
-    let parts = or_false (edges_touch e f) (list_any (edges_touch e) ys) h in
+    let parts = neither_of (edges_touch e f) (list_any (edges_touch e) ys) h in
     and_from (stands e f) (list_all (stands e) ys) (clear_stands e f parts.0) (none_touches e ys parts.1)
 
 pub clear_beside : (xs ys : List Segment) → list_any (λ e. list_any (edges_touch e) ys) xs ≡ false → stand_beside xs ys ≡ true
 clear_beside [] ys h = refl
 clear_beside (e ∷ xs) ys h =
-    let parts = or_false (list_any (edges_touch e) ys) (list_any (λ e. list_any (edges_touch e) ys) xs) h in
+    let parts = neither_of (list_any (edges_touch e) ys) (list_any (λ e. list_any (edges_touch e) ys) xs) h in
     and_from (list_all (stands e) ys) (stand_beside xs ys) (none_touches e ys parts.0) (clear_beside xs ys parts.1)
 
 -- a segment that touches none of the edges: they stand beside it
 pub clear_of : (s : Segment) (xs : List Segment) → list_any (edges_touch s) xs ≡ false → list_all (λ e. stands e s) xs ≡ true
 clear_of s [] h = refl
 clear_of s (e ∷ xs) h =
-    let parts = or_false (edges_touch s e) (list_any (edges_touch s) xs) h in
+    let parts = neither_of (edges_touch s e) (list_any (edges_touch s) xs) h in
     and_from (stands e s) (list_all (λ e. stands e s) xs) (clear_stands e s (touching_is_symmetric e.a e.b s.a s.b ∙ parts.0)) (clear_of s xs parts.1)
 
 -- ---- the edges of one polygon
@@ -108,14 +105,10 @@ by_number true last x y z h a b = absurd (grind arith)
 by_number false true x y z h a b = absurd (grind arith)
 by_number false false x y z h a b = h
 
-not_false : (t : Bool) → not t ≡ true → t ≡ false
-not_false true h = absurd (grind arith)
-not_false false h = refl
-
 may_far : (count k m : ℕ) (e f : Segment) → may_be_edges count ((k, e), (m, f)) ≡ true → k + 1 < m → ((k == 0) && (m + 1 == count)) ≡ false → stands e f ≡ true
 unfolding may_be_edges
 may_far count k m e f h far last =
-    clear_stands e f (not_false (edges_touch e f) (by_number (m == k + 1) ((k == 0) && (m + 1 == count)) (not (folds_back e f)) (not (folds_back f e)) (not (edges_touch e f)) h (grind arith) last))
+    clear_stands e f (tested_not (edges_touch e f) (by_number (m == k + 1) ((k == 0) && (m + 1 == count)) (not (folds_back e f)) (not (folds_back f e)) (not (edges_touch e f)) h (grind arith) last))
 
 -- an edge that isn't the first, and those that don't follow it
 far_stand : (count k m : ℕ) (e : Segment) (fs : List Segment) → 0 < k → k + 1 < m
@@ -137,11 +130,8 @@ preceding_stands e f h k = either (not (edges_touch e f)) (follows e f) (follows
     either : (x y z : Bool) → z ≡ true → (x || (y || z)) ≡ true
     either x y z h = grind arith
 
-same_number : (z : ℤ) → int_eq z z ≡ true
-same_number z = grind (arith, ints)
-
 pub same_itself : (p : Point) → same_point p p ≡ true
-same_itself p = and_from (int_eq p.x p.x) (int_eq p.y p.y) (same_number p.x) (same_number p.y)
+same_itself p = and_from (int_eq p.x p.x) (int_eq p.y p.y) (same_tested p.x) (same_tested p.y)
 
 may_next : (count k : ℕ) (e f : Segment) → may_be_edges count ((k, e), (k + 1, f)) ≡ true → same_point e.b f.a ≡ true → stands e f ≡ true
 unfolding may_be_edges

@@ -9,13 +9,14 @@ use Rattle.plane_spec.specs.Vectors.{vector, cross_of, orient_of, same_point}
 use Rattle.plane_spec.specs.Segments.{is_between, is_on_segment}
 use Rattle.plane_spec.specs.Polygons.{is_on_edge}
 use Rattle.sight_spec.specs.Sight.{starts_into_wall}
-use Rattle.sweep_laws.proofs.Fronts.{by_cases, both_of, four_of}
+use Rattle.sweep_laws.proofs.Fronts.{four_of}
 use Rattle.sweep_laws.proofs.Views.{orient_is_side, orient_is_cross}
 use borrow.Author.Differences.{up, down}
 use Rattle.exact_geom.proofs.Turns.{cross_of_exchanged}
 use Rattle.int_laws.proofs.Ring.{is_diff, minus_diff, neg_times, product_diff, product_swapped, same_diff, sum_diff, times_minus, times_sum, diff, times_neg}
 use Rattle.int_laws.proofs.Signs.{not_negative_product, positive_factor, positive_product, positive_tested, tested_positive}
 use Rattle.int_laws.proofs.Tests.{agree, at_most_tested, tested_equal}
+use Rattle.sweep_laws.proofs.Tests.{all_three, both_of, by_cases, clash_back, not_below, other_of_both, same_tested, tested_zero, turned_up, zero_tested}
 
 -- the weights of a point on the line
 weight_diff : (a b c d e f g h i j k l : ℕ) →
@@ -137,12 +138,6 @@ weights_y a b q p on =
     weights_of (cross_of (vector p a) (vector p b)) (cross_of (vector p a) (vector p q)) (cross_of (vector p q) (vector p b)) a.y q.y b.y p.y
       (weight_y (vector p a).x (vector p a).y (vector p q).x (vector p q).y (vector p b).x (vector p b).y) on.sum
 
-all_three : (a b c : Bool) → a ≡ true → b ≡ true → c ≡ true → (a && (b && c)) ≡ true
-all_three a b c h k j = grind arith
-
-zero_test : (z : ℤ) → z ≡ pos 0 → int_eq z (pos 0) ≡ true
-zero_test z h = grind (arith, ints)
-
 -- a point of the line whose direction lies between those of the ends is on the wall
 pub on_wall : (a b q p : Point) → OnLine a b q p → orient_of a b q ≡ pos 0
     → pos 0 ≤ℤ cross_of (vector p a) (vector p q) → pos 0 ≤ℤ cross_of (vector p q) (vector p b) → is_on_segment q a b ≡ true
@@ -153,7 +148,7 @@ on_wall a b q p on line g_up h_up =
     let k = cross_of (vector p q) (vector p b) in
     let x = weights_x a b q p on in
     let y = weights_y a b q p on in
-    all_three _ _ _ (zero_test _ line)
+    all_three _ _ _ (zero_tested _ line)
       (between_weights n g k a.x q.x b.x on.up g_up h_up x.from_first x.from_second)
       (between_weights n g k a.y q.y b.y on.up g_up h_up y.from_first y.from_second)
 
@@ -169,11 +164,8 @@ past_first a b q p on h other =
     let x = weights_x a b q p on in
     let y = weights_y a b q p on in
     by_cases (int_eq q.x a.x)
-      (λ e. weight_positive n g a.y q.y b.y on.up y.from_first two.1 (second (int_eq q.x a.x) (int_eq q.y a.y) e other))
+      (λ e. weight_positive n g a.y q.y b.y on.up y.from_first two.1 (other_of_both (int_eq q.x a.x) (int_eq q.y a.y) e other))
       (λ e. weight_positive n g a.x q.x b.x on.up x.from_first two.0 e)
-  where
-    second : (a b : Bool) → a ≡ true → (a && b) ≡ false → b ≡ false
-    second a b h k = grind arith
 
 -- ---- a target on a wall
 
@@ -205,22 +197,17 @@ past_second a b q p on h other =
     let x = weights_x a b q p on in
     let y = weights_y a b q p on in
     by_cases (int_eq q.x b.x)
-      (λ e. weight_positive n k b.y q.y a.y on.up y.from_second (other_way q.y a.y b.y two.1) (second (int_eq q.x b.x) (int_eq q.y b.y) e other))
+      (λ e. weight_positive n k b.y q.y a.y on.up y.from_second (other_way q.y a.y b.y two.1) (other_of_both (int_eq q.x b.x) (int_eq q.y b.y) e other))
       (λ e. weight_positive n k b.x q.x a.x on.up x.from_second (other_way q.x a.x b.x two.0) e)
   where
-    second : (a b : Bool) → a ≡ true → (a && b) ≡ false → b ≡ false
-    second a b h k = grind arith
     or_swap : (a b : Bool) → (a || b) ≡ true → (b || a) ≡ true
     or_swap a b h = grind arith
     other_way : (m s e : ℤ) → is_between m s e ≡ true → is_between m e s ≡ true
     other_way m s e = or_swap (int_le s m && int_le m e) (int_le e m && int_le m s)
 
-zero_of_test : (z : ℤ) → int_eq z (pos 0) ≡ true → z ≡ pos 0
-zero_of_test z h = grind (arith, ints)
-
 pub line_of_segment : (q a b : Point) → is_on_segment q a b ≡ true → orient_of a b q ≡ pos 0
 unfolding is_on_segment
-line_of_segment q a b h = zero_of_test _ (both_of (int_eq (orient_of a b q) (pos 0)) (is_between q.x a.x b.x && is_between q.y a.y b.y) h).0
+line_of_segment q a b h = tested_zero _ (both_of (int_eq (orient_of a b q) (pos 0)) (is_between q.x a.x b.x && is_between q.y a.y b.y) h).0
 
 -- the same point's direction isn't to its left
 not_same : (p q a : Point) → pos 0 <ℤ cross_of (vector p a) (vector p q) → same_point q a ≡ false
@@ -246,9 +233,6 @@ not_true_of {a} h = ap not h
 false_of : {a : Bool} → not a ≡ true → a ≡ false
 false_of {a} h = grind arith
 
-same_test : (x : ℤ) → int_eq x x ≡ true
-same_test x = grind (arith, ints)
-
 -- the target is on the wall, and the station to its left, exactly where the wall is seen unturned, spanned, and the target on its line
 pub leaves_where : (p q : Point) (w : Segment) → starts_into_wall q p w ≡ faces_where p q w
 unfolding starts_into_wall faces_where
@@ -261,7 +245,7 @@ leaves_where p q w =
           let line = line_of_segment q w.a w.b one.0 in
           let on = turn_ends w.a w.b q p up line in
           four_true (positive_tested _ up) (positive_tested _ (past_first w.a w.b q p on one.0 (false_of two.0))) (positive_tested _ (past_second w.a w.b q p on one.0 (false_of two.1)))
-            (zero_test _ (sym (orient_is_side w.a w.b q p) ∙ line)))
+            (zero_tested _ (sym (orient_is_side w.a w.b q p) ∙ line)))
       (λ h. let a = vector p w.a in
           let b = vector p w.b in
           let d = vector p q in
@@ -269,23 +253,19 @@ leaves_where p q w =
           let two = both_of (int_lt (pos 0) (cross_of a d) && int_lt (pos 0) (cross_of d b)) (int_eq ((cross_of a b +ℤ cross_of b d) -ℤ cross_of a d) (pos 0)) one.1 in
           let three = both_of (int_lt (pos 0) (cross_of a d)) (int_lt (pos 0) (cross_of d b)) two.0 in
           let up = tested_positive (cross_of a b) one.0 in
-          let line : orient_of w.a w.b q ≡ pos 0 = orient_is_side w.a w.b q p ∙ zero_of_test _ two.1 in
+          let line : orient_of w.a w.b q ≡ pos 0 = orient_is_side w.a w.b q p ∙ tested_zero _ two.1 in
           let on = turn_ends w.a w.b q p up line in
           let first = tested_positive (cross_of a d) three.0 in
           let last = tested_positive (cross_of d b) three.1 in
-          chain_true (on_wall w.a w.b q p on line (weaker _ first) (weaker _ last))
+          chain_true (on_wall w.a w.b q p on line (not_below _ first) (not_below _ last))
             (not_true_of (not_same p q w.a first)) (not_true_of (not_same_end p q w.b last))
             (positive_tested _ (subst (λ t. pos 0 <ℤ t) (sym (orient_is_cross w.a w.b p)) up)))
   where
-    weaker : (z : ℤ) → pos 0 <ℤ z → pos 0 ≤ℤ z
-    weaker z h = omega (arith, ints, h)
     not_same_end : (p q b : Point) → pos 0 <ℤ cross_of (vector p q) (vector p b) → same_point q b ≡ false
-    not_same_end p q b h = by_cases (same_point q b) (λ e. absurd (clash (same_point b q) (not_same p b q h) (swap e))) (λ e. e)
+    not_same_end p q b h = by_cases (same_point q b) (λ e. absurd (clash_back (same_point b q) (not_same p b q h) (swap e))) (λ e. e)
       where
-        clash : (x : Bool) → x ≡ false → x ≡ true → ⊥
-        clash x h k = grind arith
         eq_swap : (x y : ℤ) → int_eq x y ≡ true → int_eq y x ≡ true
-        eq_swap x y h = subst (λ t. int_eq t x ≡ true) (tested_equal x y h) (same_test x)
+        eq_swap x y h = subst (λ t. int_eq t x ≡ true) (tested_equal x y h) (same_tested x)
         both_swap : {a b : Bool} → a ≡ true → b ≡ true → (a && b) ≡ true
         both_swap {a} {b} h k = grind arith
         swap : same_point q b ≡ true → same_point b q ≡ true
@@ -324,13 +304,8 @@ pub overlap : (p d a b c e : Point) → pos 0 <ℤ cross_of (vector p a) (vector
     → orient_of a b c ≡ pos 0 → orient_of c e a ≡ pos 0 → OneOnOther a b c e
 overlap p d a b c e ab_up ce_up ad db cd de line other_line =
     by_lt_z (cross_of (vector p a) (vector p c)) (pos 0)
-      (λ low. let ca : pos 0 ≤ℤ cross_of (vector p c) (vector p a) = back_up _ _ (cross_of_exchanged (vector p a) (vector p c)) low in
+      (λ low. let ca : pos 0 ≤ℤ cross_of (vector p c) (vector p a) = turned_up _ _ (cross_of_exchanged (vector p a) (vector p c)) low in
           first (on_wall c e a p (turn_ends c e a p ce_up other_line) other_line ca
-            (weaken _ (before_end (vector p c) (vector p e) (vector p a) d ce_up cd de ad ca))))
+            (not_below _ (before_end (vector p c) (vector p e) (vector p a) d ce_up cd de ad ca))))
       (λ high. third (on_wall a b c p (turn_ends a b c p ab_up line) line high
-            (weaken _ (before_end (vector p a) (vector p b) (vector p c) d ab_up ad db cd high))))
-  where
-    back_up : (x y : ℤ) → y ≡ neg_ℤ x → x <ℤ pos 0 → pos 0 ≤ℤ y
-    back_up x y e h = omega (arith, ints, e, h)
-    weaken : (z : ℤ) → pos 0 <ℤ z → pos 0 ≤ℤ z
-    weaken z h = omega (arith, ints, h)
+            (not_below _ (before_end (vector p a) (vector p b) (vector p c) d ab_up ad db cd high))))

@@ -9,10 +9,10 @@ use Rattle.plane_spec.specs.Segments.{is_between, is_on_segment}
 use Rattle.plane_spec.specs.declared.Corner.{Corner}
 use Rattle.plane_spec.specs.Cones.{is_in_cone}
 use Rattle.sight_spec.specs.Sight.{corner_stops}
-use Rattle.sweep_laws.proofs.Fronts.{by_cases, both_of}
 use Rattle.sweep_laws.proofs.After.{AreOneWay, self_of, same_cone}
 use Rattle.int_laws.proofs.Ring.{neg_times, product_swapped, times_minus, times_neg}
 use Rattle.int_laws.proofs.Signs.{not_negative_product, positive_product, positive_sum, square}
+use Rattle.sweep_laws.proofs.Tests.{both_of, by_cases, other_of_both, tested_zero}
 
 -- from m on towards e is the way from s to e
 onward : (m s e : ℤ) → is_between m s e ≡ true → pos 0 ≤ℤ ((e -ℤ m) *ℤ (e -ℤ s))
@@ -89,23 +89,17 @@ rest_diff px py qx qy vx vy h =
     let f : (qx -ℤ px) *ℤ (qy -ℤ py) ≡ (qy -ℤ py) *ℤ qx -ℤ (qy -ℤ py) *ℤ px = product_swapped (qx -ℤ px) (qy -ℤ py) ∙ times_minus (qy -ℤ py) qx px in
     omega (arith, ints, a, b, c, d, e, f, h)
 
-zero_of_test : (z : ℤ) → int_eq z (pos 0) ≡ true → z ≡ pos 0
-zero_of_test z h = grind (arith, ints)
-
 -- from a point of the segment that isn't its end, the way on is the segment's own
 pub onward_of : (v p q : Point) → is_on_segment v p q ≡ true → same_point v q ≡ false → Onward v p q
 unfolding is_on_segment
 onward_of v p q h other =
     let one = both_of (int_eq (orient_of p q v) (pos 0)) (is_between v.x p.x q.x && is_between v.y p.y q.y) h in
     let two = both_of (is_between v.x p.x q.x) (is_between v.y p.y q.y) one.1 in
-    let line = rest_diff p.x p.y q.x q.y v.x v.y (zero_of_test (orient_of p q v) one.0) in
+    let line = rest_diff p.x p.y q.x q.y v.x v.y (tested_zero (orient_of p q v) one.0) in
     onward_by v p q line (onward v.x p.x q.x two.0) (onward v.y p.y q.y two.1)
       (by_cases (int_eq v.x q.x)
-        (λ e. inr (onward_strictly v.y p.y q.y two.1 (second (int_eq v.x q.x) (int_eq v.y q.y) e other)))
+        (λ e. inr (onward_strictly v.y p.y q.y two.1 (other_of_both (int_eq v.x q.x) (int_eq v.y q.y) e other)))
         (λ e. inl (onward_strictly v.x p.x q.x two.0 e)))
-  where
-    second : (a b : Bool) → a ≡ true → (a && b) ≡ false → b ≡ false
-    second a b h k = grind arith
 
 -- a corner stops a segment exactly where it stands on it, before its end, with the segment's own direction in its cone
 pub stops_along : (p q : Point) (c : Corner) → corner_stops p q c ≡ (not (same_point c.here q) && (is_on_segment c.here p q && is_in_cone c (vector p q)))

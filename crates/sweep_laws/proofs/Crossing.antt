@@ -11,13 +11,13 @@ use Rattle.plane_spec.specs.Fractions.{Fraction, is_before}
 use Rattle.sight_spec.specs.Sight.{crosses, starts_into_wall}
 use Rattle.sweep_laws.specs.Order.{Seen, spans, hit_of, side_of, seen_of, crossed_where}
 use Rattle.sweep_laws.specs.Fronts.{seen_at, IsFront, IsBare}
-use Rattle.sweep_laws.proofs.Fronts.{by_cases, both_of}
 use Rattle.sweep_laws.proofs.Views.{crosses_where}
-use Rattle.sweep_laws.proofs.Active.{den_up, by_lt}
+use Rattle.sweep_laws.proofs.Active.{den_up}
 use Rattle.exact_geom.proofs.Turns.{cross_of_exchanged}
 use Rattle.int_laws.proofs.Ring.{product_swapped, times_minus}
 use Rattle.int_laws.proofs.Signs.{not_negative_product}
 use Rattle.int_laws.proofs.Tests.{agree}
+use Rattle.sweep_laws.proofs.Tests.{both_of, both_true, by_cases, by_lt, clash, either_second, mapped_at, negative_tested, not_above, other_of_either, some_same, tested_negative}
 
 -- ---- some element of a list
 
@@ -32,31 +32,20 @@ any_at {X} test xs d s = at xs s.place s.within s.holds
     at : (ys : List X) (k : ℕ) → k < length ys → test (get_or ys k d) ≡ true → list_any test ys ≡ true
     at [] k lt h = absurd (omega arith)
     at (y ∷ ys) zero lt h = ap (λ t. t || list_any test ys) h
-    at (y ∷ ys) (suc k) lt h = or_second (test y) (list_any test ys) (at ys k (omega arith) h)
-      where
-        or_second : (a b : Bool) → b ≡ true → (a || b) ≡ true
-        or_second true b h = refl
-        or_second false b h = h
+    at (y ∷ ys) (suc k) lt h = either_second (test y) (list_any test ys) (at ys k (omega arith) h)
 
 pub some_of : {X : Type 0} (test : X → Bool) (xs : List X) (d : X) → list_any test xs ≡ true → Some_of test xs d
 some_of test [] d h = absurd (grind arith)
 some_of {X} test (x ∷ xs) d h = by_cases (test x)
     (λ k. record { place = 0; within = omega arith; holds = k })
-    (λ k. let rest = some_of test xs d (second (test x) (list_any test xs) k h) in record { place = suc rest.place; within = within_suc rest.place rest.within; holds = rest.holds })
+    (λ k. let rest = some_of test xs d (other_of_either (test x) (list_any test xs) k h) in record { place = suc rest.place; within = within_suc rest.place rest.within; holds = rest.holds })
   where
-    second : (a b : Bool) → a ≡ false → (a || b) ≡ true → b ≡ true
-    second a b h k = grind arith
     within_suc : (k : ℕ) → k < length xs → suc k < length (x ∷ xs)
     within_suc k h = omega arith
 
 -- a test of a whole list, by its elements
 pub any_is : {X : Type 0} (test : X → Bool) (xs : List X) (d : X) (r : Bool) → (Some_of test xs d → r ≡ true) → (r ≡ true → Some_of test xs d) → list_any test xs ≡ r
 any_is test xs d r f g = agree (list_any test xs) r (λ h. f (some_of test xs d h)) (λ h. any_at test xs d (g h))
-
-pub mapped_at : {X Y : Type 0} (f : X → Y) (xs : List X) (k : ℕ) (d : X) (e : Y) → k < length xs → get_or (map f xs) k e ≡ f (get_or xs k d)
-mapped_at f [] k d e lt = absurd (omega arith)
-mapped_at f (x ∷ xs) zero d e lt = refl
-mapped_at f (x ∷ xs) (suc k) d e lt = mapped_at f xs k d e (omega arith)
 
 pub nowhere : Segment
 nowhere = record { a = point (pos 0) (pos 0); b = point (pos 0) (pos 0) }
@@ -90,15 +79,6 @@ front_is_behind d s t s_spans t_spans before behind =
 
 -- ---- proper crossings
 
-negative_test : (z : ℤ) → z <ℤ pos 0 → int_lt z (pos 0) ≡ true
-negative_test z h = grind (arith, ints)
-
-tested_negative : (z : ℤ) → int_lt z (pos 0) ≡ true → z <ℤ pos 0
-tested_negative z h = omega (arith, ints, h)
-
-weaker : (z : ℤ) → z <ℤ pos 0 → z ≤ℤ pos 0
-weaker z h = omega (arith, ints, h)
-
 pub record Crossed (d : Point) (o : Option Seen) : Type 0 where
   pub seen : Seen
   pub is : o ≡ Some seen
@@ -117,9 +97,6 @@ crosses_at p q lines k within = crosses_where p q (get_or lines k nowhere) ∙ a
 pub by_same : {P : Type 0} (j k : ℕ) → (j ≡ k → P) → (j ≢ k → P) → P
 by_same j k f g = by_lt j k (λ lt. g (λ e. omega (arith, lt, e))) (λ le. by_lt k j (λ lt. g (λ e. omega (arith, lt, e))) (λ ge. f (omega (arith, le, ge))))
 
-pub some_same : {X : Type 0} (x y : X) → Some x ≡ Some y → x ≡ y
-some_same x y h = ap (λ o. elim o [ Some z ↦ z | None ↦ x ]) h
-
 -- a wall or screen is crossed exactly where the first one that is spanned is
 pub crossed_by_front : (p q : Point) (lines : List Segment) (k : ℕ) (s : Seen) → IsFront p (vector p q) lines k s
     → list_any (crosses p q) lines ≡ int_lt (side_of s (vector p q)) (pos 0)
@@ -127,13 +104,10 @@ crossed_by_front p q lines k s front =
     any_is (crosses p q) lines nowhere (int_lt (side_of s (vector p q)) (pos 0))
       (λ some. let d = vector p q in
           let c = crossed_of d (seen_at p lines some.place) (sym (crosses_at p q lines some.place some.within) ∙ some.holds) in
-          negative_test _ (by_same some.place k
+          negative_tested _ (by_same some.place k
             (λ e. subst (λ t. side_of t d <ℤ pos 0) (some_same c.seen s (sym c.is ∙ ap (seen_at p lines) e ∙ front.seen)) c.behind)
-            (λ n. front_is_behind d s c.seen front.spanned c.spanned (front.nearest some.place c.seen some.within n c.is c.spanned) (weaker _ c.behind))))
-      (λ h. record { place = k; within = front.within; holds = crosses_at p q lines k front.within ∙ ap (crossed_where (vector p q)) front.seen ∙ both (spans (vector p q) s) _ front.spanned h })
-  where
-    both : (a b : Bool) → a ≡ true → b ≡ true → (a && b) ≡ true
-    both a b h k = grind arith
+            (λ n. front_is_behind d s c.seen front.spanned c.spanned (front.nearest some.place c.seen some.within n c.is c.spanned) (not_above _ c.behind))))
+      (λ h. record { place = k; within = front.within; holds = crosses_at p q lines k front.within ∙ ap (crossed_where (vector p q)) front.seen ∙ both_true (spans (vector p q) s) _ front.spanned h })
 
 pub crossed_by_none : (p q : Point) (lines : List Segment) → IsBare p (vector p q) lines → list_any (crosses p q) lines ≡ false
 crossed_by_none p q lines bare =
@@ -141,6 +115,3 @@ crossed_by_none p q lines bare =
       (λ some. let c = crossed_of (vector p q) (seen_at p lines some.place) (sym (crosses_at p q lines some.place some.within) ∙ some.holds) in
           absurd (clash (spans (vector p q) c.seen) c.spanned (bare.none some.place c.seen some.within c.is)))
       (λ h. absurd (grind arith))
-  where
-    clash : (b : Bool) → b ≡ true → b ≡ false → ⊥
-    clash b h k = grind arith

@@ -10,9 +10,9 @@ use Rattle.plane_spec.specs.Vectors.{point, vector, cross_of}
 use Rattle.sight_spec.specs.Sight.{crosses, starts_into_wall}
 use Rattle.sweep_laws.specs.Order.{Seen, spans, side_of, seen_of}
 use Rattle.sweep_laws.specs.Fronts.{seen_at, IsFront, IsBare}
-use Rattle.sweep_laws.proofs.Fronts.{by_cases, both_of}
 use Rattle.sweep_laws.proofs.Between.{faces_where, leaves_where}
-use Rattle.sweep_laws.proofs.Crossing.{any_is, mapped_at, nowhere, by_same, some_same, front_is_behind, crossed_by_front, crossed_by_none}
+use Rattle.sweep_laws.proofs.Crossing.{any_is, nowhere, by_same, front_is_behind, crossed_by_front, crossed_by_none}
+use Rattle.sweep_laws.proofs.Tests.{both_of, both_true, by_cases, clash, mapped_at, number_less_tested, some_same, tested_number_less, tested_zero, zero_tested}
 
 -- the wall of the number has the station on its left
 abbrev pub has_on_left : Point → Segment → Bool
@@ -47,40 +47,25 @@ pub record Faces (p q : Point) (w : Segment) : Type 0 where
   pub spanned : spans (vector p q) (ahead_of p w) ≡ true
   pub on : side_of (ahead_of p w) (vector p q) ≡ pos 0
 
-zero_of : (z : ℤ) → int_eq z (pos 0) ≡ true → z ≡ pos 0
-zero_of z h = grind (arith, ints)
-
-zero_is : (z : ℤ) → z ≡ pos 0 → int_eq z (pos 0) ≡ true
-zero_is z h = grind (arith, ints)
-
-both : (a b : Bool) → a ≡ true → b ≡ true → (a && b) ≡ true
-both a b h k = grind arith
-
 faces_of : (p q : Point) (w : Segment) → starts_into_wall q p w ≡ true → Faces p q w
 unfolding faces_where
 faces_of p q w h =
     let one = both_of (has_on_left p w) (spans (vector p q) (ahead_of p w) && int_eq (side_of (ahead_of p w) (vector p q)) (pos 0)) (sym (leaves_where p q w) ∙ h) in
     let two = both_of (spans (vector p q) (ahead_of p w)) (int_eq (side_of (ahead_of p w) (vector p q)) (pos 0)) one.1 in
-    record { left = one.0; spanned = two.0; on = zero_of (side_of (ahead_of p w) (vector p q)) two.1 }
+    record { left = one.0; spanned = two.0; on = tested_zero (side_of (ahead_of p w) (vector p q)) two.1 }
 
 leaves_of : (p q : Point) (w : Segment) → Faces p q w → starts_into_wall q p w ≡ true
 unfolding faces_where
 leaves_of p q w f =
     leaves_where p q w
-    ∙ both (has_on_left p w) (spans (vector p q) (ahead_of p w) && int_eq (side_of (ahead_of p w) (vector p q)) (pos 0)) f.left
-        (both (spans (vector p q) (ahead_of p w)) (int_eq (side_of (ahead_of p w) (vector p q)) (pos 0)) f.spanned (zero_is (side_of (ahead_of p w) (vector p q)) f.on))
+    ∙ both_true (has_on_left p w) (spans (vector p q) (ahead_of p w) && int_eq (side_of (ahead_of p w) (vector p q)) (pos 0)) f.left
+        (both_true (spans (vector p q) (ahead_of p w)) (int_eq (side_of (ahead_of p w) (vector p q)) (pos 0)) f.spanned (zero_tested (side_of (ahead_of p w) (vector p q)) f.on))
 
 not_negative : (z : ℤ) → int_lt z (pos 0) ≡ false → z <ℤ pos 0 → ⊥
 not_negative z h k = omega (arith, ints, h, k)
 
 at_most_zero : (z : ℤ) → z ≡ pos 0 → z ≤ℤ pos 0
 at_most_zero z h = omega (arith, ints, h)
-
-less_tested : (m n : ℕ) → m < n → nat_lt m n ≡ true
-less_tested m n h = grind arith
-
-tested_less : (m n : ℕ) → nat_lt m n ≡ true → m < n
-tested_less m n h = grind arith
 
 faced_by_front : (p q : Point) (walls screens : List Segment) (k : ℕ) (s : Seen) → IsFront p (vector p q) (walls ++ screens) k s → int_lt (side_of s (vector p q)) (pos 0) ≡ false
     → list_any (λ w. starts_into_wall q p w) walls ≡ (int_eq (side_of s (vector p q)) (pos 0) && hides_itself p walls k)
@@ -92,20 +77,20 @@ faced_by_front p q walls screens k s front uncrossed =
           let seen : seen_at p (walls ++ screens) some.place ≡ Some (ahead_of p w) = wall_at p walls screens some.place some.within ∙ seen_ahead p w f.left in
           by_same some.place k
             (λ e. let same : ahead_of p w ≡ s = some_same (ahead_of p w) s (sym seen ∙ ap (seen_at p (walls ++ screens)) e ∙ front.seen) in
-                both (int_eq (side_of s d) (pos 0)) (hides_itself p walls k)
-                  (zero_is (side_of s d) (subst (λ t. side_of t d ≡ pos 0) same f.on))
-                  (both (nat_lt k (length walls)) (has_on_left p (get_or walls k nowhere)) (less_tested k (length walls) (subst (λ t. t < length walls) e some.within)) (subst (λ t. has_on_left p (get_or walls t nowhere) ≡ true) e f.left)))
+                both_true (int_eq (side_of s d) (pos 0)) (hides_itself p walls k)
+                  (zero_tested (side_of s d) (subst (λ t. side_of t d ≡ pos 0) same f.on))
+                  (both_true (nat_lt k (length walls)) (has_on_left p (get_or walls k nowhere)) (number_less_tested k (length walls) (subst (λ t. t < length walls) e some.within)) (subst (λ t. has_on_left p (get_or walls t nowhere) ≡ true) e f.left)))
             (λ n. absurd (not_negative (side_of s d) uncrossed
                 (front_is_behind d s (ahead_of p w) front.spanned f.spanned (front.nearest some.place (ahead_of p w) (append_within walls screens some.place some.within) n seen f.spanned) (at_most_zero _ f.on)))))
       (λ h. let one = both_of (int_eq (side_of s d) (pos 0)) (hides_itself p walls k) h in
           let two = both_of (nat_lt k (length walls)) (has_on_left p (get_or walls k nowhere)) one.1 in
           let w = get_or walls k nowhere in
-          let within = tested_less k (length walls) two.0 in
+          let within = tested_number_less k (length walls) two.0 in
           let same : ahead_of p w ≡ s = some_same (ahead_of p w) s (sym (wall_at p walls screens k within ∙ seen_ahead p w two.1) ∙ front.seen) in
           record { place = k; within = within; holds = leaves_of p q w (record {
             left = two.1;
             spanned = subst (λ t. spans d t ≡ true) (sym same) front.spanned;
-            on = subst (λ t. side_of t d ≡ pos 0) (sym same) (zero_of (side_of s d) one.0);
+            on = subst (λ t. side_of t d ≡ pos 0) (sym same) (tested_zero (side_of s d) one.0);
           }) })
 
 -- a point is hidden by walls and screens exactly where it is behind the first one that is spanned, or on it and that hides itself
@@ -129,6 +114,3 @@ hidden_by_none p q walls screens bare =
             absurd (clash (spans (vector p q) (ahead_of p w)) f.spanned
               (bare.none some.place (ahead_of p w) (append_within walls screens some.place some.within) (wall_at p walls screens some.place some.within ∙ seen_ahead p w f.left))))
         (λ h. absurd (grind arith))
-  where
-    clash : (b : Bool) → b ≡ true → b ≡ false → ⊥
-    clash b h k = grind arith

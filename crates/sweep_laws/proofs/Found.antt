@@ -13,9 +13,9 @@ use Rattle.sweep_laws.specs.Order.{Seen, spans, hit_of, is_in_front, are_apart}
 use Rattle.sweep_laws.specs.Fronts.{seen_at, IsFront, IsBare}
 use Rattle.sweep_laws.specs.Parts.{IsFirst}
 use Rattle.sweep_laws.proofs.Fronts.{front_is_before}
-use Rattle.sweep_laws.proofs.Active.{by_lt}
 use Rattle.sweep_laws.proofs.Plans.{lines_apart}
-use Rattle.sweep_laws.proofs.Crossing.{some_of, some_same}
+use Rattle.sweep_laws.proofs.Crossing.{some_of}
+use Rattle.sweep_laws.proofs.Tests.{by_lt, own_number_or, some_same, tested_same_number}
 
 -- a blocker of the list: its number, and how it is seen
 abbrev pub Listed : Type 0
@@ -49,20 +49,14 @@ abbrev pub first_of : List Listed → Option (ℕ × Seen)
 first_of [] = None
 first_of (b ∷ rest) = Some b
 
-same_number : (m n : ℕ) → (m == n) ≡ true → m ≡ n
-same_number m n h = grind arith
-
-self_number : (n : ℕ) (b : Bool) → ((n == n) || b) ≡ true
-self_number n b = grind arith
-
 -- what the list has by a number is the line of the number, behind the first
 later : (p d : Point) (lines : List Segment) (b : Listed) (rest : List Listed) (k j : ℕ) (t : Seen) → IsAsked p d lines (b ∷ rest) → AreAllApart p d lines
     → spans d b.1 ≡ true → k < length (b ∷ rest) → has_number j (get_or (b ∷ rest) k b) ≡ true
     → j < length lines → j ≢ b.0 → seen_at p lines j ≡ Some t → spans d t ≡ true → is_before (hit_of d b.1) (hit_of d t) ≡ true
-later p d lines b rest zero j t a apart spanned lt h j_in other t_is t_spans = absurd (other (sym (same_number b.0 j h)))
+later p d lines b rest zero j t a apart spanned lt h j_in other t_is t_spans = absurd (other (sym (tested_same_number b.0 j h)))
 later p d lines b rest (suc k) j t a apart spanned lt h j_in other t_is t_spans =
     let c = get_or (b ∷ rest) (suc k) b in
-    let number : c.0 ≡ j = same_number c.0 j h in
+    let number : c.0 ≡ j = tested_same_number c.0 j h in
     let same : c.1 ≡ t = some_same c.1 t (sym (a.known (suc k) b lt) ∙ ap (seen_at p lines) number ∙ t_is) in
     let front : is_in_front b.1 t ≡ true = subst (λ w. is_in_front b.1 w ≡ true) same (a.order 0 (suc k) b (omega arith) lt) in
     sym (front_is_before d b.1 t spanned t_spans (apart b.0 j b.1 t (λ e. other (sym e)) (a.numbers 0 b (omega arith)) j_in (a.known 0 b (omega arith)) t_is spanned t_spans)) ∙ front
@@ -72,7 +66,7 @@ pub front_of : (p d : Point) (lines : List Segment) (b : Listed) (rest : List Li
 front_of p d lines b rest a apart =
     let seen = a.known 0 b (omega arith) in
     let within = a.numbers 0 b (omega arith) in
-    let spanned : spans d b.1 ≡ true = sym (a.spanned b.0 b.1 within seen) ∙ self_number b.0 (list_any (has_number b.0) rest) in
+    let spanned : spans d b.1 ≡ true = sym (a.spanned b.0 b.1 within seen) ∙ own_number_or b.0 (list_any (has_number b.0) rest) in
     record {
       within = within;
       seen = seen;

@@ -7,14 +7,8 @@ use Rattle.std.proofs.lemmas.Nat.{le-div, div_below}
 use Rattle.plane_spec.specs.declared.Point.{Point}
 use Rattle.plane_spec.specs.Vectors.{point, cross_of, same_point, IsWithin, IsDirection, IsDirected, is_upper, turns_left, turns_by, turns_before}
 use Rattle.sweep_laws.specs.Places.{part_of, place_of}
-use Rattle.sweep_laws.proofs.Active.{by_lt}
 use Rattle.int_laws.proofs.Ring.{neg_times, times_neg}
-
-yes : (m n : ℕ) → m < n → nat_lt m n ≡ true
-yes m n h = grind arith
-
-no : (m n : ℕ) → n ≤ m → nat_lt m n ≡ false
-no m n h = grind arith
+use Rattle.sweep_laws.proofs.Tests.{by_lt, not_above, not_below, number_less_tested, number_not_less}
 
 -- ---- products
 
@@ -78,8 +72,8 @@ part_tells a b c e h k =
     let s_some = some a b h in
     let t_some = some c e k in
     by_lt (b * c) (e * a)
-      (λ lt. yes (part_of a b) (part_of c e) (part_rises b (a + b) e (c + e) s_some t_some (small_product a b c e h k) (wider a b c e lt)) ∙ sym (yes (b * c) (e * a) lt))
-      (λ le. no (part_of a b) (part_of c e) (part_falls b (a + b) e (c + e) s_some t_some (wider_most a b c e le)) ∙ sym (no (b * c) (e * a) le))
+      (λ lt. number_less_tested (part_of a b) (part_of c e) (part_rises b (a + b) e (c + e) s_some t_some (small_product a b c e h k) (wider a b c e lt)) ∙ sym (number_less_tested (b * c) (e * a) lt))
+      (λ le. number_not_less (part_of a b) (part_of c e) (part_falls b (a + b) e (c + e) s_some t_some (wider_most a b c e le)) ∙ sym (number_not_less (b * c) (e * a) le))
   where
     some : (a b : ℕ) → Sizes a b → 0 < a + b
     some a b h = let x = h.some in omega (arith, x)
@@ -113,10 +107,10 @@ quarter_of d within some =
     let y = size_is d.y within.y in
     by_lt_z (pos 0) d.x
       (λ right. by_lt_z d.y (pos 0)
-        (λ down. fourth (unsigned_abs d.y) (unsigned_abs d.x) (record { some = size_some_down d.y down; first = y; second = x }) (size_up d.x (weak d.x right)) (size_down d.y (weak_down d.y down)))
-        (λ up. first (unsigned_abs d.x) (unsigned_abs d.y) (record { some = size_some d.x right; first = x; second = y }) (size_up d.x (weak d.x right)) (size_up d.y up)))
+        (λ down. fourth (unsigned_abs d.y) (unsigned_abs d.x) (record { some = size_some_down d.y down; first = y; second = x }) (size_up d.x (not_below d.x right)) (size_down d.y (not_above d.y down)))
+        (λ up. first (unsigned_abs d.x) (unsigned_abs d.y) (record { some = size_some d.x right; first = x; second = y }) (size_up d.x (not_below d.x right)) (size_up d.y up)))
       (λ not_right. by_lt_z (pos 0) d.y
-        (λ up. second (unsigned_abs d.y) (unsigned_abs d.x) (record { some = size_some d.y up; first = y; second = x }) (size_down d.x not_right) (size_up d.y (weak d.y up)))
+        (λ up. second (unsigned_abs d.y) (unsigned_abs d.x) (record { some = size_some d.y up; first = y; second = x }) (size_down d.x not_right) (size_up d.y (not_below d.y up)))
         (λ not_up. by_lt_z d.x (pos 0)
           (λ left. third (unsigned_abs d.x) (unsigned_abs d.y) (record { some = size_some_down d.x left; first = x; second = y }) (size_down d.x not_right) (size_down d.y not_up))
           (λ not_left. let x_is : d.x ≡ pos 0 = omega (arith, ints, not_right, not_left) in
@@ -128,10 +122,6 @@ quarter_of d within some =
     size_some z h = grind (arith, ints)
     size_some_down : (z : ℤ) → z <ℤ pos 0 → 0 < unsigned_abs z
     size_some_down z h = grind (arith, ints)
-    weak : (z : ℤ) → pos 0 <ℤ z → pos 0 ≤ℤ z
-    weak z h = omega (arith, ints, h)
-    weak_down : (z : ℤ) → z <ℤ pos 0 → z ≤ℤ pos 0
-    weak_down z h = omega (arith, ints, h)
     down_is : (d : Point) → d.x ≡ pos 0 → IsDirected d → d.y ≤ℤ pos 0 → d.y <ℤ pos 0
     down_is d h s k = let t = s.somewhere in by_lt_z d.y (pos 0) (λ low. low) (λ high. absurd (none d.x d.y h (omega (arith, ints, k, high)) t))
       where
@@ -239,7 +229,7 @@ left_is d e x y u v h k i j =
     ∙ ap (λ t. int_lt (pos 0) (cross_at x y t e.y)) i ∙ ap (λ t. int_lt (pos 0) (cross_at x y u t)) j
 
 less_by : (z : ℤ) (m n : ℕ) → z ≡ pos m -ℤ pos n → int_lt (pos 0) z ≡ nat_lt n m
-less_by z m n h = by_lt n m (λ lt. up z m n h lt ∙ sym (yes n m lt)) (λ le. down z m n h le ∙ sym (no n m le))
+less_by z m n h = by_lt n m (λ lt. up z m n h lt ∙ sym (number_less_tested n m lt)) (λ le. down z m n h le ∙ sym (number_not_less n m le))
   where
     up : (z : ℤ) (m n : ℕ) → z ≡ pos m -ℤ pos n → n < m → int_lt (pos 0) z ≡ true
     up z m n h k = grind (arith, ints)
@@ -268,7 +258,7 @@ off_fourth : (a b c e : ℕ) → cross_at (pos b) (neg_ℤ (pos a)) (neg_ℤ (po
 off_fourth a b c e = let f = times_neg (pos b) (pos e) in let g = neg_times (pos a) (neg_ℤ (pos c)) in let h = times_neg (pos a) (pos c) in omega (arith, ints, f, g, h)
 
 some_product : (a b c e : ℕ) → 0 < a → 0 < c → nat_lt 0 (a * c + b * e) ≡ true
-some_product a b c e h k = yes 0 (a * c + b * e) (let g = le_times 1 a c (omega (arith, h)) in omega (arith, g, k))
+some_product a b c e h k = number_less_tested 0 (a * c + b * e) (let g = le_times 1 a c (omega (arith, h)) in omega (arith, g, k))
 
 -- ---- together
 
@@ -279,7 +269,7 @@ tells_by d e u v l x y hu hv hl hx hy h =
     ∙ sym (ap (λ t. nat_lt t (place_of e)) hx ∙ ap (nat_lt x) hy)
 
 shifted : (q m n : ℕ) → nat_lt (q + m) (q + n) ≡ nat_lt m n
-shifted q m n = by_lt m n (λ lt. yes (q + m) (q + n) (omega (arith, lt)) ∙ sym (yes m n lt)) (λ le. no (q + m) (q + n) (omega (arith, le)) ∙ sym (no m n le))
+shifted q m n = by_lt m n (λ lt. number_less_tested (q + m) (q + n) (omega (arith, lt)) ∙ sym (number_less_tested m n lt)) (λ le. number_not_less (q + m) (q + n) (omega (arith, le)) ∙ sym (number_not_less m n le))
 
 tells : (d e : Point) → Quarter d → Quarter e → turns_before d e ≡ nat_lt (place_of d) (place_of e)
 tells d e (first a b s h k) (first c f t i j) =
@@ -297,43 +287,43 @@ tells d e (fourth a b s h k) (fourth c f t i j) =
 tells d e (first a b s h k) (second c f t i j) =
     tells_by d e true true true (part_of a b) (1099511627776 + part_of c f) (upper_is d _ _ h k ∙ first_upper a b s.some) (upper_is e _ _ i j ∙ second_upper c f t.some)
       (left_is d e _ _ _ _ h k i j ∙ less_by _ (a * c + b * f) 0 (on_first a b c f) ∙ some_product a b c f s.some t.some) (place_is d _ _ h k ∙ first_place a b s.some) (place_is e _ _ i j ∙ second_place c f t.some)
-      (sym (yes _ _ (let g = part_below a b s in omega (arith, g))))
+      (sym (number_less_tested _ _ (let g = part_below a b s in omega (arith, g))))
 tells d e (second a b s h k) (first c f t i j) =
     tells_by d e true true false (1099511627776 + part_of a b) (part_of c f) (upper_is d _ _ h k ∙ second_upper a b s.some) (upper_is e _ _ i j ∙ first_upper c f t.some)
-      (left_is d e _ _ _ _ h k i j ∙ less_by _ 0 (b * f + a * c) (off_second a b c f) ∙ no (b * f + a * c) 0 (omega arith)) (place_is d _ _ h k ∙ second_place a b s.some) (place_is e _ _ i j ∙ first_place c f t.some)
-      (sym (no _ _ (let g = part_below c f t in omega (arith, g))))
+      (left_is d e _ _ _ _ h k i j ∙ less_by _ 0 (b * f + a * c) (off_second a b c f) ∙ number_not_less (b * f + a * c) 0 (omega arith)) (place_is d _ _ h k ∙ second_place a b s.some) (place_is e _ _ i j ∙ first_place c f t.some)
+      (sym (number_not_less _ _ (let g = part_below c f t in omega (arith, g))))
 tells d e (third a b s h k) (fourth c f t i j) =
     tells_by d e false false true (2199023255552 + part_of a b) (3298534883328 + part_of c f) (upper_is d _ _ h k ∙ third_upper a b s.some) (upper_is e _ _ i j ∙ fourth_upper c f t.some)
       (left_is d e _ _ _ _ h k i j ∙ less_by _ (a * c + b * f) 0 (on_third a b c f) ∙ some_product a b c f s.some t.some) (place_is d _ _ h k ∙ third_place a b s.some) (place_is e _ _ i j ∙ fourth_place c f t.some)
-      (sym (yes _ _ (let g = part_below a b s in omega (arith, g))))
+      (sym (number_less_tested _ _ (let g = part_below a b s in omega (arith, g))))
 tells d e (fourth a b s h k) (third c f t i j) =
     tells_by d e false false false (3298534883328 + part_of a b) (2199023255552 + part_of c f) (upper_is d _ _ h k ∙ fourth_upper a b s.some) (upper_is e _ _ i j ∙ third_upper c f t.some)
-      (left_is d e _ _ _ _ h k i j ∙ less_by _ 0 (b * f + a * c) (off_fourth a b c f) ∙ no (b * f + a * c) 0 (omega arith)) (place_is d _ _ h k ∙ fourth_place a b s.some) (place_is e _ _ i j ∙ third_place c f t.some)
-      (sym (no _ _ (let g = part_below c f t in omega (arith, g))))
+      (left_is d e _ _ _ _ h k i j ∙ less_by _ 0 (b * f + a * c) (off_fourth a b c f) ∙ number_not_less (b * f + a * c) 0 (omega arith)) (place_is d _ _ h k ∙ fourth_place a b s.some) (place_is e _ _ i j ∙ third_place c f t.some)
+      (sym (number_not_less _ _ (let g = part_below c f t in omega (arith, g))))
 tells d e (first a b s h k) (third c f t i j) =
     tells_by d e true false (turns_left d e) (part_of a b) (2199023255552 + part_of c f) (upper_is d _ _ h k ∙ first_upper a b s.some) (upper_is e _ _ i j ∙ third_upper c f t.some) refl
-      (place_is d _ _ h k ∙ first_place a b s.some) (place_is e _ _ i j ∙ third_place c f t.some) (sym (yes _ _ (let g = part_below a b s in omega (arith, g))))
+      (place_is d _ _ h k ∙ first_place a b s.some) (place_is e _ _ i j ∙ third_place c f t.some) (sym (number_less_tested _ _ (let g = part_below a b s in omega (arith, g))))
 tells d e (third a b s h k) (first c f t i j) =
     tells_by d e false true (turns_left d e) (2199023255552 + part_of a b) (part_of c f) (upper_is d _ _ h k ∙ third_upper a b s.some) (upper_is e _ _ i j ∙ first_upper c f t.some) refl
-      (place_is d _ _ h k ∙ third_place a b s.some) (place_is e _ _ i j ∙ first_place c f t.some) (sym (no _ _ (let g = part_below c f t in omega (arith, g))))
+      (place_is d _ _ h k ∙ third_place a b s.some) (place_is e _ _ i j ∙ first_place c f t.some) (sym (number_not_less _ _ (let g = part_below c f t in omega (arith, g))))
 tells d e (first a b s h k) (fourth c f t i j) =
     tells_by d e true false (turns_left d e) (part_of a b) (3298534883328 + part_of c f) (upper_is d _ _ h k ∙ first_upper a b s.some) (upper_is e _ _ i j ∙ fourth_upper c f t.some) refl
-      (place_is d _ _ h k ∙ first_place a b s.some) (place_is e _ _ i j ∙ fourth_place c f t.some) (sym (yes _ _ (let g = part_below a b s in omega (arith, g))))
+      (place_is d _ _ h k ∙ first_place a b s.some) (place_is e _ _ i j ∙ fourth_place c f t.some) (sym (number_less_tested _ _ (let g = part_below a b s in omega (arith, g))))
 tells d e (fourth a b s h k) (first c f t i j) =
     tells_by d e false true (turns_left d e) (3298534883328 + part_of a b) (part_of c f) (upper_is d _ _ h k ∙ fourth_upper a b s.some) (upper_is e _ _ i j ∙ first_upper c f t.some) refl
-      (place_is d _ _ h k ∙ fourth_place a b s.some) (place_is e _ _ i j ∙ first_place c f t.some) (sym (no _ _ (let g = part_below c f t in omega (arith, g))))
+      (place_is d _ _ h k ∙ fourth_place a b s.some) (place_is e _ _ i j ∙ first_place c f t.some) (sym (number_not_less _ _ (let g = part_below c f t in omega (arith, g))))
 tells d e (second a b s h k) (third c f t i j) =
     tells_by d e true false (turns_left d e) (1099511627776 + part_of a b) (2199023255552 + part_of c f) (upper_is d _ _ h k ∙ second_upper a b s.some) (upper_is e _ _ i j ∙ third_upper c f t.some) refl
-      (place_is d _ _ h k ∙ second_place a b s.some) (place_is e _ _ i j ∙ third_place c f t.some) (sym (yes _ _ (let g = part_below a b s in omega (arith, g))))
+      (place_is d _ _ h k ∙ second_place a b s.some) (place_is e _ _ i j ∙ third_place c f t.some) (sym (number_less_tested _ _ (let g = part_below a b s in omega (arith, g))))
 tells d e (third a b s h k) (second c f t i j) =
     tells_by d e false true (turns_left d e) (2199023255552 + part_of a b) (1099511627776 + part_of c f) (upper_is d _ _ h k ∙ third_upper a b s.some) (upper_is e _ _ i j ∙ second_upper c f t.some) refl
-      (place_is d _ _ h k ∙ third_place a b s.some) (place_is e _ _ i j ∙ second_place c f t.some) (sym (no _ _ (let g = part_below c f t in omega (arith, g))))
+      (place_is d _ _ h k ∙ third_place a b s.some) (place_is e _ _ i j ∙ second_place c f t.some) (sym (number_not_less _ _ (let g = part_below c f t in omega (arith, g))))
 tells d e (second a b s h k) (fourth c f t i j) =
     tells_by d e true false (turns_left d e) (1099511627776 + part_of a b) (3298534883328 + part_of c f) (upper_is d _ _ h k ∙ second_upper a b s.some) (upper_is e _ _ i j ∙ fourth_upper c f t.some) refl
-      (place_is d _ _ h k ∙ second_place a b s.some) (place_is e _ _ i j ∙ fourth_place c f t.some) (sym (yes _ _ (let g = part_below a b s in omega (arith, g))))
+      (place_is d _ _ h k ∙ second_place a b s.some) (place_is e _ _ i j ∙ fourth_place c f t.some) (sym (number_less_tested _ _ (let g = part_below a b s in omega (arith, g))))
 tells d e (fourth a b s h k) (second c f t i j) =
     tells_by d e false true (turns_left d e) (3298534883328 + part_of a b) (1099511627776 + part_of c f) (upper_is d _ _ h k ∙ fourth_upper a b s.some) (upper_is e _ _ i j ∙ second_upper c f t.some) refl
-      (place_is d _ _ h k ∙ fourth_place a b s.some) (place_is e _ _ i j ∙ second_place c f t.some) (sym (no _ _ (let g = part_below c f t in omega (arith, g))))
+      (place_is d _ _ h k ∙ fourth_place a b s.some) (place_is e _ _ i j ∙ second_place c f t.some) (sym (number_not_less _ _ (let g = part_below c f t in omega (arith, g))))
 
 -- a direction comes before another exactly where its place is smaller
 pub place_tells : (d e : Point) → IsDirection d → IsDirected d → IsDirection e → IsDirected e → turns_before d e ≡ nat_lt (place_of d) (place_of e)

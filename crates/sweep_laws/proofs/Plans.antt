@@ -29,6 +29,7 @@ use Rattle.sweep_laws.proofs.Beside.{beside_join_first, beside_each, each_two_jo
 use Rattle.sweep_laws.proofs.Standing.{MayStand, clear, next, prev, BothApart, ways_of, standing_apart}
 use Rattle.exact_geom.proofs.Turns.{cross_of_exchanged}
 use Rattle.int_laws.proofs.Tests.{tested_equal}
+use Rattle.sweep_laws.proofs.Tests.{mapped_at, neither_of, tested_not}
 
 -- ---- the edges of a plan, whichever way they are directed
 
@@ -37,14 +38,6 @@ edges_of_obstacle o = edges_of o.points
 
 abbrev pub edges_of_plan : Plan → List Segment
 edges_of_plan plan = (edges_of plan.outer ++ flat_map edges_of_obstacle plan.obstacles) ++ map segment_of_screen plan.screens
-
-not_true : (t : Bool) → not t ≡ true → t ≡ false
-not_true true h = absurd (grind arith)
-not_true false h = refl
-
-or_false : (a b : Bool) → (a || b) ≡ false → (a ≡ false) × (b ≡ false)
-or_false false b h = (refl, h)
-or_false true b h = absurd (grind arith)
 
 own_edges : (points : List Point) → is_polygon points ≡ true → each_two stands (edges_of points) ≡ true
 unfolding crosses_nowhere
@@ -57,13 +50,13 @@ own_edges points h =
 within_outer : (outer points : List Point) → lies_within outer points ≡ true → stand_beside (edges_of outer) (edges_of points) ≡ true
 unfolding lies_within
 within_outer outer points h =
-    clear_beside (edges_of outer) (edges_of points) (not_true _ (and_parts (list_all (λ p. is_inside p outer) points) (not (borders_touch outer points)) h).1)
+    clear_beside (edges_of outer) (edges_of points) (tested_not _ (and_parts (list_all (λ p. is_inside p outer) points) (not (borders_touch outer points)) h).1)
 
 each_apart : (o q : Obstacle) → obstacles_apart o q ≡ true → stand_beside (edges_of_obstacle o) (edges_of_obstacle q) ≡ true
 unfolding polygons_meet
 each_apart o q h =
-    let a = not_true _ (and_parts (not (polygons_meet o.points q.points)) (not (bytes_eq o.name q.name)) h).0 in
-    let b = or_false (borders_touch o.points q.points) (list_any (λ p. is_inside p q.points) o.points || list_any (λ p. is_inside p o.points) q.points) a in
+    let a = tested_not _ (and_parts (not (polygons_meet o.points q.points)) (not (bytes_eq o.name q.name)) h).0 in
+    let b = neither_of (borders_touch o.points q.points) (list_any (λ p. is_inside p q.points) o.points || list_any (λ p. is_inside p o.points) q.points) a in
     clear_beside (edges_of o.points) (edges_of q.points) b.0
 
 each_two_weaker : {X : Type 0} (r q : X → X → Bool) → ((x y : X) → r x y ≡ true → q x y ≡ true) → (xs : List X) → each_two r xs ≡ true → each_two q xs ≡ true
@@ -92,7 +85,7 @@ mapped_all p screens h = list_all-map p segment_of_screen screens ∙ h
 
 screen_within : (outer : List Point) (s : Screen) → segment_lies_within outer s.from s.to ≡ true → list_all (λ e. stands e (segment_of_screen s)) (edges_of outer) ≡ true
 unfolding segment_lies_within
-screen_within outer s h = clear_of (segment_of_screen s) (edges_of outer) (not_true _ (and_parts (is_inside s.from outer && is_inside s.to outer) (not (touches_border s.from s.to outer)) h).1)
+screen_within outer s h = clear_of (segment_of_screen s) (edges_of outer) (tested_not _ (and_parts (is_inside s.from outer && is_inside s.to outer) (not (touches_border s.from s.to outer)) h).1)
 
 outer_beside_screens : (plan : Plan) → ScreenParts plan → stand_beside (edges_of plan.outer) (map segment_of_screen plan.screens) ≡ true
 outer_beside_screens plan parts =
@@ -103,13 +96,13 @@ outer_beside_screens plan parts =
 
 clear_of_obstacle : (s : Screen) (o : Obstacle) → segment_meets_polygon s.from s.to o.points ≡ false → list_all (λ e. stands e (segment_of_screen s)) (edges_of_obstacle o) ≡ true
 unfolding segment_meets_polygon
-clear_of_obstacle s o h = clear_of (segment_of_screen s) (edges_of o.points) (or_false (touches_border s.from s.to o.points) (is_inside s.from o.points || is_inside s.to o.points) h).0
+clear_of_obstacle s o h = clear_of (segment_of_screen s) (edges_of o.points) (neither_of (touches_border s.from s.to o.points) (is_inside s.from o.points || is_inside s.to o.points) h).0
 
 clear_of_obstacles : (s : Screen) (os : List Obstacle) → list_any (λ o. segment_meets_polygon s.from s.to o.points) os ≡ false
     → list_all (λ e. stands e (segment_of_screen s)) (flat_map edges_of_obstacle os) ≡ true
 clear_of_obstacles s [] h = refl
 clear_of_obstacles s (o ∷ os) h =
-    let parts = or_false (segment_meets_polygon s.from s.to o.points) (list_any (λ o. segment_meets_polygon s.from s.to o.points) os) h in
+    let parts = neither_of (segment_meets_polygon s.from s.to o.points) (list_any (λ o. segment_meets_polygon s.from s.to o.points) os) h in
     list_all-append (λ e. stands e (segment_of_screen s)) (edges_of_obstacle o) (flat_map edges_of_obstacle os)
     ∙ and_from (list_all (λ e. stands e (segment_of_screen s)) (edges_of_obstacle o)) (list_all (λ e. stands e (segment_of_screen s)) (flat_map edges_of_obstacle os))
         (clear_of_obstacle s o parts.0) (clear_of_obstacles s os parts.1)
@@ -119,7 +112,7 @@ obstacles_beside_screens plan parts =
     beside_by_columns (flat_map edges_of_obstacle plan.obstacles) (map segment_of_screen plan.screens)
       (mapped_all (λ f. list_all (λ e. stands e f) (flat_map edges_of_obstacle plan.obstacles)) plan.screens
         (list_all_weaker (λ s. not (list_any (λ o. segment_meets_polygon s.from s.to o.points) plan.obstacles)) (λ s. list_all (λ e. stands e (segment_of_screen s)) (flat_map edges_of_obstacle plan.obstacles))
-          (λ s h. clear_of_obstacles s plan.obstacles (not_true _ h)) plan.screens parts.clear))
+          (λ s h. clear_of_obstacles s plan.obstacles (tested_not _ h)) plan.screens parts.clear))
 
 mapped_two : (screens : List Screen) → each_two (λ s t. stands (segment_of_screen s) (segment_of_screen t)) screens ≡ true → each_two stands (map segment_of_screen screens) ≡ true
 mapped_two [] h = refl
@@ -133,7 +126,7 @@ mapped_two (s ∷ screens) h =
 own_screens : (plan : Plan) → ScreenParts plan → each_two stands (map segment_of_screen plan.screens) ≡ true
 own_screens plan parts =
     mapped_two plan.screens (each_two_weaker screens_apart (λ s t. stands (segment_of_screen s) (segment_of_screen t))
-      (λ s t h. clear_stands (segment_of_screen s) (segment_of_screen t) (not_true _ (and_parts (not (do_touch s.from s.to t.from t.to)) (not (bytes_eq s.name t.name)) h).0)) plan.screens parts.apart)
+      (λ s t h. clear_stands (segment_of_screen s) (segment_of_screen t) (tested_not _ (and_parts (not (do_touch s.from s.to t.from t.to)) (not (bytes_eq s.name t.name)) h).0)) plan.screens parts.apart)
 
 -- each two edges of an accepted plan may stand beside each other
 pub plan_stands : (plan : Plan) → is_sound plan ≡ true → each_two stands (edges_of_plan plan) ≡ true
@@ -219,11 +212,6 @@ two_at r (x ∷ xs) i zero d h lt within = absurd (omega arith)
 two_at r (x ∷ xs) zero (suc j) d h lt within = all_at (r x) xs j d (and_parts (list_all (r x) xs) (each_two r xs) (sym (each_two_cons r x xs) ∙ h)).0 (omega arith)
 two_at r (x ∷ xs) (suc i) (suc j) d h lt within = two_at r xs i j d (and_parts (list_all (r x) xs) (each_two r xs) (sym (each_two_cons r x xs) ∙ h)).1 (omega arith) (omega arith)
 
-mapped_at : {X Y : Type 0} (f : X → Y) (xs : List X) (k : ℕ) (d : X) (e : Y) → k < length xs → get_or (map f xs) k e ≡ f (get_or xs k d)
-mapped_at f [] k d e lt = absurd (omega arith)
-mapped_at f (x ∷ xs) zero d e lt = refl
-mapped_at f (x ∷ xs) (suc k) d e lt = mapped_at f xs k d e (omega arith)
-
 pub same_length : {X Y : Type 0} (f : X → Y) (xs : List X) → length (map f xs) ≡ length xs
 same_length f [] = refl
 same_length f (x ∷ xs) = ap suc (same_length f xs)
@@ -242,10 +230,10 @@ pub may_of : (e f : Segment) → stands e f ≡ true → MayStand e.a e.b f.a f.
 may_of e f h =
     stand_cases (edges_touch e f) (follows e f) (follows f e) h (λ t. clear t)
       (λ t. let parts = and_parts (same_point e.b f.a) (not (folds_back e f)) t in
-          let off = or_false (is_on_segment e.a f.a f.b) (is_on_segment f.b e.a e.b) (not_true _ parts.1) in
+          let off = neither_of (is_on_segment e.a f.a f.b) (is_on_segment f.b e.a e.b) (tested_not _ parts.1) in
           next (points_same e.b f.a parts.0) off.0 off.1)
       (λ t. let parts = and_parts (same_point f.b e.a) (not (folds_back f e)) t in
-          let off = or_false (is_on_segment f.a e.a e.b) (is_on_segment e.b f.a f.b) (not_true _ parts.1) in
+          let off = neither_of (is_on_segment f.a e.a e.b) (is_on_segment e.b f.a f.b) (tested_not _ parts.1) in
           prev (points_same f.b e.a parts.0) off.0 off.1)
 
 nowhere : Segment

@@ -16,12 +16,12 @@ use Rattle.exact_geom.proofs.Orientation.{orient_of_cycled}
 use Rattle.sweep_laws.specs.Order.{Seen}
 use Rattle.sweep_laws.specs.Groups.{is_own, is_ahead, is_behind}
 use Rattle.sweep_laws.specs.Parts.{IsFirst, IsNearestOrNone, leaves_left, begins_blocked, is_hidden, is_nearer, is_up_to}
-use Rattle.sweep_laws.proofs.Fronts.{both_of}
 use Rattle.sweep_laws.proofs.Between.{line_of_segment}
 use Rattle.plane_spec.specs.Segments.{is_on_segment}
 use Rattle.sweep_laws.proofs.Facing.{hides_itself, hidden_by_front, hidden_by_none}
 use Rattle.sweep_laws.proofs.Ahead.{is_before_end, is_up_to_end, corners_where, before_by_nearest, up_to_by_nearest, none_before, none_up_to}
 use Rattle.int_laws.proofs.Ring.{times_minus}
+use Rattle.sweep_laws.proofs.Tests.{both_of, guarded}
 
 -- the wall or screen of the number hides a point on it
 abbrev pub first_hides : Scene → Point → Option (ℕ × Seen) → Bool
@@ -52,10 +52,6 @@ from_line x y px py qx qy ax ay h =
     let c = times_minus x qy ay in let e = times_minus y qx ax in
     let f = times_minus x qy py in let g = times_minus y qx px in
     omega (arith, ints, a, b, c, e, f, g, h)
-
-guarded : (m a b : Bool) → (m ≡ true → a ≡ b) → (m && a) ≡ (m && b)
-guarded true a b f = f refl
-guarded false a b f = refl
 
 left_is : (p q : Point) (w : Segment) → starts_into_wall p q w ≡ leaves_left p (vector p q) w
 unfolding starts_into_wall

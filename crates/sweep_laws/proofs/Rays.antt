@@ -11,10 +11,10 @@ use Rattle.sight_spec.specs.Stops.{blocker_hit, is_nearest, near_wall_of}
 use Rattle.sweep_laws.specs.Order.{Seen, spans, hit_of, seen_of, hit_where}
 use Rattle.sweep_laws.specs.Fronts.{seen_at, IsFront, IsBare}
 use Rattle.sweep_laws.specs.Parts.{IsFirst}
-use Rattle.sweep_laws.proofs.Fronts.{by_cases}
 use Rattle.sweep_laws.proofs.Views.{hit_is_where}
 use Rattle.sweep_laws.proofs.Least.{one_way, never_self}
-use Rattle.sweep_laws.proofs.Crossing.{any_is, any_at, mapped_at, nowhere, by_same}
+use Rattle.sweep_laws.proofs.Crossing.{any_is, any_at, nowhere, by_same}
+use Rattle.sweep_laws.proofs.Tests.{by_cases, mapped_at, never_equal, number_less_tested}
 
 -- ---- the first place
 
@@ -36,10 +36,7 @@ place_is test (x ∷ xs) (suc k) d lt h f =
 position_is : {X : Type 0} (test : X → Bool) (xs : List X) (k : ℕ) (d : X) → k < length xs → test (get_or xs k d) ≡ true → ((j : ℕ) → j < k → test (get_or xs j d) ≡ false) → position test xs ≡ Some k
 position_is test xs k d lt h f =
     let e = place_is test xs k d lt h f in
-    ap (λ t. cond (nat_lt t (length xs)) (Some t) None) e ∙ ap (λ t. cond t (Some k) None) (less k (length xs) lt)
-  where
-    less : (m n : ℕ) → m < n → nat_lt m n ≡ true
-    less m n h = grind arith
+    ap (λ t. cond (nat_lt t (length xs)) (Some t) None) e ∙ ap (λ t. cond t (Some k) None) (number_less_tested k (length xs) lt)
 
 no_place : {X : Type 0} (test : X → Bool) (xs : List X) (d : X) → ((j : ℕ) → j < length xs → test (get_or xs j d) ≡ false) → position_or_len test xs ≡ length xs
 no_place test [] d f = refl
@@ -139,9 +136,7 @@ near_wall_is scene p d None bare =
 near_wall_is scene p d (Some first) front =
     let lines = blockers_of_scene scene in
     position_is (is_nearest p d lines) lines first.0 nowhere front.within (front_nearest p d lines first.0 first.1 front)
-      (λ j lt. other_not p d lines first.0 j first.1 front (others_later p d lines first.0 j first.1 front (below j first.0 (length lines) lt front.within) (λ e. differ j first.0 lt e)))
+      (λ j lt. other_not p d lines first.0 j first.1 front (others_later p d lines first.0 j first.1 front (below j first.0 (length lines) lt front.within) (λ e. never_equal j first.0 lt e)))
   where
     below : (j k n : ℕ) → j < k → k < n → j < n
     below j k n h l = omega (arith, h, l)
-    differ : (j k : ℕ) → j < k → j ≡ k → ⊥
-    differ j k h e = omega (arith, h, e)

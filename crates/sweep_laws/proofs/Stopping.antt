@@ -20,7 +20,6 @@ use Rattle.exact_geom.proofs.Values.{same_reduced}
 use Rattle.sweep_laws.specs.Order.{Seen, hit_of, spans, seen_of, hit_where}
 use Rattle.sweep_laws.specs.Groups.{stands_in, is_own, is_ahead, no_corner, IsNearest}
 use Rattle.sweep_laws.specs.Parts.{IsFirst, IsNearestOrNone, leaves_left, nearer_hit, line_stop, corner_stop, start_stop, first_stop}
-use Rattle.sweep_laws.proofs.Fronts.{by_cases, both_of}
 use Rattle.sweep_laws.proofs.Least.{IsUp, none_chain, one_way, never_self, up_best, best_is_least}
 use Rattle.sweep_laws.proofs.Crossing.{any_is, any_at, some_of, nowhere}
 use Rattle.sweep_laws.proofs.Rays.{front_hit, any_found, none_before_front, passes_hit, bare_hit}
@@ -31,6 +30,7 @@ use Rattle.int_laws.proofs.Ring.{dot_times, dot_times_across, times_minus}
 use Rattle.int_laws.proofs.Signs.{zero_factor, not_negative_product, tested_positive}
 use Rattle.sweep_laws.proofs.Plans.{points_same}
 use Rattle.int_laws.proofs.Tests.{agree, less_tested, not_less}
+use Rattle.sweep_laws.proofs.Tests.{both_of, both_true, by_cases, either_first, either_second, neither, neither_first, neither_second, never, no_difference, other_of_either, tested_not, tested_zero, zero_tested}
 
 -- ---- tests of lists
 
@@ -44,29 +44,12 @@ any_append test (x ∷ xs) ys = ap (λ t. test x || t) (any_append test xs ys) �
 
 none_at : {X : Type 0} (test : X → Bool) (xs : List X) (k : ℕ) (d : X) → list_any test xs ≡ false → k < length xs → test (get_or xs k d) ≡ false
 none_at test [] k d h lt = absurd (omega arith)
-none_at test (x ∷ xs) zero d h lt = first (test x) (list_any test xs) h
-  where
-    first : (a b : Bool) → (a || b) ≡ false → a ≡ false
-    first a b h = grind arith
-none_at test (x ∷ xs) (suc k) d h lt = none_at test xs k d (second (test x) (list_any test xs) h) (omega arith)
-  where
-    second : (a b : Bool) → (a || b) ≡ false → b ≡ false
-    second a b h = grind arith
+none_at test (x ∷ xs) zero d h lt = neither_first (test x) (list_any test xs) h
+
+none_at test (x ∷ xs) (suc k) d h lt = none_at test xs k d (neither_second (test x) (list_any test xs) h) (omega arith)
 
 none_of : {X : Type 0} (test : X → Bool) (xs : List X) (d : X) → ((k : ℕ) → k < length xs → test (get_or xs k d) ≡ false) → list_any test xs ≡ false
 none_of test xs d f = any_is test xs d false (λ some. sym (f some.place some.within) ∙ some.holds) (λ h. absurd (grind arith))
-
-neither : (a b : Bool) → a ≡ false → b ≡ false → (a || b) ≡ false
-neither a b h k = grind arith
-
-or_first : (a b : Bool) → a ≡ true → (a || b) ≡ true
-or_first a b h = grind arith
-
-or_second : (a b : Bool) → b ≡ true → (a || b) ≡ true
-or_second a b h = grind arith
-
-of_not : (a : Bool) → not a ≡ true → a ≡ false
-of_not a h = grind arith
 
 -- ---- the least of a list, by its value
 
@@ -93,7 +76,7 @@ best_value a xs h all l =
     let first : is_before best h ≡ false = up_best (λ k. is_before k h ≡ false) a xs (none_at (λ k. is_before k h) (a ∷ xs) 0 a l.none (omega arith)) (λ k d lt. none_at (λ t. is_before t h) (a ∷ xs) (suc k) d l.none (omega arith)) in
     let some = some_of (reaches_back h) (a ∷ xs) a l.reached in
     let k = get_or (a ∷ xs) some.place a in
-    let second : is_before h best ≡ false = none_chain h k best l.up (all some.place a some.within) best_up (of_not (is_before h k) some.holds) (best_is_least a xs a_up rest some.place a some.within) in
+    let second : is_before h best ≡ false = none_chain h k best l.up (all some.place a some.within) best_up (tested_not (is_before h k) some.holds) (best_is_least a xs a_up rest some.place a some.within) in
     equal (best.num *ℤ h.den) (h.num *ℤ best.den) first second
   where
     equal : (x y : ℤ) → int_lt x y ≡ false → int_lt y x ≡ false → int_eq x y ≡ true
@@ -105,10 +88,8 @@ least_up h k = omega (arith, ints, k)
 -- the stop is the least, in lowest terms
 pub reduced_least : (hits : List Fraction) (o : Option Fraction) → All IsUp hits → HasLeast hits o → option_map reduced (min_by is_before hits) ≡ option_map reduced o
 reduced_least hits None all h = ap (λ t. option_map reduced (min_by is_before t)) h
-reduced_least [] (Some h) all l = absurd (clash l.reached)
-  where
-    clash : false ≡ true → ⊥
-    clash e = grind arith
+reduced_least [] (Some h) all l = absurd (never l.reached)
+
 reduced_least (a ∷ xs) (Some h) all l =
     ap Some (same_reduced (best_of is_before a xs) h
       (least_up (best_of is_before a xs) (up_best IsUp a xs (all 0 a (omega arith)) (λ k d lt. all (suc k) d (omega arith)))) (least_up h l.up) (best_value a xs h all l))
@@ -132,12 +113,12 @@ least_append xs ys (Some a) (Some b) x_up y_up h k =
     chosen (is_before b a) b a (xs ++ ys)
       (λ before. record {
         up = k.up;
-        reached = any_append (reaches_back b) xs ys ∙ or_second (list_any (reaches_back b) xs) (list_any (reaches_back b) ys) k.reached;
+        reached = any_append (reaches_back b) xs ys ∙ either_second (list_any (reaches_back b) xs) (list_any (reaches_back b) ys) k.reached;
         none = any_append (λ t. is_before t b) xs ys ∙ neither (list_any (λ t. is_before t b) xs) (list_any (λ t. is_before t b) ys) (none_earlier xs a b x_up h.up k.up h.none (one_way b a before)) k.none;
       })
       (λ after. record {
         up = h.up;
-        reached = any_append (reaches_back a) xs ys ∙ or_first (list_any (reaches_back a) xs) (list_any (reaches_back a) ys) h.reached;
+        reached = any_append (reaches_back a) xs ys ∙ either_first (list_any (reaches_back a) xs) (list_any (reaches_back a) ys) h.reached;
         none = any_append (λ t. is_before t a) xs ys ∙ neither (list_any (λ t. is_before t a) xs) (list_any (λ t. is_before t a) ys) h.none (none_earlier ys b a y_up k.up h.up k.none after);
       })
 
@@ -221,23 +202,12 @@ at_station d v some across along = (zero_factor v.x (dot_of d d) x some, zero_fa
     x : v.x *ℤ dot_of d d ≡ pos 0
     x = vanish_across v.x (pos 0) (dot_of d d) d.x d.y (dot_of v d) (cross_of v d) dot_back cross_back (dot_times_across v.x v.y d.x d.y)
 
-zero_is : (z : ℤ) → z ≡ pos 0 → int_eq z (pos 0) ≡ true
-zero_is z h = grind (arith, ints)
-
-zero_of : (z : ℤ) → int_eq z (pos 0) ≡ true → z ≡ pos 0
-zero_of z h = grind (arith, ints)
-
-both : (a b : Bool) → a ≡ true → b ≡ true → (a && b) ≡ true
-both a b h k = grind arith
-
 -- a corner at the station stands across no direction, and at no distance
 own_zero : (p d : Point) (c : Corner) → same_point c.here p ≡ true → (cross_of d (vector p c.here) ≡ pos 0) × (dot_of d (vector p c.here) ≡ pos 0)
-own_zero p d c h = products d.x d.y (c.here.x -ℤ p.x) (c.here.y -ℤ p.y) (nothing c.here.x p.x (ap (λ t. t.x) same)) (nothing c.here.y p.y (ap (λ t. t.y) same))
+own_zero p d c h = products d.x d.y (c.here.x -ℤ p.x) (c.here.y -ℤ p.y) (no_difference c.here.x p.x (ap (λ t. t.x) same)) (no_difference c.here.y p.y (ap (λ t. t.y) same))
   where
     same : c.here ≡ p
     same = points_same c.here p h
-    nothing : (x y : ℤ) → x ≡ y → x -ℤ y ≡ pos 0
-    nothing x y e = omega (arith, ints, e)
     products : (x y u v : ℤ) → u ≡ pos 0 → v ≡ pos 0 → (x *ℤ v -ℤ y *ℤ u ≡ pos 0) × (x *ℤ u +ℤ y *ℤ v ≡ pos 0)
     products x y u v a b =
         let e : x *ℤ v ≡ x *ℤ pos 0 = ap (λ t. x *ℤ t) b in
@@ -255,17 +225,17 @@ corner_hit_is p d c some =
         (λ h. let one = both_of (int_eq (cross_of d v) (pos 0)) (int_le (pos 0) (dot_of d v) && is_in_cone c d) h in
             let two = both_of (int_le (pos 0) (dot_of d v)) (is_in_cone c d) one.1 in
             by_cases (int_lt (pos 0) (dot_of d v))
-              (λ k. or_second (is_own p d c) (is_ahead p d c) (both (stands_in p d c.here) (is_in_cone c d) (both (int_eq (cross_of d v) (pos 0)) (int_lt (pos 0) (dot_of d v)) one.0 k) two.1))
-              (λ k. let zero = at_station d v some (zero_of (cross_of d v) one.0) (between_zero (dot_of d v) two.0 k) in
-                  or_first (is_own p d c) (is_ahead p d c) (both (same_point c.here p) (is_in_cone c d)
-                    (both (int_eq c.here.x p.x) (int_eq c.here.y p.y) (equal_is c.here.x p.x zero.0) (equal_is c.here.y p.y zero.1)) two.1)))
+              (λ k. either_second (is_own p d c) (is_ahead p d c) (both_true (stands_in p d c.here) (is_in_cone c d) (both_true (int_eq (cross_of d v) (pos 0)) (int_lt (pos 0) (dot_of d v)) one.0 k) two.1))
+              (λ k. let zero = at_station d v some (tested_zero (cross_of d v) one.0) (between_zero (dot_of d v) two.0 k) in
+                  either_first (is_own p d c) (is_ahead p d c) (both_true (same_point c.here p) (is_in_cone c d)
+                    (both_true (int_eq c.here.x p.x) (int_eq c.here.y p.y) (equal_is c.here.x p.x zero.0) (equal_is c.here.y p.y zero.1)) two.1)))
         (λ h. by_cases (is_own p d c)
           (λ k. let two = both_of (same_point c.here p) (is_in_cone c d) k in
               let zero = own_zero p d c two.0 in
-              both (int_eq (cross_of d v) (pos 0)) (int_le (pos 0) (dot_of d v) && is_in_cone c d) (zero_is (cross_of d v) zero.0) (both (int_le (pos 0) (dot_of d v)) (is_in_cone c d) (least_is (dot_of d v) zero.1) two.1))
-          (λ k. let two = both_of (stands_in p d c.here) (is_in_cone c d) (or_rest (is_own p d c) (is_ahead p d c) k h) in
+              both_true (int_eq (cross_of d v) (pos 0)) (int_le (pos 0) (dot_of d v) && is_in_cone c d) (zero_tested (cross_of d v) zero.0) (both_true (int_le (pos 0) (dot_of d v)) (is_in_cone c d) (least_is (dot_of d v) zero.1) two.1))
+          (λ k. let two = both_of (stands_in p d c.here) (is_in_cone c d) (other_of_either (is_own p d c) (is_ahead p d c) k h) in
               let one = both_of (int_eq (cross_of d v) (pos 0)) (int_lt (pos 0) (dot_of d v)) two.0 in
-              both (int_eq (cross_of d v) (pos 0)) (int_le (pos 0) (dot_of d v) && is_in_cone c d) one.0 (both (int_le (pos 0) (dot_of d v)) (is_in_cone c d) (weaker (dot_of d v) one.1) two.1))))
+              both_true (int_eq (cross_of d v) (pos 0)) (int_le (pos 0) (dot_of d v) && is_in_cone c d) one.0 (both_true (int_le (pos 0) (dot_of d v)) (is_in_cone c d) (weaker (dot_of d v) one.1) two.1))))
   where
     between_zero : (z : ℤ) → int_le (pos 0) z ≡ true → int_lt (pos 0) z ≡ false → z ≡ pos 0
     between_zero z h k = omega (arith, ints, h, k)
@@ -275,9 +245,6 @@ corner_hit_is p d c some =
     least_is z h = grind (arith, ints)
     weaker : (z : ℤ) → int_lt (pos 0) z ≡ true → int_le (pos 0) z ≡ true
     weaker z h = grind (arith, ints)
-    or_rest : (a b : Bool) → a ≡ false → (a || b) ≡ true → b ≡ true
-    or_rest a b h k = grind arith
-
 zero_before : (k n : ℤ) → pos 0 <ℤ k → is_before (whole (pos 0)) (record { num = k; den = n }) ≡ true
 zero_before k n h = less_tested (pos 0 *ℤ n) (k *ℤ pos 1) (omega (arith, ints, h))
 
@@ -310,7 +277,7 @@ own_least p d corners some own =
       up = omega (arith, ints);
       reached = any_found (reaches_back (whole (pos 0))) (corner_hit p d) corners
           ∙ any_at (λ c. passes_hit (reaches_back (whole (pos 0))) (corner_hit p d c)) corners no_corner (record { place = s.place; within = s.within;
-              holds = ap (passes_hit (reaches_back (whole (pos 0)))) (corner_hit_is p d c some ∙ ap (λ t. cond t (Some (corner_time p d c)) None) (or_first (is_own p d c) (is_ahead p d c) s.holds))
+              holds = ap (passes_hit (reaches_back (whole (pos 0)))) (corner_hit_is p d c some ∙ ap (λ t. cond t (Some (corner_time p d c)) None) (either_first (is_own p d c) (is_ahead p d c) s.holds))
                   ∙ ap not (never_after (dot_of d (vector p c.here)) (dot_of d d) (own_zero p d c (both_of (same_point c.here p) (is_in_cone c d) s.holds).0).1) });
       none = any_found (λ k. is_before k (whole (pos 0))) (corner_hit p d) corners ∙ none_of (λ c. passes_hit (λ k. is_before k (whole (pos 0))) (corner_hit p d c)) corners no_corner (λ k lt. corner_later p d (get_or corners k no_corner) some);
     }
@@ -328,7 +295,7 @@ ahead_least p d corners v some own n =
       up = some;
       reached = any_found (reaches_back h) (corner_hit p d) corners
           ∙ any_at (λ c. passes_hit (reaches_back h) (corner_hit p d c)) corners no_corner (record { place = n.place; within = n.within;
-              holds = ap (passes_hit (reaches_back h)) (corner_hit_is p d c some ∙ ap (λ t. cond t (Some (corner_time p d c)) None) (or_second (is_own p d c) (is_ahead p d c) n.passes))
+              holds = ap (passes_hit (reaches_back h)) (corner_hit_is p d c some ∙ ap (λ t. cond t (Some (corner_time p d c)) None) (either_second (is_own p d c) (is_ahead p d c) n.passes))
                   ∙ ap (λ t. not (is_before h (record { num = dot_of d t; den = dot_of d d }))) n.at ∙ ap not (never_self h) });
       none = any_found (λ k. is_before k h) (corner_hit p d) corners
           ∙ none_of (λ c. passes_hit (λ k. is_before k h) (corner_hit p d c)) corners no_corner

@@ -10,11 +10,11 @@ use Rattle.plane_spec.specs.Fractions.{Fraction, fraction}
 use Rattle.sweep_laws.specs.Order.{seen_of, hit_where, crossed_where}
 use Rattle.sight_spec.specs.Stops.{is_across, wall_parameter, blocker_hit}
 use Rattle.sight_spec.specs.Sight.{crosses}
-use Rattle.sweep_laws.proofs.Fronts.{by_cases}
 use borrow.Author.Differences.{up, down}
 use Rattle.exact_geom.proofs.Turns.{cross_of_exchanged}
 use Rattle.int_laws.proofs.Ring.{is_diff, minus_diff, product_diff, same_diff, sum_diff, diff}
 use Rattle.int_laws.proofs.Signs.{not_positive_tested, positive_tested}
+use Rattle.sweep_laws.proofs.Tests.{by_cases, negative_tested}
 
 -- n is the cross of the ends, x and y are how the ends lie from the ray
 hit_by : (n x y : ℤ) → Option Fraction
@@ -75,8 +75,6 @@ hit_none n x y e =
           (λ q. rw (ratio_down n (y -ℤ x) q) (grind (arith, ints))) in
     skip _ _ _ c
 
-is_down : (z : ℤ) → z <ℤ pos 0 → int_lt z (pos 0) ≡ true
-is_down z h = grind (arith, ints)
 not_down : (z : ℤ) → pos 0 ≤ℤ z → int_lt z (pos 0) ≡ false
 not_down z h = grind (arith, ints)
 is_none : (z : ℤ) → z ≤ℤ pos 0 → pos 0 ≤ℤ z → z ≡ pos 0
@@ -98,7 +96,7 @@ hit_is_where p d w =
           ∙ sym (ap (hit_where d) (pick (int_lt (pos 0) (cross_of a b)) _ _ (positive_tested _ n_up))))
       (λ n_low. by_lt_z (cross_of a b) (pos 0)
         (λ n_down. hit_down (cross_of a b) (cross_of d a) (cross_of d b) (cross_of b d) (cross_of b a) n_down (cross_of_exchanged d b) (cross_of_exchanged a b)
-            ∙ sym (ap (hit_where d) (skip (int_lt (pos 0) (cross_of a b)) _ _ (not_positive_tested _ n_low) ∙ pick (int_lt (cross_of a b) (pos 0)) _ _ (is_down _ n_down))))
+            ∙ sym (ap (hit_where d) (skip (int_lt (pos 0) (cross_of a b)) _ _ (not_positive_tested _ n_low) ∙ pick (int_lt (cross_of a b) (pos 0)) _ _ (negative_tested _ n_down))))
         (λ n_high. hit_none (cross_of a b) (cross_of d a) (cross_of d b) (is_none _ n_low n_high)
             ∙ sym (ap (hit_where d) (skip (int_lt (pos 0) (cross_of a b)) _ _ (not_positive_tested _ n_low) ∙ skip (int_lt (cross_of a b) (pos 0)) _ _ (not_down _ n_high)))))
 
@@ -165,6 +163,6 @@ crosses_where p q w =
           ∙ sym (ap (crossed_where d) (pick (int_lt (pos 0) (cross_of a b)) _ _ (positive_tested _ n_up))))
       (λ n_low. by_lt_z (cross_of a b) (pos 0)
         (λ n_down. cross_down (cross_of a b) (orient_of w.a w.b q) (cross_of d a) (cross_of d b) (cross_of a d) (cross_of b d) _ (cross_of b a) n_down (cross_of_exchanged d a) (cross_of_exchanged d b) (cross_of_exchanged a b) (orient_is_side w.a w.b q p) refl
-            ∙ sym (ap (crossed_where d) (skip (int_lt (pos 0) (cross_of a b)) _ _ (not_positive_tested _ n_low) ∙ pick (int_lt (cross_of a b) (pos 0)) _ _ (is_down _ n_down))))
+            ∙ sym (ap (crossed_where d) (skip (int_lt (pos 0) (cross_of a b)) _ _ (not_positive_tested _ n_low) ∙ pick (int_lt (cross_of a b) (pos 0)) _ _ (negative_tested _ n_down))))
         (λ n_high. cross_none (cross_of a b) (orient_of w.a w.b q) (cross_of d a) (cross_of d b) (is_none _ n_low n_high)
             ∙ sym (ap (crossed_where d) (skip (int_lt (pos 0) (cross_of a b)) _ _ (not_positive_tested _ n_low) ∙ skip (int_lt (cross_of a b) (pos 0)) _ _ (not_down _ n_high)))))

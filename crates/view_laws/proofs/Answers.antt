@@ -18,7 +18,6 @@ use Rattle.sweep_laws.specs.Order.{Seen, spans, side_of}
 use Rattle.sweep_laws.specs.Fronts.{IsFront}
 use Rattle.sweep_laws.specs.Groups.{stands_in, is_ahead, is_behind, back_of}
 use Rattle.sweep_laws.specs.Parts.{IsFirst, IsNearestOrNone, begins_blocked, is_hidden, is_nearer, is_up_to}
-use Rattle.sweep_laws.proofs.Fronts.{both_of}
 use Rattle.sweep_laws.proofs.Crossing.{nowhere}
 use Rattle.sweep_laws.proofs.Facing.{hides_itself}
 use Rattle.sweep_laws.proofs.Points.{first_hides, seen_first, sight_is}
@@ -28,6 +27,7 @@ use Rattle.view_laws.proofs.Lengths.{IsAlong, hit_before}
 use Rattle.view_laws.proofs.Nearest.{Really, unmet, there, beyond, really, lengths_tell, lengths_tell_up_to}
 use Rattle.int_laws.proofs.Signs.{not_negative_product, tested_positive}
 use Rattle.int_laws.proofs.Tests.{tested_at_most, tested_less}
+use Rattle.sweep_laws.proofs.Tests.{both_of, either_first, guarded, negative_tested, never, tested_number_less, tested_zero}
 
 -- ---- the first, as it is told
 
@@ -42,17 +42,10 @@ no_default [] k d e lt = absurd (omega arith)
 no_default (x ∷ xs) zero d e lt = refl
 no_default (x ∷ xs) (suc k) d e lt = no_default xs k d e (omega arith)
 
-guarded : (m a b : Bool) → (m ≡ true → a ≡ b) → (m && a) ≡ (m && b)
-guarded true a b f = f refl
-guarded false a b f = refl
-
 hides_same : (p : Point) (walls : List Segment) (k : ℕ) → hides_at p walls k ≡ hides_itself p walls k
 hides_same p walls k =
     guarded (nat_lt k (length walls)) _ _
-    (λ h. ap (λ w. int_lt (pos 0) (cross_of (vector p w.a) (vector p w.b))) (no_default walls k (record { a = point (pos 0) (pos 0); b = point (pos 0) (pos 0) }) nowhere (less k (length walls) h)))
-  where
-    less : (m n : ℕ) → nat_lt m n ≡ true → m < n
-    less m n h = grind arith
+    (λ h. ap (λ w. int_lt (pos 0) (cross_of (vector p w.a) (vector p w.b))) (no_default walls k (record { a = point (pos 0) (pos 0); b = point (pos 0) (pos 0) }) nowhere (tested_number_less k (length walls) h)))
 
 pub hidden_same : (scene : Scene) (p d : Point) (first : Option (ℕ × Seen)) → is_hidden_by (option_map (front_of scene p) first) d ≡ is_hidden (first_hides scene p first) d (seen_first first)
 hidden_same scene p d None = refl
@@ -70,19 +63,13 @@ pub ahead_along : (p d : Point) (c : Corner) → is_ahead p d c ≡ true → IsA
 ahead_along p d c h =
     let one = both_of (stands_in p d c.here) (is_in_cone c d) h in
     let two = both_of (int_eq (cross_of d (vector p c.here)) (pos 0)) (int_lt (pos 0) (dot_of d (vector p c.here))) one.0 in
-    record { line = zero_of (cross_of d (vector p c.here)) two.0; ahead = tested_positive (dot_of d (vector p c.here)) two.1 }
-  where
-    zero_of : (z : ℤ) → int_eq z (pos 0) ≡ true → z ≡ pos 0
-    zero_of z h = grind (arith, ints)
+    record { line = tested_zero (cross_of d (vector p c.here)) two.0; ahead = tested_positive (dot_of d (vector p c.here)) two.1 }
 
 pub behind_along : (p d : Point) (c : Corner) → is_behind p d c ≡ true → IsAlong d (vector p c.here)
 behind_along p d c h =
     let one = both_of (stands_in p d c.here) (is_in_cone c (back_of d)) h in
     let two = both_of (int_eq (cross_of d (vector p c.here)) (pos 0)) (int_lt (pos 0) (dot_of d (vector p c.here))) one.0 in
-    record { line = zero_of (cross_of d (vector p c.here)) two.0; ahead = tested_positive (dot_of d (vector p c.here)) two.1 }
-  where
-    zero_of : (z : ℤ) → int_eq z (pos 0) ≡ true → z ≡ pos 0
-    zero_of z h = grind (arith, ints)
+    record { line = tested_zero (cross_of d (vector p c.here)) two.0; ahead = tested_positive (dot_of d (vector p c.here)) two.1 }
 
 -- a point beyond what is behind the first is hidden by the first
 end_past : (d v : Point) (s : Seen) → IsDirected d → IsAlong d v → spans d s ≡ true → int_lt (side_of s v) (pos 0) ≡ true → dot_of d v ≤ℤ dot_of d d → int_lt (side_of s d) (pos 0) ≡ true
@@ -100,7 +87,7 @@ end_past d v s some along spanned past near =
 
     behind : (o s v w z : ℤ) → int_lt (o *ℤ s) (v *ℤ w) ≡ true → v ≤ℤ s → pos 0 <ℤ s → pos 0 <ℤ w → z ≡ o -ℤ w → int_lt z (pos 0) ≡ true
     behind o s v w z h near s_up w_up e = by_lt_z o w
-        (λ lt. less z (omega (arith, ints, e, lt)))
+        (λ lt. negative_tested z (omega (arith, ints, e, lt)))
         (λ le. absurd (
         let a = not_negative_product w (s -ℤ v) (omega (arith, ints, w_up)) (omega (arith, ints, near)) in
         let b = times_minus w s v in
@@ -108,19 +95,13 @@ end_past d v s some along spanned past near =
         let f = times_minus s o w in
         let g = tested_less (o *ℤ s) (v *ℤ w) h in
         omega (arith, ints, a, b, c, f, g)))
-      where
-        less : (z : ℤ) → z <ℤ pos 0 → int_lt z (pos 0) ≡ true
-        less z h = grind (arith, ints)
-
-or_first : (a b : Bool) → a ≡ true → (a || b) ≡ true
-or_first a b h = grind arith
 
 -- so what is behind the first doesn't count before the end, since then the end is hidden
 past_hides : (scene : Scene) (p d v : Point) (first : Option (ℕ × Seen)) (f : ℕ × Seen) → IsFirst scene p d first → first ≡ Some f → IsDirected d → IsAlong d v → int_lt (side_of f.1 v) (pos 0) ≡ true → dot_of d v ≤ℤ dot_of d d
     → is_hidden (first_hides scene p first) d (seen_first first) ≡ true
 past_hides scene p d v first f is e some along past near =
     subst (λ t. is_hidden (first_hides scene p t) d (seen_first t) ≡ true) (sym e)
-    (or_first (int_lt (side_of f.1 d) (pos 0)) (int_eq (side_of f.1 d) (pos 0) && hides_itself p scene.walls f.0)
+    (either_first (int_lt (side_of f.1 d) (pos 0)) (int_eq (side_of f.1 d) (pos 0) && hides_itself p scene.walls f.0)
     (end_past d v f.1 some along (spanned_of (subst (λ t. IsFirst scene p d t) e is)) past near))
   where
     spanned_of : IsFront p d (blockers_of_scene scene) f.0 f.1 → spans d f.1 ≡ true
@@ -134,14 +115,10 @@ record Candidate (p d : Point) (test : Corner → Bool) (corners : List Corner) 
 
 either : (h a b : Bool) → (a ≡ true → h ≡ true) → (b ≡ true → h ≡ true) → (h || a) ≡ (h || b)
 either true a b f g = refl
-either false true b f g = absurd (clash (f refl))
-  where
-    clash : false ≡ true → ⊥
-    clash h = grind arith
-either false false true f g = absurd (clash (g refl))
-  where
-    clash : false ≡ true → ⊥
-    clash h = grind arith
+either false true b f g = absurd (never (f refl))
+
+either false false true f g = absurd (never (g refl))
+
 either false false false f g = refl
 
 abbrev Hides : Point → Option (ℕ × Seen) → Bool → Type 0
@@ -162,10 +139,7 @@ before_candidate p d test corners first told hidden some hides (beyond v f n alo
     by_near k = hides v f e along h (weaker (dot_of d v) (dot_of d d) k)
 
     by_told : (o : Option ℕ) → ((n : ℕ) → o ≡ Some n → length_of v ≤ n) → is_before_end_of o d ≡ true → nat_lt (length_of v) (length_of d) ≡ true
-    by_told None g k = absurd (clash k)
-      where
-        clash : false ≡ true → ⊥
-        clash h = grind arith
+    by_told None g k = absurd (never k)
     by_told (Some n) g k = chain (length_of v) n (length_of d) (g n refl) k
       where
         chain : (a b c : ℕ) → a ≤ b → nat_lt b c ≡ true → nat_lt a c ≡ true
@@ -178,15 +152,12 @@ up_to_candidate p d test corners first told hidden some hides (there v n along e
     record { corner = Some v; is = n; agrees = ap (λ t. hidden || t) (lengths_tell_up_to d v some along) ∙ ap (λ t. hidden || is_up_to_end_of t d) (sym e) }
 up_to_candidate p d test corners first told hidden some hides (beyond v f n along e h far) =
     record { corner = Some v; is = n; agrees = either hidden (int_le (dot_of d v) (dot_of d d)) (is_up_to_end_of told d) by_near (λ k. by_near (lengths_tell_up_to d v some along ∙ by_told told far k)) }
-
+  where
     by_near : int_le (dot_of d v) (dot_of d d) ≡ true → hidden ≡ true
-    by_near k = hides v f e along h (weaker (dot_of d v) (dot_of d d) k)
+    by_near k = hides v f e along h (tested_at_most (dot_of d v) (dot_of d d) k)
 
     by_told : (o : Option ℕ) → ((n : ℕ) → o ≡ Some n → length_of v ≤ n) → is_up_to_end_of o d ≡ true → not (nat_lt (length_of d) (length_of v)) ≡ true
-    by_told None g k = absurd (clash k)
-      where
-        clash : false ≡ true → ⊥
-        clash h = grind arith
+    by_told None g k = absurd (never k)
     by_told (Some n) g k = chain (length_of v) n (length_of d) (g n refl) k
       where
         chain : (a b c : ℕ) → a ≤ b → not (nat_lt c b) ≡ true → not (nat_lt c a) ≡ true

@@ -12,8 +12,7 @@ use Rattle.sight_spec.specs.Scene.{scene_of, blockers_of_scene}
 use Rattle.sweep_laws.specs.Order.{Seen, spans, side_of, seen_of, is_in_front, are_apart, among_by}
 use Rattle.sweep_laws.specs.Fronts.{seen_at}
 use Rattle.sweep_laws.specs.Places.{place_of}
-use Rattle.sweep_laws.proofs.Fronts.{by_cases}
-use Rattle.sweep_laws.proofs.Crossing.{mapped_at, nowhere, some_same}
+use Rattle.sweep_laws.proofs.Crossing.{nowhere}
 use Rattle.sweep_laws.proofs.Found.{all_apart}
 use Rattle.view_laws.specs.Kept.{IsCovered}
 use Rattle.view_laws.specs.Rounds.{is_spanned_at, from_place, to_place}
@@ -23,6 +22,7 @@ use Rattle.view_laws.proofs.Corners.{begins_behind, begins_before, begin_togethe
 use Rattle.view_laws.proofs.Endings.{blocker_of, none_some}
 use Rattle.view_laws.proofs.Tellings.{AreWalls}
 use Rattle.view_laws.proofs.Placing.{AreApartAhead}
+use Rattle.sweep_laws.proofs.Tests.{by_cases, mapped_at, number_less_tested, some_same, zero_between}
 
 -- ---- one side and the other end
 
@@ -33,7 +33,7 @@ new_where s t up spanned apart = by_lt_z (side_of s t.from) (pos 0)
     (λ lt. begins_behind s t up spanned lt ∙ sym (when_less (side_of s t.from) (int_lt (pos 0) (side_of s t.to)) lt))
     (λ le. by_lt_z (pos 0) (side_of s t.from)
     (λ gt. begins_before s t up spanned apart gt ∙ sym (when_more (side_of s t.from) (int_eq (side_of s t.from) (pos 0) && int_lt (pos 0) (side_of s t.to)) gt))
-    (λ ge. let e = none (side_of s t.from) le ge in begin_together s t e ∙ sym (when_none (side_of s t.from) (int_lt (pos 0) (side_of s t.to)) e)))
+    (λ ge. let e = zero_between (side_of s t.from) le ge in begin_together s t e ∙ sym (when_none (side_of s t.from) (int_lt (pos 0) (side_of s t.to)) e)))
   where
     when_less : (x : ℤ) (b : Bool) → x <ℤ pos 0 → (int_lt (pos 0) x || (int_eq x (pos 0) && b)) ≡ false
     when_less x b h = grind (arith, ints)
@@ -43,9 +43,6 @@ new_where s t up spanned apart = by_lt_z (side_of s t.from) (pos 0)
 
     when_none : (x : ℤ) (b : Bool) → x ≡ pos 0 → (int_lt (pos 0) x || (int_eq x (pos 0) && b)) ≡ b
     when_none x b h = grind (arith, ints)
-
-    none : (x : ℤ) → pos 0 ≤ℤ x → x ≤ℤ pos 0 → x ≡ pos 0
-    none x h k = omega (arith, ints, h, k)
 
 -- ---- the ends of what is seen
 
@@ -77,9 +74,6 @@ covered_by p d lines kept c cover j t c_in c_kept c_seen c_spans j_in t_seen t_s
 between : (f t : ℕ) → f / 17179869184 < t / 17179869184 → f < t
 between f t h = omega (arith, h)
 
-yes : (m n : ℕ) → m < n → nat_lt m n ≡ true
-yes m n h = grind arith
-
 -- a wall with ends in bins below and above a bin is spanned by each direction of that bin
 pub bin_spanned : (d : Point) (cover : Seen) (bin : ℕ) → IsDirection d → IsDirected d → IsBlocker cover
     → from_place cover / 17179869184 < bin → bin < to_place cover / 17179869184 → place_of d / 17179869184 ≡ bin → spans d cover ≡ true
@@ -91,7 +85,7 @@ bin_spanned d cover bin d_in d_some b low high own =
         let fx : f < x = between f x (subst (λ n. (f / 17179869184) < n) (sym own) low) in
         let xt : x < t = between x t (subst (λ n. n < (t / 17179869184)) (sym own) high) in
         let ft : f < t = omega (arith, fx, xt) in
-        ap (λ u. among_by u (nat_lt f x) (nat_lt x t)) (yes f t ft) ∙ ap (λ u. among_by true u (nat_lt x t)) (yes f x fx) ∙ yes x t xt
+        ap (λ u. among_by u (nat_lt f x) (nat_lt x t)) (number_less_tested f t ft) ∙ ap (λ u. among_by true u (nat_lt x t)) (number_less_tested f x fx) ∙ number_less_tested x t xt
 
 -- ---- outside the arc
 

@@ -15,22 +15,17 @@ use Rattle.view_laws.specs.declared.view.View.{View}
 use Rattle.view_laws.specs.Views.{is_in_arc, told_first, told_on, told_by, told_of, is_led_into, IsViewOf, is_seen_by, number_by, stop_by, AreInOrder, told_at}
 use Rattle.view_laws.proofs.Answers.{sight_told, near_wall_told}
 use Rattle.view_laws.proofs.Stops.{stop_told}
+use Rattle.sweep_laws.proofs.Tests.{number_less_tested, number_not_less}
 
 -- ---- sectors
 
 told_less : (before : Option Front) (s : Sector) (rest : List Sector) (place : ℕ) → place < s.place → told_by before (s ∷ rest) place ≡ told_first before
 unfolding told_by
-told_less before s rest place h = ap (λ t. cond t (told_first before) (cond (place == s.place) (told_on s) (told_by s.after rest place))) (less place s.place h)
-  where
-    less : (m n : ℕ) → m < n → nat_lt m n ≡ true
-    less m n h = grind arith
+told_less before s rest place h = ap (λ t. cond t (told_first before) (cond (place == s.place) (told_on s) (told_by s.after rest place))) (number_less_tested place s.place h)
 
 told_same : (before : Option Front) (s : Sector) (rest : List Sector) (place : ℕ) → s.place ≤ place → told_by before (s ∷ rest) place ≡ (if place == s.place then told_on s else told_by s.after rest place)
 unfolding told_by
-told_same before s rest place h = ap (λ t. cond t (told_first before) (cond (place == s.place) (told_on s) (told_by s.after rest place))) (not_less place s.place h)
-  where
-    not_less : (m n : ℕ) → n ≤ m → nat_lt m n ≡ false
-    not_less m n h = grind arith
+told_same before s rest place h = ap (λ t. cond t (told_first before) (cond (place == s.place) (told_on s) (told_by s.after rest place))) (number_not_less place s.place h)
 
 told_none : (before : Option Front) (place : ℕ) → told_by before [] place ≡ told_first before
 unfolding told_by

@@ -12,8 +12,6 @@ use Rattle.sweep_laws.specs.Fronts.{seen_at}
 use Rattle.sweep_laws.specs.Groups.{stands_in, no_corner}
 use Rattle.sweep_laws.specs.Places.{place_of}
 use Rattle.sweep_laws.specs.Parts.{IsFirst, begins_blocked}
-use Rattle.sweep_laws.proofs.Fronts.{by_cases, both_of}
-use Rattle.sweep_laws.proofs.Crossing.{some_same}
 use Rattle.sweep_laws.proofs.Grouped.{stands_where}
 use Rattle.view_laws.specs.declared.view.Arc.{Arc}
 use Rattle.view_laws.specs.declared.view.View.{View}
@@ -25,6 +23,7 @@ use Rattle.view_laws.proofs.Without.{behind_first}
 use Rattle.view_laws.proofs.Steps.{IsBlocker}
 use Rattle.view_laws.proofs.Tellings.{AreHidden}
 use Rattle.int_laws.proofs.Signs.{positive_tested, tested_positive}
+use Rattle.sweep_laws.proofs.Tests.{both_of, both_true, by_cases, never, some_same, tested_same_number, tested_zero, zero_tested}
 
 -- ---- walls
 
@@ -35,10 +34,7 @@ difference_in p q p_in q_in = record { x = by_ends p.x q.x p_in.x q_in.x; y = by
     by_ends x y h k = record { low = omega (arith, ints, h, k); high = omega (arith, ints, h, k) }
 
 points_zero : (d : Point) → same_point d (point (pos 0) (pos 0)) ≡ true → (d.x ≡ pos 0) × (d.y ≡ pos 0)
-points_zero d h = let two = both_of (int_eq d.x (pos 0)) (int_eq d.y (pos 0)) h in (zero_of d.x two.0, zero_of d.y two.1)
-  where
-    zero_of : (z : ℤ) → int_eq z (pos 0) ≡ true → z ≡ pos 0
-    zero_of z h = grind (arith, ints)
+points_zero d h = let two = both_of (int_eq d.x (pos 0)) (int_eq d.y (pos 0)) h in (tested_zero d.x two.0, tested_zero d.y two.1)
 
 first_some : (d e : Point) → pos 0 <ℤ cross_of d e → IsDirected d
 first_some d e up = record {
@@ -77,10 +73,7 @@ none_some s e = absurd (false_true (ap has_some e))
     has_some (Some s) = true
 
     false_true : has_some None ≡ has_some (Some s) → ⊥
-    false_true h = clash h
-      where
-        clash : false ≡ true → ⊥
-        clash h = grind arith
+    false_true h = never h
 
 -- a wall between points in range, as it is seen from one
 pub blocker_of : (p : Point) (w : Segment) (s : Seen) → InRange p → InRange w.a → InRange w.b → seen_of p w ≡ Some s → IsBlocker s
@@ -94,7 +87,7 @@ blocker_of p w s p_in a_in b_in h =
     (λ l. subst IsBlocker (some_same (record { from = b; to = a }) s (sym (ap (λ t. cond t (Some (record { from = a; to = b })) (cond (int_lt (cross_of a b) (pos 0)) (Some (record { from = b; to = a })) None)) k ∙ ap (λ t. cond t (Some (record { from = b; to = a })) None) l) ∙ h))
     (blocker_by b a (difference_in p w.b p_in b_in) (difference_in p w.a p_in a_in) (turned a b l)))
     (λ l. none_some s (sym (ap (λ t. cond t (Some (record { from = a; to = b })) (cond (int_lt (cross_of a b) (pos 0)) (Some (record { from = b; to = a })) None)) k ∙ ap (λ t. cond t (Some (record { from = b; to = a })) None) l) ∙ h)))
-
+  where
     turned : (a b : Point) → int_lt (cross_of a b) (pos 0) ≡ true → pos 0 <ℤ cross_of b a
     turned a b h = omega (arith, ints, h)
 
@@ -115,13 +108,7 @@ ArePast scene p d kept = (j : ℕ) → j < length scene.corners → kept j ≡ f
     → IsPastOne p d (blockers_of_scene scene) (vector p (get_or scene.corners j no_corner).here)
 
 along_stands : (p d x : Point) → IsAlong d (vector p x) → stands_in p d x ≡ true
-along_stands p d x a = both (int_eq (cross_of d (vector p x)) (pos 0)) (int_lt (pos 0) (dot_of d (vector p x))) (zero_is (cross_of d (vector p x)) a.line) (positive_tested (dot_of d (vector p x)) a.ahead)
-  where
-    zero_is : (z : ℤ) → z ≡ pos 0 → int_eq z (pos 0) ≡ true
-    zero_is z h = grind (arith, ints)
-
-    both : (a b : Bool) → a ≡ true → b ≡ true → (a && b) ≡ true
-    both a b h k = grind arith
+along_stands p d x a = both_true (int_eq (cross_of d (vector p x)) (pos 0)) (int_lt (pos 0) (dot_of d (vector p x))) (zero_tested (cross_of d (vector p x)) a.line) (positive_tested (dot_of d (vector p x)) a.ahead)
 
 along_some : (d v : Point) → IsAlong d v → IsDirected v
 along_some d v a = record {
@@ -146,15 +133,12 @@ all_hidden scene p d kept first is d_in d_some corners_in none past = record {
   behind = λ j lt h. at j lt (behind_along p d (get_or scene.corners j no_corner) h);
 }
   where
-    same : (m n : ℕ) → (m == n) ≡ true → m ≡ n
-    same m n h = grind arith
-
     at : (j : ℕ) → j < length scene.corners → IsAlong d (vector p (get_or scene.corners j no_corner).here) → is_past_first first (vector p (get_or scene.corners j no_corner).here) ≡ true
     at j lt along =
         let x = (get_or scene.corners j no_corner).here in
         let stands = along_stands p d x along in
         by_cases (kept j)
-        (λ k. absurd (none j lt k (same (place_of d) (place_of (vector p x)) (sym (stands_where p d x d_in d_some (corners_in j lt) (along_some d (vector p x) along)) ∙ stands))))
+        (λ k. absurd (none j lt k (tested_same_number (place_of d) (place_of (vector p x)) (sym (stands_where p d x d_in d_some (corners_in j lt) (along_some d (vector p x) along)) ∙ stands))))
         (λ k. let c = past j lt k stands in behind_first scene p d (vector p x) first c.number c.cover is d_some along c.within c.seen c.spanned c.past)
 
 -- ---- the front of the list

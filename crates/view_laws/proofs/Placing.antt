@@ -11,13 +11,14 @@ use Rattle.int_laws.proofs.Signs.{positive_product, positive_factor, positive_te
 use Rattle.int_laws.proofs.Tests.{agree}
 use Rattle.sweep_laws.specs.Order.{Seen, spans, side_of, is_in_front, are_apart}
 use Rattle.sweep_laws.specs.Groups.{back_of, no_corner}
-use Rattle.sweep_laws.proofs.Active.{AreTogether, behind, by_lt}
+use Rattle.sweep_laws.proofs.Active.{AreTogether, behind}
 use Rattle.sweep_laws.proofs.After.{spans_on, begins_at}
 use Rattle.sweep_laws.proofs.Together.{just_after, together_after}
 use Rattle.view_laws.specs.Views.{length_of, is_past_first, IsReached}
 use Rattle.view_laws.proofs.Lengths.{IsAlong, alike_of, scaled}
 use Rattle.view_laws.proofs.Steps.{IsBlocker}
 use Rattle.view_laws.proofs.Corners.{begins_behind, begins_before}
+use Rattle.sweep_laws.proofs.Tests.{by_lt, clash_to, either_first, either_second, never_equal, tested_negative}
 
 -- ---- beginning walls
 
@@ -35,10 +36,7 @@ turned_pair d s t p = record { first = p.second; second = p.first; apart = p.bac
 -- a wall that the corner is behind is in front of what begins at the corner
 pub front_of_new : (s t : Seen) → IsBlocker s → IsBlocker t → spans t.from s ≡ true → AreApartAhead s t → int_lt (side_of s t.from) (pos 0) ≡ true → is_in_front s t ≡ true
 front_of_new s t s_is t_is spanned apart past =
-    behind (just_after t.from) t s (turned_pair (just_after t.from) s t (together_from s t s_is t_is spanned apart)) (begins_behind s t t_is.up spanned (less_of (side_of s t.from) past))
-  where
-    less_of : (z : ℤ) → int_lt z (pos 0) ≡ true → z <ℤ pos 0
-    less_of z h = omega (arith, ints, h)
+    behind (just_after t.from) t s (turned_pair (just_after t.from) s t (together_from s t s_is t_is spanned apart)) (begins_behind s t t_is.up spanned (tested_negative (side_of s t.from) past))
 
 -- what begins at the corner is in front of a wall that the corner is before
 pub new_in_front : (s t : Seen) → IsBlocker s → IsBlocker t → spans t.from s ≡ true → AreApartAhead s t → pos 0 <ℤ side_of s t.from → is_in_front t s ≡ true
@@ -61,7 +59,7 @@ left_along a d v some along =
         agree (int_lt (pos 0) u) (int_lt (pos 0) w)
         (λ h. positive_tested w (positive_factor w m (subst (λ t. pos 0 <ℤ t) (products ∙ product_swapped m w) (positive_product k u k_up (tested_positive u h))) m_up))
         (λ h. positive_tested u (positive_factor u k (subst (λ t. pos 0 <ℤ t) (sym products ∙ product_swapped k u) (positive_product m w m_up (tested_positive w h))) k_up))
-
+      where
         products : k *ℤ u ≡ m *ℤ w
         products =
             let f : k *ℤ x ≡ k *ℤ neg_ℤ u = ap (λ t. k *ℤ t) x_is in
@@ -90,40 +88,27 @@ pub one_reached : (p : Point) (test : Corner → Bool) (cs : List Corner) (first
     → IsReached p test cs first (if test (get_or cs i no_corner) then Some (length_of (vector p (get_or cs i no_corner).here)) else None)
 one_reached p test cs first i inside others = by_test (test (get_or cs i no_corner)) refl
   where
-    or_second : (a b : Bool) → b ≡ true → (a || b) ≡ true
-    or_second true b h = refl
-    or_second false b h = h
-
-    or_first : (a b : Bool) → a ≡ true → (a || b) ≡ true
-    or_first a b h = grind arith
-
     itself : (n : ℕ) → not (nat_lt n n) ≡ true
     itself n = grind arith
 
     same : {P : Type 0} (i j : ℕ) → (i ≡ j → P) → (j ≢ i → P) → P
-    same i j f g = by_lt i j (λ lt. g (λ e. absurd (less j i lt e))) (λ le. by_lt j i (λ lt. g (λ e. absurd (more j i lt e))) (λ ge. f (omega (arith, le, ge))))
+    same i j f g = by_lt i j (λ lt. g (λ e. absurd (less j i lt e))) (λ le. by_lt j i (λ lt. g (λ e. absurd (never_equal j i lt e))) (λ ge. f (omega (arith, le, ge))))
       where
         less : (j i : ℕ) → i < j → j ≡ i → ⊥
         less j i h e = omega (arith, h, e)
-
-        more : (j i : ℕ) → j < i → j ≡ i → ⊥
-        more j i h e = omega (arith, h, e)
-
-    clash : {P : Type 0} (b : Bool) → b ≡ true → b ≡ false → P
-    clash b h k = absurd (grind arith)
 
     by_test : (b : Bool) → test (get_or cs i no_corner) ≡ b → IsReached p test cs first (cond b (Some (length_of (vector p (get_or cs i no_corner).here))) None)
     by_test true h = record {
       some = record { at = i; within = inside; passes = h; far_is = refl };
       all = λ j lt k. same i j
           (λ e. subst (λ n. (not (nat_lt (length_of (vector p (get_or cs n no_corner).here)) (length_of (vector p (get_or cs i no_corner).here))) || is_past_first first (vector p (get_or cs n no_corner).here)) ≡ true) e
-          (or_first _ (is_past_first first (vector p (get_or cs i no_corner).here)) (itself (length_of (vector p (get_or cs i no_corner).here)))))
-          (λ n. or_second _ (is_past_first first (vector p (get_or cs j no_corner).here)) (others j lt n k));
+          (either_first _ (is_past_first first (vector p (get_or cs i no_corner).here)) (itself (length_of (vector p (get_or cs i no_corner).here)))))
+          (λ n. either_second _ (is_past_first first (vector p (get_or cs j no_corner).here)) (others j lt n k));
     }
     by_test false h = record {
       some = refl;
       all = λ j lt k. same i j
-          (λ e. clash (test (get_or cs i no_corner)) (subst (λ n. test (get_or cs n no_corner) ≡ true) (sym e) k) h)
+          (λ e. clash_to (test (get_or cs i no_corner)) (subst (λ n. test (get_or cs n no_corner) ≡ true) (sym e) k) h)
           (λ n. others j lt n k);
     }
 

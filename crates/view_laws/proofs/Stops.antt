@@ -20,7 +20,6 @@ use Rattle.sweep_laws.specs.Order.{Seen, spans, hit_of}
 use Rattle.sweep_laws.specs.Fronts.{IsFront}
 use Rattle.sweep_laws.specs.Groups.{is_own, is_ahead}
 use Rattle.sweep_laws.specs.Parts.{IsFirst, IsNearestOrNone, leaves_left, begins_blocked, nearer_hit, line_stop, corner_stop, start_stop}
-use Rattle.sweep_laws.proofs.Fronts.{both_of}
 use Rattle.sweep_laws.proofs.Least.{one_way}
 use Rattle.sweep_laws.proofs.Points.{seen_first}
 use Rattle.sweep_laws.proofs.Stopping.{stop_is}
@@ -28,6 +27,7 @@ use Rattle.view_laws.specs.Views.{length_of, front_of, Told, IsTold, hit_by, cor
 use Rattle.view_laws.proofs.Lengths.{IsAlong, hit_before, in_proportion}
 use Rattle.view_laws.proofs.Nearest.{Really, unmet, there, beyond, really, some_length}
 use Rattle.view_laws.proofs.Answers.{ahead_along}
+use Rattle.sweep_laws.proofs.Tests.{both_of, one_at_least}
 
 -- ---- the hit, as it is told
 
@@ -72,19 +72,16 @@ pub record IsSame (f g : Fraction) : Type 0 where
   pub up_too : pos 0 <ℤ g.den
   pub value : f.num *ℤ g.den ≡ g.num *ℤ f.den
 
-one_of : (z : ℤ) → pos 0 <ℤ z → pos 1 ≤ℤ z
-one_of z h = omega (arith, ints, h)
-
 same_in_terms : (f g : Fraction) → IsSame f g → reduced f ≡ reduced g
-same_in_terms f g s = same_reduced f g (one_of f.den s.up) (one_of g.den s.up_too) (equal_tested (f.num *ℤ g.den) (g.num *ℤ f.den) s.value)
+same_in_terms f g s = same_reduced f g (one_at_least f.den s.up) (one_at_least g.den s.up_too) (equal_tested (f.num *ℤ g.den) (g.num *ℤ f.den) s.value)
 
 -- f n < l d as g n' < l d'
 same_before : (f g h : Fraction) → IsSame f g → is_before f h ≡ is_before g h
 same_before f g h s =
-    sym (same_test (f.num *ℤ h.den) (h.num *ℤ f.den) g.den (one_of g.den s.up_too))
+    sym (same_test (f.num *ℤ h.den) (h.num *ℤ f.den) g.den (one_at_least g.den s.up_too))
     ∙ ap (λ t. int_lt t ((h.num *ℤ f.den) *ℤ g.den)) (product_turned f.num h.den g.den ∙ ap (λ t. t *ℤ h.den) s.value ∙ product_turned g.num f.den h.den)
     ∙ ap (λ t. int_lt ((g.num *ℤ h.den) *ℤ f.den) t) (product_turned h.num f.den g.den)
-    ∙ same_test (g.num *ℤ h.den) (h.num *ℤ g.den) f.den (one_of f.den s.up)
+    ∙ same_test (g.num *ℤ h.den) (h.num *ℤ g.den) f.den (one_at_least f.den s.up)
 
 -- ---- the corner, as it is told
 
@@ -120,7 +117,7 @@ stays l f h = ap (λ t. cond t (Some f) (Some l)) (one_way l f h)
 later_on : (l f g : Fraction) → pos 0 <ℤ l.den → pos 0 <ℤ f.den → g.den ≡ f.den → f.num ≤ℤ g.num → is_before l f ≡ true → is_before l g ≡ true
 later_on l f g l_up f_up e le h = subst (λ t. int_lt (l.num *ℤ t) (g.num *ℤ l.den) ≡ true) (sym e)
     (less_tested (l.num *ℤ f.den) (g.num *ℤ l.den) (chain (l.num *ℤ f.den) (f.num *ℤ l.den) (g.num *ℤ l.den) h (grows f.num g.num l.den l_up le)))
-
+  where
     chain : (x y z : ℤ) → int_lt x y ≡ true → y ≤ℤ z → x <ℤ z
     chain x y z h k = omega (arith, ints, h, k)
 
@@ -131,10 +128,10 @@ later_on l f g l_up f_up e le h = subst (λ t. int_lt (l.num *ℤ t) (g.num *ℤ
 
 same_after : (l f g : Fraction) → IsSame f g → is_before l f ≡ true → is_before l g ≡ true
 same_after l f g s h =
-    sym (sym (same_test (l.num *ℤ f.den) (f.num *ℤ l.den) g.den (one_of g.den s.up_too))
+    sym (sym (same_test (l.num *ℤ f.den) (f.num *ℤ l.den) g.den (one_at_least g.den s.up_too))
     ∙ ap (λ t. int_lt t ((f.num *ℤ l.den) *ℤ g.den)) (product_turned l.num f.den g.den)
     ∙ ap (λ t. int_lt ((l.num *ℤ g.den) *ℤ f.den) t) (product_turned f.num l.den g.den ∙ ap (λ t. t *ℤ l.den) s.value ∙ product_turned g.num f.den l.den)
-    ∙ same_test (l.num *ℤ g.den) (g.num *ℤ l.den) f.den (one_of f.den s.up)) ∙ h
+    ∙ same_test (l.num *ℤ g.den) (g.num *ℤ l.den) f.den (one_at_least f.den s.up)) ∙ h
 
 hit_up : (d : Point) (s : Seen) → spans d s ≡ true → pos 0 <ℤ (cross_of d s.to +ℤ cross_of s.from d)
 hit_up d s h = let two = both_of (int_lt (pos 0) (cross_of s.from d)) (int_lt (pos 0) (cross_of d s.to)) h in sum (cross_of d s.to) (cross_of s.from d) two.1 two.0

@@ -10,7 +10,6 @@ use Rattle.sweep_laws.specs.Order.{Seen}
 use Rattle.sweep_laws.specs.Groups.{is_ahead, is_behind, no_corner}
 use Rattle.sweep_laws.specs.Places.{place_of}
 use Rattle.sweep_laws.specs.Parts.{IsFirst}
-use Rattle.sweep_laws.proofs.Active.{by_lt}
 use Rattle.sweep_laws.proofs.Found.{AreAllApart}
 use Rattle.view_laws.specs.declared.view.Arc.{Arc}
 use Rattle.view_laws.specs.declared.view.Front.{Front}
@@ -20,20 +19,12 @@ use Rattle.view_laws.specs.Kept.{AreCovered}
 use Rattle.view_laws.specs.Rounds.{from_place, to_place, Numbered, HoldsBefore, HoldsAt, first_held, front_after, IsRound}
 use Rattle.view_laws.proofs.Without.{first_without}
 use Rattle.view_laws.proofs.Steps.{AreBlockers, EndNowhere, held_on, first_between, first_at}
+use Rattle.sweep_laws.proofs.Tests.{by_lt, number_less_tested, number_not_less, own_number, tested_number_not_less}
 
 -- ---- sectors
 
-yes : (m n : ℕ) → m < n → nat_lt m n ≡ true
-yes m n h = grind arith
-
-no : (m n : ℕ) → n ≤ m → nat_lt m n ≡ false
-no m n h = grind arith
-
 unlike : (m n : ℕ) → n < m → (m == n) ≡ false
 unlike m n h = grind arith
-
-own_place : (n : ℕ) → (n == n) ≡ true
-own_place n = grind arith
 
 rest_below : (s : Sector) (rest : List Sector) (place : ℕ) → All (λ s. s.place < place) (s ∷ rest) → All (λ s. s.place < place) rest
 rest_below s rest place all = λ k d lt. all (suc k) d (omega arith)
@@ -44,7 +35,7 @@ unfolding told_by front_after
 told_after before [] place all = refl
 told_after before (s ∷ rest) place all =
     let lt = all 0 s (omega arith) in
-    ap (λ t. cond t (told_first before) (cond (place == s.place) (told_on s) (told_by s.after rest place))) (no place s.place (weaker s.place place lt))
+    ap (λ t. cond t (told_first before) (cond (place == s.place) (told_on s) (told_by s.after rest place))) (number_not_less place s.place (weaker s.place place lt))
     ∙ ap (λ t. cond t (told_on s) (told_by s.after rest place)) (unlike place s.place lt)
     ∙ told_after s.after rest place (rest_below s rest place all)
   where
@@ -54,21 +45,21 @@ told_after before (s ∷ rest) place all =
 -- a further sector leaves all below it
 told_below_last : (before : Option Front) (sectors : List Sector) (s : Sector) (place : ℕ) → place < s.place → told_by before (sectors ++ s ∷ []) place ≡ told_by before sectors place
 unfolding told_by
-told_below_last before [] s place lt = ap (λ t. cond t (told_first before) (cond (place == s.place) (told_on s) (told_by s.after [] place))) (yes place s.place lt)
+told_below_last before [] s place lt = ap (λ t. cond t (told_first before) (cond (place == s.place) (told_on s) (told_by s.after [] place))) (number_less_tested place s.place lt)
 told_below_last before (r ∷ rest) s place lt = ap (λ t. cond (nat_lt place r.place) (told_first before) (cond (place == r.place) (told_on r) t)) (told_below_last r.after rest s place lt)
 
 -- and tells of its own place
 told_last : (before : Option Front) (sectors : List Sector) (s : Sector) → All (λ r. r.place < s.place) sectors → told_by before (sectors ++ s ∷ []) s.place ≡ told_on s
 unfolding told_by
 told_last before [] s all =
-    ap (λ t. cond t (told_first before) (cond (s.place == s.place) (told_on s) (told_by s.after [] s.place))) (no s.place s.place (own s.place))
-    ∙ ap (λ t. cond t (told_on s) (told_by s.after [] s.place)) (own_place s.place)
+    ap (λ t. cond t (told_first before) (cond (s.place == s.place) (told_on s) (told_by s.after [] s.place))) (number_not_less s.place s.place (own s.place))
+    ∙ ap (λ t. cond t (told_on s) (told_by s.after [] s.place)) (own_number s.place)
   where
     own : (n : ℕ) → n ≤ n
     own n = omega arith
 told_last before (r ∷ rest) s all =
     let lt = all 0 r (omega arith) in
-    ap (λ t. cond t (told_first before) (cond (s.place == r.place) (told_on r) (told_by r.after (rest ++ s ∷ []) s.place))) (no s.place r.place (weaker r.place s.place lt))
+    ap (λ t. cond t (told_first before) (cond (s.place == r.place) (told_on r) (told_by r.after (rest ++ s ∷ []) s.place))) (number_not_less s.place r.place (weaker r.place s.place lt))
     ∙ ap (λ t. cond t (told_on r) (told_by r.after (rest ++ s ∷ []) s.place)) (unlike s.place r.place lt)
     ∙ told_last r.after rest s (rest_below r rest s.place all)
   where
@@ -132,13 +123,10 @@ narrower p scene kept low at high none le more n s within k seen =
     record { no_from = between (from_place s) e.no_from; no_to = between (to_place s) e.no_to }
   where
     between : (x : ℕ) → nat_lt x low ≡ nat_lt x high → nat_lt x low ≡ nat_lt x at
-    between x h = by_lt x low (λ lt. yes x low lt ∙ sym (yes x at (chain x low at lt le))) (λ ge. no x low ge ∙ sym (no x at (under x at high more (most x high (sym h ∙ no x low ge)))))
+    between x h = by_lt x low (λ lt. number_less_tested x low lt ∙ sym (number_less_tested x at (chain x low at lt le))) (λ ge. number_not_less x low ge ∙ sym (number_not_less x at (under x at high more (tested_number_not_less x high (sym h ∙ number_not_less x low ge)))))
       where
         chain : (a b c : ℕ) → a < b → b ≤ c → a < c
         chain a b c h k = omega (arith, h, k)
-
-        most : (m n : ℕ) → nat_lt m n ≡ false → n ≤ m
-        most m n h = grind arith
 
         under : (x at high : ℕ) → at ≤ high → high ≤ x → at ≤ x
         under x at high h k = omega (arith, h, k)

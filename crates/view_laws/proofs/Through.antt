@@ -15,24 +15,20 @@ use Rattle.sight_spec.specs.Sight.{starts_into_wall}
 use Rattle.sweep_laws.specs.Order.{Seen, spans, side_of, seen_of}
 use Rattle.sweep_laws.specs.Fronts.{seen_at}
 use Rattle.sweep_laws.specs.Standing.{stands}
-use Rattle.sweep_laws.proofs.Fronts.{by_cases}
-use Rattle.sweep_laws.proofs.Active.{by_lt}
 use Rattle.sweep_laws.proofs.Between.{faces_where, leaves_where}
 use Rattle.sweep_laws.proofs.Standing.{MayStand, clear, next, prev, segment_turned}
 use Rattle.sweep_laws.proofs.Plans.{edges_of_plan, two_at, may_of, same_length, plan_seen, plan_stands}
-use Rattle.sweep_laws.proofs.Crossing.{mapped_at, nowhere, some_same}
+use Rattle.sweep_laws.proofs.Crossing.{nowhere}
 use Rattle.view_laws.proofs.Endings.{none_some}
 use Rattle.view_laws.proofs.Bodies.{by_ends}
 use Rattle.int_laws.proofs.Signs.{positive_tested}
+use Rattle.sweep_laws.proofs.Tests.{both_true, by_cases, by_lt, clash_to, mapped_at, same_tested, some_same}
 
 -- the point is on the segment, at none of its ends
 record IsWithinOne (c x y : Point) : Type 0 where
   on : is_on_segment c x y ≡ true
   not_first : same_point c x ≡ false
   not_last : same_point c y ≡ false
-
-both : (a b : Bool) → a ≡ true → b ≡ true → (a && b) ≡ true
-both a b h k = grind arith
 
 off_ends : (o a b l : Bool) → ((o && (not a && not b)) && l) ≡ true → (o ≡ true) × ((a ≡ false) × (b ≡ false))
 off_ends o a b l h = (first o a b l h, (second o a b l h, third o a b l h))
@@ -56,7 +52,7 @@ of_leaves c p w h =
 faces_by : (p c : Point) (w : Segment) → int_lt (pos 0) (cross_of (vector p w.a) (vector p w.b)) ≡ true → spans (vector p c) (record { from = vector p w.a; to = vector p w.b }) ≡ true
     → int_eq (side_of (record { from = vector p w.a; to = vector p w.b }) (vector p c)) (pos 0) ≡ true → faces_where p c w ≡ true
 unfolding faces_where
-faces_by p c w up spanned on = both _ _ up (both _ _ spanned on)
+faces_by p c w up spanned on = both_true _ _ up (both_true _ _ spanned on)
 
 turned_on : (c x y : Point) → IsWithinOne c x y → IsWithinOne c y x
 turned_on c x y w = record { on = segment_turned c x y ∙ w.on; not_first = w.not_last; not_last = w.not_first }
@@ -80,20 +76,14 @@ passes_at p c f s h spanned on =
 
 -- ---- edges
 
-clash : {P : Type 0} (b : Bool) → b ≡ true → b ≡ false → P
-clash b h k = absurd (grind arith)
-
 same_self : (c : Point) → same_point c c ≡ true
-same_self c = both (int_eq c.x c.x) (int_eq c.y c.y) (own c.x) (own c.y)
-  where
-    own : (z : ℤ) → int_eq z z ≡ true
-    own z = grind (arith, ints)
+same_self c = both_true (int_eq c.x c.x) (int_eq c.y c.y) (same_tested c.x) (same_tested c.y)
 
 at_first : {P : Type 0} (c x y : Point) → c ≡ x → IsWithinOne c x y → P
-at_first c x y e w = clash (same_point c x) (subst (λ t. same_point c t ≡ true) e (same_self c)) w.not_first
+at_first c x y e w = clash_to (same_point c x) (subst (λ t. same_point c t ≡ true) e (same_self c)) w.not_first
 
 at_last : {P : Type 0} (c x y : Point) → c ≡ y → IsWithinOne c x y → P
-at_last c x y e w = clash (same_point c y) (subst (λ t. same_point c t ≡ true) e (same_self c)) w.not_last
+at_last c x y e w = clash_to (same_point c y) (subst (λ t. same_point c t ≡ true) e (same_self c)) w.not_last
 
 none_of : (x a b c d : Bool) → (x || ((a || b) || (c || d))) ≡ false → (a ≡ false) × ((b ≡ false) × ((c ≡ false) × (d ≡ false)))
 none_of x a b c d h = (one x a b c d h, (two x a b c d h, (three x a b c d h, four x a b c d h)))
@@ -115,11 +105,11 @@ ends_off : (u v x y : Point) → MayStand u v x y → ((IsWithinOne u x y → �
 unfolding do_touch
 ends_off u v x y (clear h) =
     let n = none_of (cross_properly u v x y) (is_on_segment u x y) (is_on_segment v x y) (is_on_segment x u v) (is_on_segment y u v) h in
-    (((λ w. clash (is_on_segment u x y) w.on n.0), (λ w. clash (is_on_segment v x y) w.on n.1.0)), ((λ w. clash (is_on_segment x u v) w.on n.1.1.0), (λ w. clash (is_on_segment y u v) w.on n.1.1.1)))
+    (((λ w. clash_to (is_on_segment u x y) w.on n.0), (λ w. clash_to (is_on_segment v x y) w.on n.1.0)), ((λ w. clash_to (is_on_segment x u v) w.on n.1.1.0), (λ w. clash_to (is_on_segment y u v) w.on n.1.1.1)))
 ends_off u v x y (next e off off_too) =
-    (((λ w. clash (is_on_segment u x y) w.on off), (λ w. at_first v x y e w)), ((λ w. at_last x u v (sym e) w), (λ w. clash (is_on_segment y u v) w.on off_too)))
+    (((λ w. clash_to (is_on_segment u x y) w.on off), (λ w. at_first v x y e w)), ((λ w. at_last x u v (sym e) w), (λ w. clash_to (is_on_segment y u v) w.on off_too)))
 ends_off u v x y (prev e off off_too) =
-    (((λ w. at_last u x y (sym e) w), (λ w. clash (is_on_segment v x y) w.on off_too)), ((λ w. clash (is_on_segment x u v) w.on off), (λ w. at_first y u v e w)))
+    (((λ w. at_last u x y (sym e) w), (λ w. clash_to (is_on_segment v x y) w.on off_too)), ((λ w. clash_to (is_on_segment x u v) w.on off), (λ w. at_first y u v e w)))
 
 -- ---- of a plan
 

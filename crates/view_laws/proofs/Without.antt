@@ -12,13 +12,14 @@ use Rattle.int_laws.proofs.Signs.{positive_product, tested_positive}
 use Rattle.sweep_laws.specs.Order.{Seen, spans, hit_of, side_of}
 use Rattle.sweep_laws.specs.Fronts.{seen_at}
 use Rattle.sweep_laws.specs.Parts.{IsFirst}
-use Rattle.sweep_laws.proofs.Fronts.{by_cases, both_of, four_of, sides_are}
+use Rattle.sweep_laws.proofs.Fronts.{four_of, sides_are}
 use Rattle.sweep_laws.proofs.Active.{before_chain, den_up}
-use Rattle.sweep_laws.proofs.Crossing.{by_same, some_same}
+use Rattle.sweep_laws.proofs.Crossing.{by_same}
 use Rattle.view_laws.specs.Kept.{IsKeptFirst, AreCovered}
 use Rattle.view_laws.specs.Views.{is_past_first}
 use Rattle.view_laws.proofs.Lengths.{IsAlong, alike_of, scaled, hit_before, past_of_hit}
 use Rattle.int_laws.proofs.Tests.{less_tested, tested_less}
+use Rattle.sweep_laws.proofs.Tests.{both_of, by_cases, clash_to, some_same}
 
 -- ---- covers
 
@@ -38,16 +39,13 @@ cover_before d cover w spanned from_past to_past =
         let j = times_minus b (pos 0) y in
         less_tested p q (omega (arith, ints, e, f, g, i, j))
 
-clash : {P : Type 0} (b : Bool) → b ≡ true → b ≡ false → P
-clash b h k = absurd (grind arith)
-
 -- the first of those that are kept is the first of all
 pub first_without : (scene : Scene) (p d : Point) (kept : ℕ → Bool) (first : Option (ℕ × Seen)) → IsKeptFirst p d (blockers_of_scene scene) kept first → AreCovered p d (blockers_of_scene scene) kept → IsFirst scene p d first
 first_without scene p d kept None bare covered = record {
   none = λ j t within seen. by_cases (kept j)
       (λ k. bare.none j t within k seen)
       (λ k. by_cases (spans d t)
-      (λ s. let c = covered j t within k seen s in clash (spans d c.cover) c.spanned (bare.none c.number c.cover c.within c.is_kept c.seen))
+      (λ s. let c = covered j t within k seen s in clash_to (spans d c.cover) c.spanned (bare.none c.number c.cover c.within c.is_kept c.seen))
       (λ s. s));
 }
 first_without scene p d kept (Some f) front covered = record {
@@ -67,7 +65,7 @@ first_without scene p d kept (Some f) front covered = record {
 -- what is behind a wall that is spanned is behind the first
 pub behind_first : (scene : Scene) (p d v : Point) (first : Option (ℕ × Seen)) (k : ℕ) (cover : Seen) → IsFirst scene p d first → IsDirected d → IsAlong d v
     → k < length (blockers_of_scene scene) → seen_at p (blockers_of_scene scene) k ≡ Some cover → spans d cover ≡ true → int_lt (side_of cover v) (pos 0) ≡ true → is_past_first first v ≡ true
-behind_first scene p d v None k cover bare some along within seen spanned behind = clash (spans d cover) spanned (bare.none k cover within seen)
+behind_first scene p d v None k cover bare some along within seen spanned behind = clash_to (spans d cover) spanned (bare.none k cover within seen)
 behind_first scene p d v (Some f) k cover front some along within seen spanned behind =
     by_same k f.0
     (λ e. let same : cover ≡ f.1 = some_same cover f.1 (sym seen ∙ ap (seen_at p (blockers_of_scene scene)) e ∙ front.seen) in
@@ -139,9 +137,9 @@ none_right a d v some left right along =
 
 pub none_left : (a d v : Point) → IsDirected d → cross_of a d ≤ℤ pos 0 → pos 0 <ℤ cross_of a v → IsAlong d v → ⊥
 none_left a d v some right left along = none_right (record { x = neg_ℤ a.x; y = neg_ℤ a.y }) d v some (up (cross_of (record { x = neg_ℤ a.x; y = neg_ℤ a.y }) d) (cross_of a d) (flip a d) right) (down (cross_of (record { x = neg_ℤ a.x; y = neg_ℤ a.y }) v) (cross_of a v) (flip a v) left) along
-
+  where
     flip : (a d : Point) → cross_of (record { x = neg_ℤ a.x; y = neg_ℤ a.y }) d ≡ neg_ℤ (cross_of a d)
-    flip a d = let e = minus_product a.x d.y in let f = minus_product a.y d.x in omega (arith, ints, e, f)
+    flip a d = let e = neg_times a.x d.y in let f = neg_times a.y d.x in omega (arith, ints, e, f)
 
     up : (x y : ℤ) → x ≡ neg_ℤ y → y ≤ℤ pos 0 → pos 0 ≤ℤ x
     up x y e h = omega (arith, ints, e, h)
