@@ -1,25 +1,25 @@
 -- What corners stop a segment, told by the nearest ones of its direction.
-use Rattle.std.proofs.Common.{◌≡◌, ℤ, ℕ, ◌<◌, pos, neg_ℤ, ◌+ℤ◌, ◌-ℤ◌, ◌*ℤ◌, ◌<ℤ◌, ◌≤ℤ◌, arith, ap, refl, sym, ◌∙◌, subst, List, length, get_or}
-use Rattle.std.specs.Prelude.{Bool, true, false, ◌&&◌, ◌||◌, not, int_lt, int_le}
-use Rattle.std.specs.Ordering.{int_eq}
+use Rattle.std.proofs.Common.{◌≡◌, ℤ, neg_ℤ, ◌+ℤ◌, ◌-ℤ◌, ◌*ℤ◌, ◌<ℤ◌, ◌≤ℤ◌, ap, ◌∙◌, arith, pos, sym, subst, refl, List, get_or}
+use Rattle.std.proofs.lemmas.Int.{ints}
 use Rattle.std.specs.List.{list_any}
-use Rattle.std.proofs.lemmas.Int.{ints, by_lt_z}
-use Rattle.plane_spec.specs.declared.Point.{Point}
-use Rattle.plane_spec.specs.declared.Corner.{Corner}
-use Rattle.plane_spec.specs.Vectors.{point, vector, cross_of, dot_of, orient_of, same_point}
-use Rattle.plane_spec.specs.Segments.{is_between, is_on_segment}
+use Rattle.std.specs.Ordering.{int_eq}
+use Rattle.std.specs.Prelude.{Bool, true, false, ◌&&◌, ◌||◌, not, int_lt, int_le}
 use Rattle.plane_spec.specs.Cones.{is_in_cone}
+use Rattle.plane_spec.specs.Segments.{is_on_segment, is_between}
+use Rattle.plane_spec.specs.Vectors.{point, vector, cross_of, dot_of, same_point, orient_of}
+use Rattle.plane_spec.specs.declared.Corner.{Corner}
+use Rattle.plane_spec.specs.declared.Point.{Point}
 use Rattle.sight_spec.specs.Sight.{corner_stops, corner_blocks}
+use Rattle.int_laws.proofs.Ring.{neg_times, times_neg, product_swapped, times_minus}
+use Rattle.int_laws.proofs.Tests.{less_tested, tested_less, agree, at_most_tested, tested_at_most}
 use Rattle.list_laws.proofs.Tests.{list_any_or, list_any_agree}
-use Rattle.sweep_laws.specs.Groups.{back_of, stands_in, is_own, is_ahead, is_behind, no_corner, IsNearest}
-use Rattle.sweep_laws.proofs.Corners.{onward_of, stops_along}
+use Rattle.apart_laws.proofs.Plans.{points_same}
+use Rattle.apart_laws.proofs.Standing.{segment_turned, twin_ends}
+use Rattle.front_laws.proofs.Lists.{any_is}
+use Rattle.front_laws.proofs.Tests.{both_true, zero_tested, both_of, tested_zero, by_cases, no_difference, at_most_of_less, other_of_either, tested_not, at_most_itself}
 use Rattle.sweep_laws.proofs.Reach.{reaches}
-use Rattle.sweep_laws.proofs.Standing.{segment_turned, twin_ends}
-use Rattle.sweep_laws.proofs.Plans.{points_same}
-use Rattle.sweep_laws.proofs.Crossing.{any_is}
-use Rattle.int_laws.proofs.Ring.{neg_times, product_swapped, times_minus, times_neg}
-use Rattle.int_laws.proofs.Tests.{agree, at_most_tested, less_tested, tested_at_most, tested_less}
-use Rattle.sweep_laws.proofs.Tests.{at_most_itself, at_most_of_less, both_of, both_true, by_cases, no_difference, other_of_either, tested_not, tested_zero, zero_tested}
+use Rattle.sweep_laws.specs.Groups.{back_of, stands_in, is_ahead, is_behind, is_own, no_corner, IsNearest}
+use Rattle.sweep_laws.proofs.OnSegment.{onward_of, stops_along}
 
 of_not : (a : Bool) → a ≡ false → not a ≡ true
 of_not a h = ap not h
@@ -148,6 +148,7 @@ before_where p q x differ =
     or_by : (a b : Bool) → (a ≡ false → b ≡ true) → (a || b) ≡ true
     or_by true b f = refl
     or_by false b f = f refl
+
 -- where a point lies on the segment after its start
 after_where : (p q x : Point)
     → (not (same_point x p) && is_on_segment x q p) ≡ (stands_in p (vector p q) x && int_le (dot_of (vector p q) (vector p x)) (dot_of (vector p q) (vector p q)))

@@ -1,54 +1,24 @@
 -- What crosses a segment, told by the first of the walls and screens that its direction spans.
-use Rattle.std.proofs.Common.{◌≡◌, ◌≢◌, ℤ, ℕ, zero, suc, ◌+◌, ◌<◌, ◌≤◌, pos, neg_ℤ, ◌+ℤ◌, ◌-ℤ◌, ◌*ℤ◌, ◌<ℤ◌, ◌≤ℤ◌, arith, ap, refl, sym, ◌∙◌, subst, List, [], ◌∷◌, ◌++◌, length, get_or, nat_lt}
-use Rattle.std.specs.Prelude.{Bool, true, false, cond, if◌then◌else◌, ◌&&◌, ◌||◌, not, map, int_lt, Option, Some, None}
-use Rattle.std.specs.Ordering.{int_eq}
-use Rattle.std.specs.List.{list_any}
+use Rattle.std.proofs.Common.{◌≡◌, ℤ, ℕ, ◌<◌, neg_ℤ, ◌+ℤ◌, ◌-ℤ◌, ◌*ℤ◌, ◌<ℤ◌, ◌≤ℤ◌, ◌∙◌, arith, pos, sym, subst, refl, ap, List, length, get_or}
 use Rattle.std.proofs.lemmas.Int.{ints, by_lt_z}
+use Rattle.std.specs.List.{list_any}
+use Rattle.std.specs.Prelude.{true, int_lt, Option, Some, None, false}
+use Rattle.plane_spec.specs.Fractions.{is_before}
+use Rattle.plane_spec.specs.Vectors.{cross_of, vector}
 use Rattle.plane_spec.specs.declared.Point.{Point}
 use Rattle.plane_spec.specs.declared.Segment.{Segment}
-use Rattle.plane_spec.specs.Vectors.{point, vector, cross_of}
-use Rattle.plane_spec.specs.Fractions.{Fraction, is_before}
-use Rattle.sight_spec.specs.Sight.{crosses, starts_into_wall}
-use Rattle.sweep_laws.specs.Order.{Seen, spans, hit_of, side_of, seen_of, crossed_where}
-use Rattle.sweep_laws.specs.Fronts.{seen_at, IsFront, IsBare}
-use Rattle.sweep_laws.proofs.Views.{crosses_where}
-use Rattle.sweep_laws.proofs.Active.{den_up}
-use Rattle.exact_geom.proofs.Turns.{cross_of_exchanged}
+use Rattle.sight_spec.specs.Sight.{crosses}
 use Rattle.int_laws.proofs.Ring.{product_swapped, times_minus}
 use Rattle.int_laws.proofs.Signs.{not_negative_product}
-use Rattle.int_laws.proofs.Tests.{agree}
-use Rattle.sweep_laws.proofs.Tests.{both_of, both_true, by_cases, by_lt, clash, either_second, mapped_at, negative_tested, not_above, other_of_either, some_same, tested_negative}
+use Rattle.exact_geom.proofs.Turns.{cross_of_exchanged}
+use Rattle.front_laws.proofs.Hits.{crosses_where}
+use Rattle.front_laws.proofs.InOrder.{den_up}
+use Rattle.front_laws.proofs.Lists.{nowhere, any_is, by_same}
+use Rattle.front_laws.proofs.Tests.{clash, both_of, tested_negative, mapped_at, both_true, negative_tested, not_above, some_same}
+use Rattle.front_laws.specs.Seen.{Seen, hit_of, side_of, spans, crossed_where, seen_of, seen_at}
+use Rattle.sweep_laws.specs.First.{IsFront, IsBare}
 
 -- ---- some element of a list
-
-pub record Some_of {X : Type 0} (test : X → Bool) (xs : List X) (d : X) : Type 0 where
-  pub place : ℕ
-  pub within : place < length xs
-  pub holds : test (get_or xs place d) ≡ true
-
-pub any_at : {X : Type 0} (test : X → Bool) (xs : List X) (d : X) → Some_of test xs d → list_any test xs ≡ true
-any_at {X} test xs d s = at xs s.place s.within s.holds
-  where
-    at : (ys : List X) (k : ℕ) → k < length ys → test (get_or ys k d) ≡ true → list_any test ys ≡ true
-    at [] k lt h = absurd (omega arith)
-    at (y ∷ ys) zero lt h = ap (λ t. t || list_any test ys) h
-    at (y ∷ ys) (suc k) lt h = either_second (test y) (list_any test ys) (at ys k (omega arith) h)
-
-pub some_of : {X : Type 0} (test : X → Bool) (xs : List X) (d : X) → list_any test xs ≡ true → Some_of test xs d
-some_of test [] d h = absurd (grind arith)
-some_of {X} test (x ∷ xs) d h = by_cases (test x)
-    (λ k. record { place = 0; within = omega arith; holds = k })
-    (λ k. let rest = some_of test xs d (other_of_either (test x) (list_any test xs) k h) in record { place = suc rest.place; within = within_suc rest.place rest.within; holds = rest.holds })
-  where
-    within_suc : (k : ℕ) → k < length xs → suc k < length (x ∷ xs)
-    within_suc k h = omega arith
-
--- a test of a whole list, by its elements
-pub any_is : {X : Type 0} (test : X → Bool) (xs : List X) (d : X) (r : Bool) → (Some_of test xs d → r ≡ true) → (r ≡ true → Some_of test xs d) → list_any test xs ≡ r
-any_is test xs d r f g = agree (list_any test xs) r (λ h. f (some_of test xs d h)) (λ h. any_at test xs d (g h))
-
-pub nowhere : Segment
-nowhere = record { a = point (pos 0) (pos 0); b = point (pos 0) (pos 0) }
 
 -- ---- behind the first
 
@@ -93,9 +63,6 @@ crossed_of d (Some s) h =
 
 crosses_at : (p q : Point) (lines : List Segment) (k : ℕ) → k < length lines → crosses p q (get_or lines k nowhere) ≡ crossed_where (vector p q) (seen_at p lines k)
 crosses_at p q lines k within = crosses_where p q (get_or lines k nowhere) ∙ ap (crossed_where (vector p q)) (sym (mapped_at (seen_of p) lines k nowhere None within))
-
-pub by_same : {P : Type 0} (j k : ℕ) → (j ≡ k → P) → (j ≢ k → P) → P
-by_same j k f g = by_lt j k (λ lt. g (λ e. omega (arith, lt, e))) (λ le. by_lt k j (λ lt. g (λ e. omega (arith, lt, e))) (λ ge. f (omega (arith, le, ge))))
 
 -- a wall or screen is crossed exactly where the first one that is spanned is
 pub crossed_by_front : (p q : Point) (lines : List Segment) (k : ℕ) (s : Seen) → IsFront p (vector p q) lines k s

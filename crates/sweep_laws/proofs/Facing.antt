@@ -1,18 +1,19 @@
 -- What hides a point, told by the first of the walls and screens that its direction spans: also the wall that it lies on.
-use Rattle.std.proofs.Common.{◌≡◌, ◌≢◌, ℤ, ℕ, zero, suc, ◌+◌, ◌<◌, ◌≤◌, pos, neg_ℤ, ◌+ℤ◌, ◌-ℤ◌, ◌*ℤ◌, ◌<ℤ◌, ◌≤ℤ◌, arith, ap, refl, sym, ◌∙◌, subst, List, [], ◌∷◌, ◌++◌, length, get_or, nat_lt}
-use Rattle.std.specs.Prelude.{Bool, true, false, cond, if◌then◌else◌, ◌&&◌, ◌||◌, not, map, int_lt, Option, Some, None}
-use Rattle.std.specs.Ordering.{int_eq}
+use Rattle.std.proofs.Common.{◌≡◌, ℤ, ℕ, ◌<◌, pos, ◌<ℤ◌, ◌≤ℤ◌, ◌∙◌, [], ◌∷◌, ◌++◌, List, length, get_or, nat_lt, ap, zero, suc, arith, refl, sym, subst}
+use Rattle.std.proofs.lemmas.Int.{ints}
 use Rattle.std.specs.List.{list_any}
-use Rattle.std.proofs.lemmas.Int.{ints, by_lt_z}
+use Rattle.std.specs.Ordering.{int_eq}
+use Rattle.std.specs.Prelude.{Bool, ◌&&◌, ◌||◌, int_lt, true, cond, Some, None, false}
+use Rattle.plane_spec.specs.Vectors.{vector, cross_of}
 use Rattle.plane_spec.specs.declared.Point.{Point}
 use Rattle.plane_spec.specs.declared.Segment.{Segment}
-use Rattle.plane_spec.specs.Vectors.{point, vector, cross_of}
-use Rattle.sight_spec.specs.Sight.{crosses, starts_into_wall}
-use Rattle.sweep_laws.specs.Order.{Seen, spans, side_of, seen_of}
-use Rattle.sweep_laws.specs.Fronts.{seen_at, IsFront, IsBare}
-use Rattle.sweep_laws.proofs.Between.{faces_where, leaves_where}
-use Rattle.sweep_laws.proofs.Crossing.{any_is, nowhere, by_same, front_is_behind, crossed_by_front, crossed_by_none}
-use Rattle.sweep_laws.proofs.Tests.{both_of, both_true, by_cases, clash, mapped_at, number_less_tested, some_same, tested_number_less, tested_zero, zero_tested}
+use Rattle.sight_spec.specs.Sight.{starts_into_wall, crosses}
+use Rattle.apart_laws.proofs.Between.{faces_where, leaves_where}
+use Rattle.front_laws.proofs.Lists.{nowhere, any_is, by_same}
+use Rattle.front_laws.proofs.Tests.{mapped_at, both_of, tested_zero, both_true, zero_tested, number_less_tested, some_same, tested_number_less, by_cases, clash}
+use Rattle.front_laws.specs.Seen.{Seen, seen_of, seen_at, spans, side_of}
+use Rattle.sweep_laws.proofs.Crossing.{front_is_behind, crossed_by_front, crossed_by_none}
+use Rattle.sweep_laws.specs.First.{IsFront, IsBare}
 
 -- the wall of the number has the station on its left
 abbrev pub has_on_left : Point → Segment → Bool

@@ -1,21 +1,19 @@
 -- The first of the active list is the first blocker that is spanned.
-use Rattle.std.proofs.Common.{◌≡◌, ◌≢◌, ℕ, zero, suc, ◌+◌, ◌<◌, ◌≤◌, arith, ap, refl, sym, ◌∙◌, subst, List, [], ◌∷◌, length, get_or}
-use Rattle.std.specs.Prelude.{Bool, true, false, ◌==◌, ◌||◌, Option, Some, None, AllPairs, All}
+use Rattle.std.proofs.Common.{◌≡◌, ◌≢◌, ℕ, ◌<◌, ◌≤◌, ◌∙◌, [], ◌∷◌, List, length, arith, zero, suc, ap, sym, subst, get_or}
 use Rattle.std.specs.List.{list_any}
+use Rattle.std.specs.Prelude.{◌==◌, Bool, true, Some, AllPairs, All, Option, None}
+use Rattle.plan_spec.specs.Accepted.{is_sound}
+use Rattle.plan_spec.specs.Plan.{Plan}
+use Rattle.plane_spec.specs.Fractions.{is_before}
 use Rattle.plane_spec.specs.declared.Point.{Point}
 use Rattle.plane_spec.specs.declared.Segment.{Segment}
-use Rattle.plane_spec.specs.Vectors.{point}
-use Rattle.plane_spec.specs.Fractions.{is_before}
-use Rattle.plan_spec.specs.Plan.{Plan}
-use Rattle.plan_spec.specs.Accepted.{is_sound}
-use Rattle.sight_spec.specs.Scene.{Scene, scene_of, blockers_of_scene}
-use Rattle.sweep_laws.specs.Order.{Seen, spans, hit_of, is_in_front, are_apart}
-use Rattle.sweep_laws.specs.Fronts.{seen_at, IsFront, IsBare}
-use Rattle.sweep_laws.specs.Parts.{IsFirst}
-use Rattle.sweep_laws.proofs.Fronts.{front_is_before}
-use Rattle.sweep_laws.proofs.Plans.{lines_apart}
-use Rattle.sweep_laws.proofs.Crossing.{some_of}
-use Rattle.sweep_laws.proofs.Tests.{by_lt, own_number_or, some_same, tested_same_number}
+use Rattle.sight_spec.specs.Scene.{scene_of, blockers_of_scene, Scene}
+use Rattle.apart_laws.proofs.Plans.{lines_apart}
+use Rattle.front_laws.proofs.InFront.{front_is_before}
+use Rattle.front_laws.proofs.Lists.{some_of}
+use Rattle.front_laws.proofs.Tests.{by_lt, some_same, tested_same_number, own_number_or}
+use Rattle.front_laws.specs.Seen.{Seen, spans, is_in_front, seen_at, hit_of}
+use Rattle.sweep_laws.specs.First.{AreAllApart, IsFront, IsBare, IsFirst}
 
 -- a blocker of the list: its number, and how it is seen
 abbrev pub Listed : Type 0
@@ -30,10 +28,6 @@ pub record IsAsked (p d : Point) (lines : List Segment) (active : List Listed) :
   pub known : All (λ b. seen_at p lines b.0 ≡ Some b.1) active
   pub numbers : All (λ b. b.0 < length lines) active
   pub spanned : (n : ℕ) (s : Seen) → n < length lines → seen_at p lines n ≡ Some s → list_any (has_number n) active ≡ spans d s
-
--- two different lines that d spans are apart
-abbrev pub AreAllApart : Point → Point → List Segment → Type 0
-AreAllApart p d lines = (i j : ℕ) (s t : Seen) → i ≢ j → i < length lines → j < length lines → seen_at p lines i ≡ Some s → seen_at p lines j ≡ Some t → spans d s ≡ true → spans d t ≡ true → are_apart s t ≡ true
 
 -- as they are in an accepted plan
 pub all_apart : (plan : Plan) (p d : Point) → is_sound plan ≡ true → AreAllApart p d (blockers_of_scene (scene_of plan))

@@ -1,22 +1,16 @@
 -- What the sweep knows when it answers: the first blocker, the nearest corners, and what the station stands on.
-use Rattle.std.specs.Prelude.{ℤ, pos, ◌≡◌, ℕ, Bool, true, false, ◌&&◌, ◌||◌, not, int_lt, int_le, List, ◌++◌, Option, Some, None, if◌then◌else◌}
-use Rattle.std.specs.Ordering.{int_eq}
 use Rattle.std.specs.List.{list_any}
+use Rattle.std.specs.Ordering.{int_eq}
+use Rattle.std.specs.Prelude.{◌≡◌, Bool, false, ◌&&◌, ◌||◌, List, Option, Some, None, if◌then◌else◌, pos, int_lt, int_le}
+use Rattle.plane_spec.specs.Fractions.{Fraction, is_before, whole}
+use Rattle.plane_spec.specs.Vectors.{vector, turns_left, dot_of}
+use Rattle.plane_spec.specs.declared.Corner.{Corner}
 use Rattle.plane_spec.specs.declared.Point.{Point}
 use Rattle.plane_spec.specs.declared.Segment.{Segment}
-use Rattle.plane_spec.specs.declared.Corner.{Corner}
-use Rattle.plane_spec.specs.Vectors.{vector, dot_of, turns_left}
-use Rattle.sight_spec.specs.Scene.{Scene, blockers_of_scene}
+use Rattle.sight_spec.specs.Scene.{Scene}
 use Rattle.sight_spec.specs.Sight.{is_in_interior}
-use Rattle.plane_spec.specs.Fractions.{Fraction, whole, is_before}
-use Rattle.sweep_laws.specs.Order.{Seen, side_of, hit_of}
-use Rattle.sweep_laws.specs.Fronts.{IsFront, IsBare}
-use Rattle.sweep_laws.specs.Groups.{is_own, IsNearest}
-
--- the first blocker that is spanned, with its number, or none
-abbrev pub IsFirst : Scene → Point → Point → Option (ℕ × Seen) → Type 0
-IsFirst scene p d None = IsBare p d (blockers_of_scene scene)
-IsFirst scene p d (Some first) = IsFront p d (blockers_of_scene scene) first.0 first.1
+use Rattle.front_laws.specs.Seen.{Seen, side_of, hit_of}
+use Rattle.sweep_laws.specs.Groups.{IsNearest, is_own}
 
 -- the nearest corner of the direction that passes the test, or none
 abbrev pub IsNearestOrNone : Point → Point → (Corner → Bool) → List Corner → Option Point → Type 0

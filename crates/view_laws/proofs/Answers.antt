@@ -1,33 +1,33 @@
 -- What a view answers: sight of a point, and the wall that is nearest.
-use Rattle.std.proofs.Common.{◌≡◌, ℕ, zero, suc, ◌<◌, ◌≤◌, nat_lt, ℤ, pos, ◌+ℤ◌, ◌-ℤ◌, ◌*ℤ◌, ◌<ℤ◌, ◌≤ℤ◌, arith, ap, refl, sym, ◌∙◌, subst, List, [], ◌∷◌, length, get_or}
-use Rattle.std.specs.Prelude.{Bool, true, false, ◌&&◌, ◌||◌, not, int_lt, int_le, Option, Some, None}
-use Rattle.std.specs.Ordering.{int_eq}
-use Rattle.std.specs.Option.{option_map}
+use Rattle.std.proofs.Common.{◌≡◌, ℕ, ◌<◌, ◌≤◌, ℤ, ◌+ℤ◌, ◌-ℤ◌, ◌*ℤ◌, ◌<ℤ◌, ◌≤ℤ◌, ◌∙◌, [], ◌∷◌, arith, zero, suc, refl, List, length, get_or, nat_lt, pos, ap, sym, subst}
 use Rattle.std.proofs.lemmas.Int.{ints, by_lt_z}
+use Rattle.std.specs.Option.{option_map}
+use Rattle.std.specs.Ordering.{int_eq}
+use Rattle.std.specs.Prelude.{◌&&◌, ◌||◌, int_lt, Option, Some, None, true, Bool, false, not, int_le}
+use Rattle.plane_spec.specs.Cones.{is_in_cone}
+use Rattle.plane_spec.specs.Vectors.{vector, cross_of, point, dot_of, IsDirected, same_point}
+use Rattle.plane_spec.specs.declared.Corner.{Corner}
 use Rattle.plane_spec.specs.declared.Point.{Point}
 use Rattle.plane_spec.specs.declared.Segment.{Segment}
-use Rattle.plane_spec.specs.declared.Corner.{Corner}
-use Rattle.plane_spec.specs.Vectors.{point, vector, cross_of, dot_of, same_point, IsDirected}
-use Rattle.plane_spec.specs.Cones.{is_in_cone}
 use Rattle.sight_spec.specs.Scene.{Scene, blockers_of_scene}
 use Rattle.sight_spec.specs.Sight.{are_in_sight}
 use Rattle.sight_spec.specs.Stops.{near_wall_of}
+use Rattle.int_laws.proofs.Ring.{minus_times, times_minus}
+use Rattle.int_laws.proofs.Signs.{tested_positive, not_negative_product}
+use Rattle.int_laws.proofs.Tests.{tested_less, tested_at_most}
 use Rattle.exact_geom.proofs.Circle.{dot_itself}
-use Rattle.int_laws.proofs.Ring.{times_minus, minus_times}
-use Rattle.sweep_laws.specs.Order.{Seen, spans, side_of}
-use Rattle.sweep_laws.specs.Fronts.{IsFront}
-use Rattle.sweep_laws.specs.Groups.{stands_in, is_ahead, is_behind, back_of}
-use Rattle.sweep_laws.specs.Parts.{IsFirst, IsNearestOrNone, begins_blocked, is_hidden, is_nearer, is_up_to}
-use Rattle.sweep_laws.proofs.Crossing.{nowhere}
+use Rattle.front_laws.proofs.Lists.{nowhere}
+use Rattle.front_laws.proofs.Tests.{guarded, tested_number_less, both_of, tested_zero, negative_tested, either_first, never}
+use Rattle.front_laws.specs.Seen.{Seen, side_of, spans}
 use Rattle.sweep_laws.proofs.Facing.{hides_itself}
-use Rattle.sweep_laws.proofs.Points.{first_hides, seen_first, sight_is}
-use Rattle.sweep_laws.proofs.Rays.{near_wall_is}
-use Rattle.view_laws.specs.Views.{length_of, front_of, hides_at, Told, IsTold, is_hidden_by, is_before_end_of, is_up_to_end_of, is_seen_by, number_by}
-use Rattle.view_laws.proofs.Lengths.{IsAlong, hit_before}
-use Rattle.view_laws.proofs.Nearest.{Really, unmet, there, beyond, really, lengths_tell, lengths_tell_up_to}
-use Rattle.int_laws.proofs.Signs.{not_negative_product, tested_positive}
-use Rattle.int_laws.proofs.Tests.{tested_at_most, tested_less}
-use Rattle.sweep_laws.proofs.Tests.{both_of, either_first, guarded, negative_tested, never, tested_number_less, tested_zero}
+use Rattle.sweep_laws.proofs.NearWall.{near_wall_is}
+use Rattle.sweep_laws.proofs.Sight.{first_hides, seen_first, sight_is}
+use Rattle.sweep_laws.specs.First.{IsFirst, IsFront}
+use Rattle.sweep_laws.specs.Groups.{stands_in, is_ahead, is_behind, back_of}
+use Rattle.sweep_laws.specs.Parts.{is_hidden, IsNearestOrNone, is_nearer, is_up_to, begins_blocked}
+use Rattle.view_laws.proofs.Lengths.{hit_before}
+use Rattle.view_laws.proofs.Nearest.{Really, unmet, there, beyond, lengths_tell, lengths_tell_up_to, really}
+use Rattle.view_laws.specs.Views.{hides_at, front_of, is_hidden_by, number_by, IsAlong, length_of, is_before_end_of, is_up_to_end_of, Told, IsTold, is_seen_by}
 
 -- ---- the first, as it is told
 

@@ -1,13 +1,13 @@
 -- Arcs by places.
-use Rattle.std.proofs.Common.{◌≡◌, ℕ, ◌≤◌, nat_lt, arith, ap, sym, ◌∙◌}
-use Rattle.std.specs.Prelude.{Bool, true, false, ◌&&◌, not}
-use Rattle.plane_spec.specs.declared.Point.{Point}
+use Rattle.std.proofs.Common.{◌≡◌, ◌≤◌, ap, ◌∙◌, sym}
+use Rattle.std.specs.Prelude.{true, ◌&&◌, not}
 use Rattle.plane_spec.specs.Vectors.{is_upper, turns_left, turns_by, turns_before, IsDirection, IsDirected}
-use Rattle.sweep_laws.specs.Places.{place_of}
-use Rattle.sweep_laws.proofs.Places.{place_tells}
-use Rattle.view_laws.specs.declared.view.Arc.TheVariants as arcs
+use Rattle.plane_spec.specs.declared.Point.{Point}
+use Rattle.front_laws.proofs.Tests.{both_of, tested_not, tested_number_not_less}
+use Rattle.turn_laws.proofs.Places.{place_tells}
+use Rattle.turn_laws.specs.Places.{place_of}
 use Rattle.view_laws.specs.Views.{is_in_arc}
-use Rattle.sweep_laws.proofs.Tests.{both_of, tested_not, tested_number_not_less}
+use Rattle.view_laws.specs.declared.view.Arc.TheVariants as arcs
 
 -- within the first half turn, what isn't right of another isn't before it
 upper_before : (d e : Point) → is_upper d ≡ true → is_upper e ≡ true → turns_before d e ≡ turns_left d e

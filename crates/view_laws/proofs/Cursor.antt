@@ -1,21 +1,21 @@
 -- Which sector tells of a place, and what a view answers by it.
-use Rattle.std.proofs.Common.{◌≡◌, ℕ, zero, suc, ◌+◌, ◌<◌, ◌≤◌, nat_lt, arith, ap, refl, sym, ◌∙◌, subst, List, [], ◌∷◌, length, get_or}
-use Rattle.std.specs.Prelude.{true, false, cond, if◌then◌else◌, ◌==◌, Option}
+use Rattle.std.proofs.Common.{◌≡◌, ℕ, ◌+◌, ◌<◌, ◌≤◌, ◌∙◌, [], ◌∷◌, ap, List, refl, arith, length, get_or, suc, zero, sym, subst}
 use Rattle.std.specs.Option.{option_map}
-use Rattle.plane_spec.specs.declared.Point.{Point}
-use Rattle.plane_spec.specs.Vectors.{vector, same_point, IsDirection, IsDirected}
+use Rattle.std.specs.Prelude.{if◌then◌else◌, ◌==◌, cond, Option, false, true}
 use Rattle.plane_spec.specs.Fractions.{reduced}
+use Rattle.plane_spec.specs.Vectors.{vector, same_point, IsDirection, IsDirected}
+use Rattle.plane_spec.specs.declared.Point.{Point}
 use Rattle.sight_spec.specs.Scene.{Scene}
 use Rattle.sight_spec.specs.Sight.{are_in_sight}
 use Rattle.sight_spec.specs.Stops.{near_wall_of, stop_of}
+use Rattle.front_laws.proofs.Tests.{number_less_tested, number_not_less}
+use Rattle.view_laws.proofs.Answers.{sight_told, near_wall_told}
+use Rattle.view_laws.proofs.Stops.{stop_told}
+use Rattle.view_laws.specs.Views.{told_first, told_on, told_by, AreInOrder, told_at, is_in_arc, told_of, is_led_into, IsViewOf, is_seen_by, number_by, stop_by}
 use Rattle.view_laws.specs.declared.view.Arc.{Arc}
 use Rattle.view_laws.specs.declared.view.Front.{Front}
 use Rattle.view_laws.specs.declared.view.Sector.{Sector}
 use Rattle.view_laws.specs.declared.view.View.{View}
-use Rattle.view_laws.specs.Views.{is_in_arc, told_first, told_on, told_by, told_of, is_led_into, IsViewOf, is_seen_by, number_by, stop_by, AreInOrder, told_at}
-use Rattle.view_laws.proofs.Answers.{sight_told, near_wall_told}
-use Rattle.view_laws.proofs.Stops.{stop_told}
-use Rattle.sweep_laws.proofs.Tests.{number_less_tested, number_not_less}
 
 -- ---- sectors
 

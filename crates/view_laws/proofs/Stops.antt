@@ -1,33 +1,32 @@
 -- What a view answers: how far a ray reaches.
-use Rattle.std.proofs.Common.{◌≡◌, ℕ, zero, suc, ◌≤◌, ℤ, pos, ◌+ℤ◌, ◌-ℤ◌, ◌*ℤ◌, ◌<ℤ◌, ◌≤ℤ◌, arith, ap, refl, sym, ◌∙◌, subst, List}
-use Rattle.std.specs.Prelude.{Bool, true, false, cond, ◌||◌, int_lt, Option, Some, None}
-use Rattle.std.specs.Ordering.{int_eq}
-use Rattle.std.specs.Option.{option_map}
-use Rattle.std.specs.List.{list_any}
+use Rattle.std.proofs.Common.{◌≡◌, ℕ, ◌≤◌, ℤ, ◌+ℤ◌, ◌-ℤ◌, ◌*ℤ◌, ◌<ℤ◌, ◌≤ℤ◌, ◌∙◌, arith, ap, refl, pos, sym, List, subst, zero, suc}
 use Rattle.std.proofs.lemmas.Int.{ints, by_lt_z}
-use Rattle.plane_spec.specs.declared.Point.{Point}
-use Rattle.plane_spec.specs.declared.Corner.{Corner}
-use Rattle.plane_spec.specs.Vectors.{vector, cross_of, dot_of, IsDirected}
+use Rattle.std.specs.List.{list_any}
+use Rattle.std.specs.Option.{option_map}
+use Rattle.std.specs.Prelude.{◌||◌, Option, Some, None, true, cond, Bool, false, int_lt}
 use Rattle.plane_spec.specs.Fractions.{Fraction, whole, is_before, reduced}
+use Rattle.plane_spec.specs.Vectors.{vector, cross_of, dot_of, IsDirected}
+use Rattle.plane_spec.specs.declared.Corner.{Corner}
+use Rattle.plane_spec.specs.declared.Point.{Point}
 use Rattle.sight_spec.specs.Scene.{Scene, blockers_of_scene}
 use Rattle.sight_spec.specs.Stops.{stop_of}
+use Rattle.int_laws.proofs.Ring.{times_minus, product_turned}
+use Rattle.int_laws.proofs.Signs.{positive_product}
+use Rattle.int_laws.proofs.Tests.{equal_tested, same_test, less_tested}
 use Rattle.exact_geom.proofs.Circle.{dot_itself}
 use Rattle.exact_geom.proofs.Values.{same_reduced}
-use Rattle.int_laws.proofs.Ring.{product_swapped, product_grouped, times_minus, product_turned}
-use Rattle.int_laws.proofs.Signs.{positive_product}
-use Rattle.int_laws.proofs.Tests.{same_test, equal_tested, less_tested}
-use Rattle.sweep_laws.specs.Order.{Seen, spans, hit_of}
-use Rattle.sweep_laws.specs.Fronts.{IsFront}
-use Rattle.sweep_laws.specs.Groups.{is_own, is_ahead}
-use Rattle.sweep_laws.specs.Parts.{IsFirst, IsNearestOrNone, leaves_left, begins_blocked, nearer_hit, line_stop, corner_stop, start_stop}
+use Rattle.front_laws.proofs.Tests.{one_at_least, both_of}
+use Rattle.front_laws.specs.Seen.{Seen, spans, hit_of}
 use Rattle.sweep_laws.proofs.Least.{one_way}
-use Rattle.sweep_laws.proofs.Points.{seen_first}
-use Rattle.sweep_laws.proofs.Stopping.{stop_is}
-use Rattle.view_laws.specs.Views.{length_of, front_of, Told, IsTold, hit_by, corner_by, stop_by}
-use Rattle.view_laws.proofs.Lengths.{IsAlong, hit_before, in_proportion}
-use Rattle.view_laws.proofs.Nearest.{Really, unmet, there, beyond, really, some_length}
+use Rattle.sweep_laws.proofs.Sight.{seen_first}
+use Rattle.sweep_laws.proofs.Stops.{stop_is}
+use Rattle.sweep_laws.specs.First.{IsFront, IsFirst}
+use Rattle.sweep_laws.specs.Groups.{is_ahead, is_own}
+use Rattle.sweep_laws.specs.Parts.{line_stop, nearer_hit, start_stop, IsNearestOrNone, corner_stop, leaves_left, begins_blocked}
 use Rattle.view_laws.proofs.Answers.{ahead_along}
-use Rattle.sweep_laws.proofs.Tests.{both_of, one_at_least}
+use Rattle.view_laws.proofs.Lengths.{in_proportion, hit_before}
+use Rattle.view_laws.proofs.Nearest.{some_length, Really, unmet, there, beyond, really}
+use Rattle.view_laws.specs.Views.{front_of, hit_by, length_of, IsAlong, corner_by, Told, IsTold, stop_by}
 
 -- ---- the hit, as it is told
 

@@ -1,26 +1,27 @@
 -- What a view says of each direction.
-use Rattle.std.specs.Prelude.{ℕ, ◌+◌, ◌<◌, ◌==◌, nat_lt, ℤ, pos, unsigned_abs, ◌+ℤ◌, ◌≡◌, Bool, true, false, if◌then◌else◌, ◌&&◌, ◌||◌, not, int_lt, List, [], ◌∷◌, length, Option, Some, None, All, AllPairs}
-use Rattle.std.specs.Ordering.{int_eq}
+use Rattle.std.proofs.Common.{◌≡◌, ℕ, ◌+◌, ℤ, pos, ◌+ℤ◌, ◌<ℤ◌, get_or}
 use Rattle.std.specs.Option.{option_map}
-use Rattle.std.proofs.Common.{get_or}
-use Rattle.plane_spec.specs.declared.Point.{Point}
-use Rattle.plane_spec.specs.declared.Segment.{Segment}
-use Rattle.plane_spec.specs.declared.Corner as corners
-use Rattle.plane_spec.specs.Vectors.{point, vector, cross_of, is_upper, turns_left, IsDirection, IsDirected}
+use Rattle.std.specs.Ordering.{int_eq}
+use Rattle.std.specs.Prelude.{ℕ, ◌+◌, ◌<◌, ◌==◌, ℤ, ◌+ℤ◌, ◌≡◌, if◌then◌else◌, ◌&&◌, ◌||◌, [], ◌∷◌, Bool, true, not, All, unsigned_abs, nat_lt, pos, int_lt, List, length, Option, false, Some, None, AllPairs}
 use Rattle.plane_spec.specs.Cones.{is_in_cone}
 use Rattle.plane_spec.specs.Fractions.{Fraction}
+use Rattle.plane_spec.specs.Vectors.{cross_of, dot_of, is_upper, turns_left, point, vector, IsDirection, IsDirected}
+use Rattle.plane_spec.specs.declared.Point.{Point}
+use Rattle.plane_spec.specs.declared.Segment.{Segment}
 use Rattle.sight_spec.specs.Scene.{Scene}
-use Rattle.sweep_laws.specs.Order.{Seen, side_of}
-use Rattle.sweep_laws.specs.Groups.{is_ahead, is_behind, no_corner}
-use Rattle.sweep_laws.specs.Places.{place_of}
-use Rattle.sweep_laws.specs.Parts.{IsFirst, begins_blocked, nearer_hit, start_stop}
+use Rattle.front_laws.specs.Seen.{Seen, side_of}
+use Rattle.sweep_laws.specs.First.{IsFirst}
+use Rattle.sweep_laws.specs.Groups.{no_corner, is_ahead, is_behind}
+use Rattle.sweep_laws.specs.Parts.{begins_blocked, nearer_hit, start_stop}
+use Rattle.turn_laws.specs.Places.{place_of}
 use Rattle.view_laws.specs.declared.view.Arc.{Arc}
-use Rattle.view_laws.specs.declared.view.Arc.TheVariants as arcs
 use Rattle.view_laws.specs.declared.view.Front.{Front}
-use Rattle.view_laws.specs.declared.view.Sector.{Sector}
 use Rattle.view_laws.specs.declared.view.Ground.{Ground}
-use Rattle.view_laws.specs.declared.view.Ground.TheVariants as grounds
+use Rattle.view_laws.specs.declared.view.Sector.{Sector}
 use Rattle.view_laws.specs.declared.view.View.{View}
+use Rattle.view_laws.specs.declared.view.Arc.TheVariants as arcs
+use Rattle.plane_spec.specs.declared.Corner as corners
+use Rattle.view_laws.specs.declared.view.Ground.TheVariants as grounds
 
 -- ---- arcs
 
@@ -168,3 +169,8 @@ stop_by begins told d = nearer_hit (hit_by d told.front) (nearer_hit (corner_by 
 abbrev pub number_by : Option Front → Option ℕ
 number_by None = None
 number_by (Some f) = Some f.number
+
+-- v is in direction d
+pub record IsAlong (d v : Point) : Type 0 where
+  pub line : cross_of d v ≡ pos 0
+  pub ahead : pos 0 <ℤ dot_of d v

@@ -1,0 +1,9 @@
+pub mod Endings
+pub mod Placing
+pub mod Without
+pub mod Edits
+pub mod Steps
+pub mod Tellings
+pub mod Corners
+pub mod Begun
+pub mod Bodies

@@ -1,0 +1,5 @@
+pub mod Together
+pub mod Places
+pub mod Start
+pub mod After
+pub mod Among

@@ -1,0 +1,2 @@
+//! Laws of the angular sweep.
+#![tactic(auto)]
