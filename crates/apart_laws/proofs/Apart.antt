@@ -43,9 +43,13 @@ back_on_line p d a b c e w_spans v_spans c_on e_on =
     let v_two = both_of (int_lt (pos 0) (cross_of v.from d)) (int_lt (pos 0) (cross_of d v.to)) v_spans in
     let x_is : side_of w v.from ≡ pos 0 = side_is_orient p a b c ∙ c_on in
     let y_is : side_of w v.to ≡ pos 0 = side_is_orient p a b e ∙ e_on in
-    let none = no_sum (cross_of d v.to) (cross_of v.from d) (side_of w v.from) (side_of w v.to) (cross_of w.from w.to *ℤ (cross_of d v.to +ℤ cross_of v.from d)) (cross_of v.from v.to *ℤ (cross_of d w.to +ℤ cross_of w.from d)) (sides_are d v w) x_is y_is in
-    let equal : side_of v w.from ≡ side_of v w.to = equal_of (side_of w v.from) (side_of w v.to) (side_of v w.from) (side_of v w.to) (sides_differ v w) x_is y_is in
-    let zero = zero_weights (cross_of d w.to) (cross_of w.from d) (side_of v w.from) (side_of v w.to) (tested_positive _ w_two.1) (tested_positive _ w_two.0)
+    let none = no_sum (cross_of d v.to) (cross_of v.from d) (side_of w v.from) (side_of w v.to)
+        (cross_of w.from w.to *ℤ (cross_of d v.to +ℤ cross_of v.from d))
+        (cross_of v.from v.to *ℤ (cross_of d w.to +ℤ cross_of w.from d)) (sides_are d v w) x_is y_is in
+    let equal : side_of v w.from ≡ side_of v w.to = equal_of (side_of w v.from) (side_of w v.to) (side_of v w.from)
+        (side_of v w.to) (sides_differ v w) x_is y_is in
+    let zero = zero_weights (cross_of d w.to) (cross_of w.from d) (side_of v w.from) (side_of v w.to)
+        (tested_positive _ w_two.1) (tested_positive _ w_two.0)
         (sides_are d w v ∙ none) (same_sides (side_of v w.from) (side_of v w.to) equal) in
     (sym (side_is_orient p c e a) ∙ zero.0, sym (side_is_orient p c e b) ∙ zero.1)
   where
@@ -56,14 +60,16 @@ not_on : (a b c e : Point) → OneOnOther a b c e → is_on_segment c a b ≡ fa
 not_on a b c e (third h) f g = clash (is_on_segment c a b) h f
 not_on a b c e (first h) f g = clash (is_on_segment a c e) h g
 
-apart_of : (x y z u : ℤ) → (are_opposite x y && are_opposite z u) ≡ false → (int_eq x (pos 0) && int_eq y (pos 0)) ≡ false → apart_by x y z u ≡ true
+apart_of : (x y z u : ℤ) → (are_opposite x y && are_opposite z u) ≡ false → (int_eq x (pos 0) && int_eq y (pos 0))
+    ≡ false → apart_by x y z u ≡ true
 apart_of x y z u h k = both (are_opposite x y && are_opposite z u) (int_eq x (pos 0) && int_eq y (pos 0)) h k
   where
     both : (a b : Bool) → a ≡ false → b ≡ false → (not a && not b) ≡ true
     both a b h k = grind arith
 
 -- walls ab and ce, each counterclockwise from p, that don't cross properly and have no first end on the other
-pub apart_where : (p d a b c e : Point) → pos 0 <ℤ cross_of (vector p a) (vector p b) → pos 0 <ℤ cross_of (vector p c) (vector p e)
+pub apart_where : (p d a b c e : Point) → pos 0 <ℤ cross_of (vector p a) (vector p b)
+    → pos 0 <ℤ cross_of (vector p c) (vector p e)
     → spans d (seen_from p a b) ≡ true → spans d (seen_from p c e) ≡ true
     → (are_opposite (orient_of a b c) (orient_of a b e) && are_opposite (orient_of c e a) (orient_of c e b)) ≡ false
     → is_on_segment c a b ≡ false → is_on_segment a c e ≡ false → are_apart (seen_from p c e) (seen_from p a b) ≡ true
@@ -83,7 +89,9 @@ apart_where p d a b c e ab_up ce_up w_spans v_spans uncrossed c_off a_off =
         (λ h. let two = both_of (int_eq (side_of w v.from) (pos 0)) (int_eq (side_of w v.to) (pos 0)) h in
             let c_on : orient_of a b c ≡ pos 0 = sym x ∙ tested_zero _ two.0 in
             let e_on : orient_of a b e ≡ pos 0 = sym y ∙ tested_zero _ two.1 in
-            absurd (not_on a b c e (overlap p d a b c e ab_up ce_up (tested_positive _ w_two.0) (tested_positive _ w_two.1) (tested_positive _ v_two.0) (tested_positive _ v_two.1) c_on (back_on_line p d a b c e w_spans v_spans c_on e_on).0) c_off a_off))
+            absurd (not_on a b c e (overlap p d a b c e ab_up ce_up (tested_positive _ w_two.0)
+                (tested_positive _ w_two.1) (tested_positive _ v_two.0) (tested_positive _ v_two.1) c_on
+                (back_on_line p d a b c e w_spans v_spans c_on e_on).0) c_off a_off))
         (λ h. h))
 
 not_on_end : (a b c e : Point) → EndOnOther a b c e → is_on_segment e a b ≡ false → is_on_segment b c e ≡ false → ⊥
@@ -91,7 +99,8 @@ not_on_end a b c e (last h) f g = clash (is_on_segment e a b) h f
 not_on_end a b c e (own h) f g = clash (is_on_segment b c e) h g
 
 -- the same of walls that have no last end on the other
-pub apart_where_ends : (p d a b c e : Point) → pos 0 <ℤ cross_of (vector p a) (vector p b) → pos 0 <ℤ cross_of (vector p c) (vector p e)
+pub apart_where_ends : (p d a b c e : Point) → pos 0 <ℤ cross_of (vector p a) (vector p b)
+    → pos 0 <ℤ cross_of (vector p c) (vector p e)
     → spans d (seen_from p a b) ≡ true → spans d (seen_from p c e) ≡ true
     → (are_opposite (orient_of a b c) (orient_of a b e) && are_opposite (orient_of c e a) (orient_of c e b)) ≡ false
     → is_on_segment e a b ≡ false → is_on_segment b c e ≡ false → are_apart (seen_from p c e) (seen_from p a b) ≡ true
@@ -111,5 +120,7 @@ apart_where_ends p d a b c e ab_up ce_up w_spans v_spans uncrossed e_off b_off =
         (λ h. let two = both_of (int_eq (side_of w v.from) (pos 0)) (int_eq (side_of w v.to) (pos 0)) h in
             let c_on : orient_of a b c ≡ pos 0 = sym x ∙ tested_zero _ two.0 in
             let e_on : orient_of a b e ≡ pos 0 = sym y ∙ tested_zero _ two.1 in
-            absurd (not_on_end a b c e (overlap_ends p d a b c e ab_up ce_up (tested_positive _ w_two.0) (tested_positive _ w_two.1) (tested_positive _ v_two.0) (tested_positive _ v_two.1) e_on (back_on_line p d a b c e w_spans v_spans c_on e_on).1) e_off b_off))
+            absurd (not_on_end a b c e (overlap_ends p d a b c e ab_up ce_up (tested_positive _ w_two.0)
+                (tested_positive _ w_two.1) (tested_positive _ v_two.0) (tested_positive _ v_two.1) e_on
+                (back_on_line p d a b c e w_spans v_spans c_on e_on).1) e_off b_off))
         (λ h. h))

@@ -1,5 +1,12 @@
--- The blockers that one direction spans, in order from the station outwards.
-use Rattle.std.proofs.Common.{◌≡◌, ℕ, ◌≤◌, ℤ, ◌+ℤ◌, ◌-ℤ◌, ◌*ℤ◌, ◌<ℤ◌, ◌∙◌, ◌∷◌, pos, arith, sym, List, subst, get_or, length, suc}
+-- The blockers that one direction spans are in order from the station outwards.
+--
+-- Hits are fractions, and `is_before` is a strict order of their values (`before_chain`: as directions above the axis).
+-- Two apart blockers have no hit in common: if they had, the weighted sums of sides would be 0, so all four ends would
+-- lie on one line, or the two would cross there. So of two of them one is in front (`behind`), and being in front passes
+-- on (`front_chain`). A list in this order stays so when one is taken out, and when one is put in at the place up to
+-- which all are in front of it, which a binary search finds (`can_search`, `placed`).
+use Rattle.std.proofs.Common.{◌≡◌, ℕ, ◌≤◌, ℤ, ◌+ℤ◌, ◌-ℤ◌, ◌*ℤ◌, ◌<ℤ◌, ◌∙◌, ◌∷◌, pos, arith, sym, List, subst, get_or}
+use Rattle.std.proofs.Common.{length, suc}
 use Rattle.std.proofs.lemmas.Int.{ints, by_lt_z}
 use Rattle.std.specs.List.Sorted.{IsPartitionedBy, IsPartitionPoint}
 use Rattle.std.specs.Ordering.{int_eq}
@@ -22,10 +29,12 @@ use Rattle.front_laws.specs.Seen.{Seen, spans, hit_of, AreTogether, side_of, are
 -- ---- the order of hits
 
 -- a ratio that comes before one that comes before a third
-pub before_chain : (h k l : Fraction) → pos 0 <ℤ h.den → pos 0 <ℤ k.den → pos 0 <ℤ l.den → is_before h k ≡ true → is_before k l ≡ true → is_before h l ≡ true
+pub before_chain : (h k l : Fraction) → pos 0 <ℤ h.den → pos 0 <ℤ k.den → pos 0 <ℤ l.den → is_before h k ≡ true
+    → is_before k l ≡ true → is_before h l ≡ true
 before_chain h k l h_up k_up l_up hk kl =
     from_cross h.num h.den l.num l.den
-      (left_of_left l.num l.den k.num k.den h.num h.den (above l_up) (above k_up) (above h_up) (to_cross k.num k.den l.num l.den kl) (to_cross h.num h.den k.num k.den hk))
+      (left_of_left l.num l.den k.num k.den h.num h.den (above l_up) (above k_up) (above h_up)
+          (to_cross k.num k.den l.num l.den kl) (to_cross h.num h.den k.num k.den hk))
   where
     to_cross : (a b c d : ℤ) → int_lt (a *ℤ d) (c *ℤ b) ≡ true → pos 0 <ℤ (c *ℤ b -ℤ d *ℤ a)
     to_cross a b c d h = omega (arith, ints, h)
@@ -33,12 +42,15 @@ before_chain h k l h_up k_up l_up hk kl =
     from_cross a b c d h = less_tested (a *ℤ d) (c *ℤ b) (omega (arith, ints, h))
 
 -- numbers that weigh up to 0 and aren't on different sides of it
-pub zero_weights : (a b x y : ℤ) → pos 0 <ℤ a → pos 0 <ℤ b → a *ℤ x +ℤ b *ℤ y ≡ pos 0 → are_opposite x y ≡ false → (x ≡ pos 0) × (y ≡ pos 0)
+pub zero_weights : (a b x y : ℤ) → pos 0 <ℤ a → pos 0 <ℤ b → a *ℤ x +ℤ b *ℤ y ≡ pos 0 → are_opposite x y ≡ false
+    → (x ≡ pos 0) × (y ≡ pos 0)
 zero_weights a b x y a_up b_up e apart =
     by_lt_z (pos 0) x
-      (λ x_up. let s = weighted_up_first a b x y a_up b_up x_up (grind (arith, ints)) in absurd (omega (arith, ints, e, s)))
+      (λ x_up. let s = weighted_up_first a b x y a_up b_up x_up (grind (arith, ints)) in
+          absurd (omega (arith, ints, e, s)))
       (λ x_low. by_lt_z x (pos 0)
-        (λ x_down. let s = weighted_down_first a b x y a_up b_up x_down (grind (arith, ints)) in absurd (omega (arith, ints, e, s)))
+        (λ x_down. let s = weighted_down_first a b x y a_up b_up x_down (grind (arith, ints)) in
+            absurd (omega (arith, ints, e, s)))
         (λ x_high. by_lt_z (pos 0) y
           (λ y_up. let s = weighted_up a b x y a_up b_up x_high y_up in absurd (omega (arith, ints, e, s)))
           (λ y_low. by_lt_z y (pos 0)
@@ -60,7 +72,8 @@ no_tie x y z u c f e s p q c_up f_up e_up s_up first second same apart not_befor
   where
     never : (x y : ℤ) → are_opposite x y ≡ true → y ≡ x → ⊥
     never x y h e = grind (arith, ints)
-    line : (x y : ℤ) (b : Bool) → x ≡ pos 0 → y ≡ pos 0 → (not b && not (int_eq x (pos 0) && int_eq y (pos 0))) ≡ true → ⊥
+    line : (x y : ℤ) (b : Bool) → x ≡ pos 0 → y ≡ pos 0 → (not b && not (int_eq x (pos 0) && int_eq y (pos 0))) ≡ true
+        → ⊥
     line x y b h k e = grind (arith, ints)
 
 -- ---- blockers that one direction spans
@@ -73,14 +86,16 @@ den_up d w h =
     sum_up : (a b : ℤ) → pos 0 <ℤ a → pos 0 <ℤ b → pos 0 <ℤ (a +ℤ b)
     sum_up a b h k = omega (arith, ints)
 
-tie : (d : Point) (v w : Seen) → AreTogether d v w → is_before (hit_of d v) (hit_of d w) ≡ false → is_before (hit_of d w) (hit_of d v) ≡ true
+tie : (d : Point) (v w : Seen) → AreTogether d v w → is_before (hit_of d v) (hit_of d w) ≡ false
+    → is_before (hit_of d w) (hit_of d v) ≡ true
 unfolding are_apart
 tie d v w t h =
     let v_two = both_of (int_lt (pos 0) (cross_of v.from d)) (int_lt (pos 0) (cross_of d v.to)) t.first in
     let w_two = both_of (int_lt (pos 0) (cross_of w.from d)) (int_lt (pos 0) (cross_of d w.to)) t.second in
     no_tie (side_of w v.from) (side_of w v.to) (side_of v w.from) (side_of v w.to)
       (cross_of v.from d) (cross_of d v.to) (cross_of d w.to) (cross_of w.from d)
-      (cross_of w.from w.to *ℤ (cross_of d v.to +ℤ cross_of v.from d)) (cross_of v.from v.to *ℤ (cross_of d w.to +ℤ cross_of w.from d))
+      (cross_of w.from w.to *ℤ (cross_of d v.to +ℤ cross_of v.from d))
+          (cross_of v.from v.to *ℤ (cross_of d w.to +ℤ cross_of w.from d))
       (tested_positive _ v_two.0) (tested_positive _ v_two.1) (tested_positive _ w_two.1) (tested_positive _ w_two.0)
       (sides_are d v w) (sides_are d w v) (sides_differ v w) t.apart h
 
@@ -95,8 +110,10 @@ pub front_chain : (d : Point) (u v w : Seen) → AreTogether d u v → AreTogeth
     → is_in_front u v ≡ true → is_in_front v w ≡ true → is_in_front u w ≡ true
 front_chain d u v w uv vw uw h k =
     front_is_before d u w uw.first uw.second uw.apart
-    ∙ before_chain (hit_of d u) (hit_of d v) (hit_of d w) (den_up d u uv.first) (den_up d v vw.first) (den_up d w vw.second)
-        (sym (front_is_before d u v uv.first uv.second uv.apart) ∙ h) (sym (front_is_before d v w vw.first vw.second vw.apart) ∙ k)
+    ∙ before_chain (hit_of d u) (hit_of d v) (hit_of d w) (den_up d u uv.first) (den_up d v vw.first)
+        (den_up d w vw.second)
+        (sym (front_is_before d u v uv.first uv.second uv.apart) ∙ h)
+            (sym (front_is_before d v w vw.first vw.second vw.apart) ∙ k)
 
 -- ---- the active list
 
@@ -109,10 +126,12 @@ pub record SpanAll (d : Point) (xs : List Seen) (w : Seen) : Type 0 where
   pub with : All (λ v. AreTogether d v w) xs
 
 -- what `partition_point` asks
-pub can_search : (d : Point) (xs : List Seen) (w : Seen) → IsInOrder xs → SpanAll d xs w → IsPartitionedBy (λ v. is_in_front v w) xs
+pub can_search : (d : Point) (xs : List Seen) (w : Seen) → IsInOrder xs → SpanAll d xs w
+    → IsPartitionedBy (λ v. is_in_front v w) xs
 can_search d xs w order all i j x le within h =
     by_lt i j
-      (λ lt. front_chain d (get_or xs i x) (get_or xs j x) w (all.pairs i j x lt within) (all.with j x within) (all.with i x (omega arith)) (order i j x lt within) h)
+      (λ lt. front_chain d (get_or xs i x) (get_or xs j x) w (all.pairs i j x lt within) (all.with j x within)
+          (all.with i x (omega arith)) (order i j x lt within) h)
       (λ ge. let e : i ≡ j = omega arith in subst (λ t. is_in_front (get_or xs t x) w ≡ true) (sym e) h)
 
 -- the list with w at the place that was found is in order
@@ -124,7 +143,8 @@ placed d xs w i order all inside point =
       (λ k x le within. behind d (get_or xs k x) w (all.with k x within) (point.1 k x le within))
 
 -- nothing in the list comes before its first
-pub first_is_nearest : (d : Point) (x : Seen) (xs : List Seen) → IsInOrder (x ∷ xs) → AllPairs (λ u v. AreTogether d u v) (x ∷ xs)
+pub first_is_nearest : (d : Point) (x : Seen) (xs : List Seen) → IsInOrder (x ∷ xs)
+    → AllPairs (λ u v. AreTogether d u v) (x ∷ xs)
     → All (λ w. is_before (hit_of d x) (hit_of d w) ≡ true) xs
 first_is_nearest d x xs order all k e within =
     let t = all 0 (suc k) e (omega arith) (omega arith) in

@@ -1,5 +1,6 @@
 -- Tests of numbers and what follows from tests that are composed, in words that the laws of the sweep share.
-use Rattle.std.proofs.Common.{◌≡◌, ℕ, ◌<◌, ◌≤◌, ℤ, neg_ℤ, ◌-ℤ◌, ◌<ℤ◌, ◌≤ℤ◌, [], ◌∷◌, pos, arith, sym, subst, refl, ap, zero, suc, List, length, get_or, ◌==◌}
+use Rattle.std.proofs.Common.{◌≡◌, ℕ, ◌<◌, ◌≤◌, ℤ, neg_ℤ, ◌-ℤ◌, ◌<ℤ◌, ◌≤ℤ◌, [], ◌∷◌, pos, arith, sym, subst, refl, ap}
+use Rattle.std.proofs.Common.{zero, suc, List, length, get_or, ◌==◌}
 use Rattle.std.proofs.lemmas.Int.{ints, by_lt_z}
 use Rattle.std.specs.Ordering.{int_eq}
 use Rattle.std.specs.Prelude.{◌&&◌, ◌||◌, ◌==◌, true, int_lt, nat_lt, false, Bool, not, Some, None, map, Option}
@@ -150,7 +151,8 @@ clash_to b h k = absurd (clash b h k)
 pub some_same : {X : Type 0} (x y : X) → Some x ≡ Some y → x ≡ y
 some_same x y h = ap (λ o. elim o [ Some z ↦ z | None ↦ x ]) h
 
-pub mapped_at : {X Y : Type 0} (f : X → Y) (xs : List X) (k : ℕ) (d : X) (e : Y) → k < length xs → get_or (map f xs) k e ≡ f (get_or xs k d)
+pub mapped_at : {X Y : Type 0} (f : X → Y) (xs : List X) (k : ℕ) (d : X) (e : Y) → k < length xs
+    → get_or (map f xs) k e ≡ f (get_or xs k d)
 mapped_at f [] k d e lt = absurd (omega arith)
 mapped_at f (x ∷ xs) zero d e lt = refl
 mapped_at f (x ∷ xs) (suc k) d e lt = mapped_at f xs k d e (omega arith)

@@ -23,7 +23,8 @@ weighted_down a b x y h k u v =
     let f = times_neg b y in
     omega (arith, ints, g, e, f)
 
-pub weighted_down_first : (a b x y : ℤ) → pos 0 <ℤ a → pos 0 <ℤ b → x <ℤ pos 0 → y ≤ℤ pos 0 → (a *ℤ x +ℤ b *ℤ y) <ℤ pos 0
+pub weighted_down_first : (a b x y : ℤ) → pos 0 <ℤ a → pos 0 <ℤ b → x <ℤ pos 0 → y ≤ℤ pos 0
+    → (a *ℤ x +ℤ b *ℤ y) <ℤ pos 0
 weighted_down_first a b x y h k u v =
     let g = weighted_up_first a b (neg_ℤ x) (neg_ℤ y) h k (omega (arith, ints)) (omega (arith, ints)) in
     let e = times_neg a x in

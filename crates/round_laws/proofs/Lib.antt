@@ -3,7 +3,7 @@ pub mod Placing
 pub mod Without
 pub mod Edits
 pub mod Steps
-pub mod Tellings
+pub mod Sectors
 pub mod Corners
 pub mod Begun
 pub mod Bodies

@@ -1,5 +1,6 @@
 -- Where walls that begin at a corner stand in the list, and what is told of the corner.
-use Rattle.std.proofs.Common.{◌≡◌, ◌≢◌, ℕ, ◌<◌, ℤ, neg_ℤ, ◌-ℤ◌, ◌*ℤ◌, ◌<ℤ◌, ◌∙◌, pos, arith, ap, sym, subst, nat_lt, refl, List, length, get_or}
+use Rattle.std.proofs.Common.{◌≡◌, ◌≢◌, ℕ, ◌<◌, ℤ, neg_ℤ, ◌-ℤ◌, ◌*ℤ◌, ◌<ℤ◌, ◌∙◌, pos, arith, ap, sym, subst, nat_lt}
+use Rattle.std.proofs.Common.{refl, List, length, get_or}
 use Rattle.std.proofs.lemmas.Int.{ints}
 use Rattle.std.specs.Prelude.{if◌then◌else◌, ◌&&◌, ◌||◌, true, int_lt, cond, Bool, false, not, Option, Some, None}
 use Rattle.plane_spec.specs.Cones.{is_in_cone}
@@ -23,20 +24,25 @@ use Rattle.view_laws.specs.Views.{IsAlong, length_of, is_past_first, IsReached}
 
 -- ---- beginning walls
 
-together_from : (s t : Seen) → IsBlocker s → IsBlocker t → spans t.from s ≡ true → AreApartAhead s t → AreTogether (just_after t.from) s t
+together_from : (s t : Seen) → IsBlocker s → IsBlocker t → spans t.from s ≡ true → AreApartAhead s t
+    → AreTogether (just_after t.from) s t
 together_from s t s_is t_is spanned apart =
-    together_after t.from s t t_is.from_in s_is.from_in s_is.to_in t_is.from_in t_is.to_in (spans_on t.from s spanned) (begins_at t t_is.from_some t_is.up) (λ a b. apart (just_after t.from) a b)
+    together_after t.from s t t_is.from_in s_is.from_in s_is.to_in t_is.from_in t_is.to_in (spans_on t.from s spanned)
+        (begins_at t t_is.from_some t_is.up) (λ a b. apart (just_after t.from) a b)
 
 turned_pair : (d : Point) (s t : Seen) → AreTogether d s t → AreTogether d t s
 turned_pair d s t p = record { first = p.second; second = p.first; apart = p.back; back = p.apart }
 
 -- a wall that the corner is behind is in front of what begins at the corner
-pub front_of_new : (s t : Seen) → IsBlocker s → IsBlocker t → spans t.from s ≡ true → AreApartAhead s t → int_lt (side_of s t.from) (pos 0) ≡ true → is_in_front s t ≡ true
+pub front_of_new : (s t : Seen) → IsBlocker s → IsBlocker t → spans t.from s ≡ true → AreApartAhead s t
+    → int_lt (side_of s t.from) (pos 0) ≡ true → is_in_front s t ≡ true
 front_of_new s t s_is t_is spanned apart past =
-    behind (just_after t.from) t s (turned_pair (just_after t.from) s t (together_from s t s_is t_is spanned apart)) (begins_behind s t t_is.up spanned (tested_negative (side_of s t.from) past))
+    behind (just_after t.from) t s (turned_pair (just_after t.from) s t (together_from s t s_is t_is spanned apart))
+        (begins_behind s t t_is.up spanned (tested_negative (side_of s t.from) past))
 
 -- what begins at the corner is in front of a wall that the corner is before
-pub new_in_front : (s t : Seen) → IsBlocker s → IsBlocker t → spans t.from s ≡ true → AreApartAhead s t → pos 0 <ℤ side_of s t.from → is_in_front t s ≡ true
+pub new_in_front : (s t : Seen) → IsBlocker s → IsBlocker t → spans t.from s ≡ true → AreApartAhead s t
+    → pos 0 <ℤ side_of s t.from → is_in_front t s ≡ true
 new_in_front s t s_is t_is spanned apart before =
     begins_before s t t_is.up spanned ((together_from s t s_is t_is spanned apart).back) before
 
@@ -46,16 +52,20 @@ new_in_front s t s_is t_is spanned apart before =
 left_along : (a d v : Point) → IsDirected d → IsAlong d v → turns_left a v ≡ turns_left a d
 left_along a d v some along =
     let k = alike_of d v some along in
-    same_sign k.times k.times_other (cross_of v a) (cross_of d a) (cross_of a v) (cross_of a d) (turn v a) (turn d a) k.positive k.positive_other (scaled k.times k.times_other v.x v.y d.x d.y a.x a.y k.x k.y)
+    same_sign k.times k.times_other (cross_of v a) (cross_of d a) (cross_of a v) (cross_of a d) (turn v a) (turn d a)
+        k.positive k.positive_other (scaled k.times k.times_other v.x v.y d.x d.y a.x a.y k.x k.y)
   where
     turn : (v a : Point) → cross_of v a ≡ neg_ℤ (cross_of a v)
     turn v a = omega (arith, ints)
 
-    same_sign : (k m x y u w : ℤ) → x ≡ neg_ℤ u → y ≡ neg_ℤ w → pos 0 <ℤ k → pos 0 <ℤ m → k *ℤ x ≡ m *ℤ y → int_lt (pos 0) u ≡ int_lt (pos 0) w
+    same_sign : (k m x y u w : ℤ) → x ≡ neg_ℤ u → y ≡ neg_ℤ w → pos 0 <ℤ k → pos 0 <ℤ m → k *ℤ x ≡ m *ℤ y
+        → int_lt (pos 0) u ≡ int_lt (pos 0) w
     same_sign k m x y u w x_is y_is k_up m_up e =
         agree (int_lt (pos 0) u) (int_lt (pos 0) w)
-        (λ h. positive_tested w (positive_factor w m (subst (λ t. pos 0 <ℤ t) (products ∙ product_swapped m w) (positive_product k u k_up (tested_positive u h))) m_up))
-        (λ h. positive_tested u (positive_factor u k (subst (λ t. pos 0 <ℤ t) (sym products ∙ product_swapped k u) (positive_product m w m_up (tested_positive w h))) k_up))
+        (λ h. positive_tested w (positive_factor w m (subst (λ t. pos 0 <ℤ t) (products ∙ product_swapped m w)
+            (positive_product k u k_up (tested_positive u h))) m_up))
+        (λ h. positive_tested u (positive_factor u k (subst (λ t. pos 0 <ℤ t) (sym products ∙ product_swapped k u)
+            (positive_product m w m_up (tested_positive w h))) k_up))
       where
         products : k *ℤ u ≡ m *ℤ w
         products =
@@ -74,32 +84,50 @@ left_along a d v some along =
 pub cone_along : (c : Corner) (d v : Point) → IsDirected d → IsAlong d v → is_in_cone c v ≡ is_in_cone c d
 unfolding is_in_cone
 cone_along c d v some along =
-    ap (λ t. cond (int_lt (pos 0) ((c.here.x -ℤ c.prev.x) *ℤ (c.next.y -ℤ c.prev.y) -ℤ (c.here.y -ℤ c.prev.y) *ℤ (c.next.x -ℤ c.prev.x))) (t && turns_left (vector c.here c.next) v) (t || turns_left (vector c.here c.next) v)) (left_along (vector c.prev c.here) d v some along)
-    ∙ ap (λ t. cond (int_lt (pos 0) ((c.here.x -ℤ c.prev.x) *ℤ (c.next.y -ℤ c.prev.y) -ℤ (c.here.y -ℤ c.prev.y) *ℤ (c.next.x -ℤ c.prev.x))) (turns_left (vector c.prev c.here) d && t) (turns_left (vector c.prev c.here) d || t)) (left_along (vector c.here c.next) d v some along)
+    ap
+        (λ t. cond
+        (int_lt (pos 0)
+        ((c.here.x -ℤ c.prev.x) *ℤ (c.next.y -ℤ c.prev.y) -ℤ (c.here.y -ℤ c.prev.y) *ℤ (c.next.x -ℤ c.prev.x)))
+        (t && turns_left (vector c.here c.next) v) (t || turns_left (vector c.here c.next) v))
+        (left_along (vector c.prev c.here) d v some along)
+    ∙ ap
+        (λ t. cond
+        (int_lt (pos 0)
+        ((c.here.x -ℤ c.prev.x) *ℤ (c.next.y -ℤ c.prev.y) -ℤ (c.here.y -ℤ c.prev.y) *ℤ (c.next.x -ℤ c.prev.x)))
+        (turns_left (vector c.prev c.here) d && t) (turns_left (vector c.prev c.here) d || t))
+        (left_along (vector c.here c.next) d v some along)
 
 -- ---- what is told of one corner
 
 -- of the corners that pass a test all but one are behind the first: it alone is told, if it passes
-pub one_reached : (p : Point) (test : Corner → Bool) (cs : List Corner) (first : Option (ℕ × Seen)) (i : ℕ) → i < length cs
-    → ((j : ℕ) → j < length cs → j ≢ i → test (get_or cs j no_corner) ≡ true → is_past_first first (vector p (get_or cs j no_corner).here) ≡ true)
-    → IsReached p test cs first (if test (get_or cs i no_corner) then Some (length_of (vector p (get_or cs i no_corner).here)) else None)
+pub one_reached : (p : Point) (test : Corner → Bool) (cs : List Corner) (first : Option (ℕ × Seen)) (i : ℕ)
+    → i < length cs
+    → ((j : ℕ) → j < length cs → j ≢ i → test (get_or cs j no_corner) ≡ true
+        → is_past_first first (vector p (get_or cs j no_corner).here) ≡ true)
+    → IsReached p test cs first (if test (get_or cs i no_corner)
+        then Some (length_of (vector p (get_or cs i no_corner).here)) else None)
 one_reached p test cs first i inside others = by_test (test (get_or cs i no_corner)) refl
   where
     itself : (n : ℕ) → not (nat_lt n n) ≡ true
     itself n = grind arith
 
     same : {P : Type 0} (i j : ℕ) → (i ≡ j → P) → (j ≢ i → P) → P
-    same i j f g = by_lt i j (λ lt. g (λ e. absurd (less j i lt e))) (λ le. by_lt j i (λ lt. g (λ e. absurd (never_equal j i lt e))) (λ ge. f (omega (arith, le, ge))))
+    same i j f g = by_lt i j (λ lt. g (λ e. absurd (less j i lt e)))
+        (λ le. by_lt j i (λ lt. g (λ e. absurd (never_equal j i lt e))) (λ ge. f (omega (arith, le, ge))))
       where
         less : (j i : ℕ) → i < j → j ≡ i → ⊥
         less j i h e = omega (arith, h, e)
 
-    by_test : (b : Bool) → test (get_or cs i no_corner) ≡ b → IsReached p test cs first (cond b (Some (length_of (vector p (get_or cs i no_corner).here))) None)
+    by_test : (b : Bool) → test (get_or cs i no_corner) ≡ b
+        → IsReached p test cs first (cond b (Some (length_of (vector p (get_or cs i no_corner).here))) None)
     by_test true h = record {
       some = record { at = i; within = inside; passes = h; far_is = refl };
       all = λ j lt k. same i j
-          (λ e. subst (λ n. (not (nat_lt (length_of (vector p (get_or cs n no_corner).here)) (length_of (vector p (get_or cs i no_corner).here))) || is_past_first first (vector p (get_or cs n no_corner).here)) ≡ true) e
-          (either_first _ (is_past_first first (vector p (get_or cs i no_corner).here)) (itself (length_of (vector p (get_or cs i no_corner).here)))))
+          (λ e. subst (λ n. (not (nat_lt (length_of (vector p (get_or cs n no_corner).here))
+              (length_of (vector p (get_or cs i no_corner).here)))
+              || is_past_first first (vector p (get_or cs n no_corner).here)) ≡ true) e
+          (either_first _ (is_past_first first (vector p (get_or cs i no_corner).here))
+              (itself (length_of (vector p (get_or cs i no_corner).here)))))
           (λ n. either_second _ (is_past_first first (vector p (get_or cs j no_corner).here)) (others j lt n k));
     }
     by_test false h = record {
@@ -130,5 +158,6 @@ back_along d v a = record { line = cross_is ∙ a.line; ahead = subst (λ t. pos
     dot_is = let e = turn d.x v.x in let f = turn d.y v.y in omega (arith, ints, e, f)
 
 -- so the way back leads into a corner by all of one direction or by none
-pub cone_back : (c : Corner) (d v : Point) → IsDirected (back_of d) → IsAlong d v → is_in_cone c (back_of v) ≡ is_in_cone c (back_of d)
+pub cone_back : (c : Corner) (d v : Point) → IsDirected (back_of d) → IsAlong d v → is_in_cone c (back_of v)
+    ≡ is_in_cone c (back_of d)
 cone_back c d v some along = cone_along c (back_of d) (back_of v) some (back_along d v along)

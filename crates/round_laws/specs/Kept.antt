@@ -1,4 +1,4 @@
--- What is first of some of the walls and screens: of those that aren't left out.
+-- What is first of the walls and screens that are kept, and when those that are left out don't matter.
 use Rattle.std.proofs.Common.{◌≡◌, ◌≢◌, ℕ, ◌<◌, pos, List, length, get_or}
 use Rattle.std.specs.Prelude.{true, int_lt, Some, Bool, false, ℕ, ◌<◌, ◌≡◌, ◌≢◌, List, length, Option, None}
 use Rattle.plane_spec.specs.Fractions.{is_before}
@@ -10,45 +10,49 @@ use Rattle.front_laws.specs.Seen.{Seen, spans, side_of, seen_at, hit_of}
 use Rattle.sweep_laws.specs.Groups.{stands_in, no_corner}
 
 -- of the kept ones it is spanned, and all others that are spanned are hit after it
-pub record IsKeptFront (p d : Point) (lines : List Segment) (kept : ℕ → Bool) (k : ℕ) (s : Seen) : Type 0 where
-  pub within : k < length lines
-  pub seen : seen_at p lines k ≡ Some s
+pub record IsKeptFront (p d : Point) (blockers : List Segment) (kept : ℕ → Bool) (k : ℕ) (s : Seen) : Type 0 where
+  pub within : k < length blockers
+  pub seen : seen_at p blockers k ≡ Some s
   pub spanned : spans d s ≡ true
-  pub nearest : (j : ℕ) (t : Seen) → j < length lines → kept j ≡ true → j ≢ k → seen_at p lines j ≡ Some t → spans d t ≡ true → is_before (hit_of d s) (hit_of d t) ≡ true
+  pub nearest : (j : ℕ) (t : Seen) → j < length blockers → kept j ≡ true → j ≢ k → seen_at p blockers j ≡ Some t
+      → spans d t ≡ true → is_before (hit_of d s) (hit_of d t) ≡ true
 
 -- none of the kept ones is spanned
-pub record IsKeptBare (p d : Point) (lines : List Segment) (kept : ℕ → Bool) : Type 0 where
-  pub none : (j : ℕ) (t : Seen) → j < length lines → kept j ≡ true → seen_at p lines j ≡ Some t → spans d t ≡ false
+pub record IsKeptBare (p d : Point) (blockers : List Segment) (kept : ℕ → Bool) : Type 0 where
+  pub none : (j : ℕ) (t : Seen) → j < length blockers → kept j ≡ true → seen_at p blockers j ≡ Some t → spans d t
+      ≡ false
 
 -- the first of the kept ones, or none
 abbrev pub IsKeptFirst : Point → Point → List Segment → (ℕ → Bool) → Option (ℕ × Seen) → Type 0
-IsKeptFirst p d lines kept None = IsKeptBare p d lines kept
-IsKeptFirst p d lines kept (Some first) = IsKeptFront p d lines kept first.0 first.1
+IsKeptFirst p d blockers kept None = IsKeptBare p d blockers kept
+IsKeptFirst p d blockers kept (Some first) = IsKeptFront p d blockers kept first.0 first.1
 
 -- a kept one is spanned, and hit before t
-pub record IsCovered (p d : Point) (lines : List Segment) (kept : ℕ → Bool) (t : Seen) : Type 0 where
+pub record IsCovered (p d : Point) (blockers : List Segment) (kept : ℕ → Bool) (t : Seen) : Type 0 where
   pub number : ℕ
   pub cover : Seen
-  pub within : number < length lines
+  pub within : number < length blockers
   pub is_kept : kept number ≡ true
-  pub seen : seen_at p lines number ≡ Some cover
+  pub seen : seen_at p blockers number ≡ Some cover
   pub spanned : spans d cover ≡ true
   pub before : is_before (hit_of d cover) (hit_of d t) ≡ true
 
 -- each that is left out and spanned has a kept one before it
 abbrev pub AreCovered : Point → Point → List Segment → (ℕ → Bool) → Type 0
-AreCovered p d lines kept = (j : ℕ) (t : Seen) → j < length lines → kept j ≡ false → seen_at p lines j ≡ Some t → spans d t ≡ true → IsCovered p d lines kept t
+AreCovered p d blockers kept = (j : ℕ) (t : Seen) → j < length blockers → kept j ≡ false → seen_at p blockers j
+    ≡ Some t → spans d t ≡ true → IsCovered p d blockers kept t
 
 -- a wall that the direction spans has the corner behind it
-pub record IsPastOne (p d : Point) (lines : List Segment) (v : Point) : Type 0 where
+pub record IsPastOne (p d : Point) (blockers : List Segment) (v : Point) : Type 0 where
   pub number : ℕ
   pub cover : Seen
-  pub within : number < length lines
-  pub seen : seen_at p lines number ≡ Some cover
+  pub within : number < length blockers
+  pub seen : seen_at p blockers number ≡ Some cover
   pub spanned : spans d cover ≡ true
   pub past : int_lt (side_of cover v) (pos 0) ≡ true
 
 -- in direction d each corner that isn't kept is behind a wall that the direction spans
 abbrev pub ArePast : Scene → Point → Point → (ℕ → Bool) → Type 0
-ArePast scene p d kept = (j : ℕ) → j < length scene.corners → kept j ≡ false → stands_in p d (get_or scene.corners j no_corner).here ≡ true
+ArePast scene p d kept = (j : ℕ) → j < length scene.corners → kept j ≡ false
+    → stands_in p d (get_or scene.corners j no_corner).here ≡ true
     → IsPastOne p d (blockers_of_scene scene) (vector p (get_or scene.corners j no_corner).here)

@@ -1,5 +1,6 @@
 -- Corners on a segment.
-use Rattle.std.proofs.Common.{◌≡◌, ℤ, pos, ◌+ℤ◌, ◌-ℤ◌, ◌*ℤ◌, neg_ℤ, ◌<ℤ◌, ◌≤ℤ◌, arith, ap, ◌∙◌, ◌⊎◌, subst, inl, inr, refl}
+use Rattle.std.proofs.Common.{◌≡◌, ℤ, pos, ◌+ℤ◌, ◌-ℤ◌, ◌*ℤ◌, neg_ℤ, ◌<ℤ◌, ◌≤ℤ◌, arith, ap, ◌∙◌, ◌⊎◌, subst, inl, inr}
+use Rattle.std.proofs.Common.{refl}
 use Rattle.std.proofs.lemmas.Int.{ints, by_lt_z}
 use Rattle.std.specs.Ordering.{int_eq}
 use Rattle.std.specs.Prelude.{true, ◌&&◌, false, Bool, not}
@@ -18,8 +19,10 @@ use Rattle.turn_laws.specs.Turns.{AreOneWay}
 -- from m on towards e is the way from s to e
 onward : (m s e : ℤ) → is_between m s e ≡ true → pos 0 ≤ℤ ((e -ℤ m) *ℤ (e -ℤ s))
 onward m s e h = by_lt_z e m
-    (λ back. let p = not_negative_product (neg_ℤ (e -ℤ m)) (neg_ℤ (e -ℤ s)) (omega (arith, ints, back)) (back_from m s e h back) in
-        let f = neg_times (e -ℤ m) (neg_ℤ (e -ℤ s)) in let g = times_neg (e -ℤ m) (e -ℤ s) in omega (arith, ints, p, f, g))
+    (λ back. let p = not_negative_product (neg_ℤ (e -ℤ m)) (neg_ℤ (e -ℤ s)) (omega (arith, ints, back))
+        (back_from m s e h back) in
+        let f = neg_times (e -ℤ m) (neg_ℤ (e -ℤ s)) in let g = times_neg (e -ℤ m) (e -ℤ s) in
+            omega (arith, ints, p, f, g))
     (λ ahead. by_lt_z m e
       (λ more. not_negative_product (e -ℤ m) (e -ℤ s) (omega (arith, ints, ahead)) (ahead_from m s e h more))
       (λ end. none (e -ℤ m) (e -ℤ s) (omega (arith, ints, ahead, end))))
@@ -33,9 +36,12 @@ onward m s e h = by_lt_z e m
 
 onward_strictly : (m s e : ℤ) → is_between m s e ≡ true → int_eq m e ≡ false → pos 0 <ℤ ((e -ℤ m) *ℤ (e -ℤ s))
 onward_strictly m s e h other = by_lt_z e m
-    (λ back. let p = positive_product (neg_ℤ (e -ℤ m)) (neg_ℤ (e -ℤ s)) (omega (arith, ints, back)) (back_from m s e h back) in
-        let f = neg_times (e -ℤ m) (neg_ℤ (e -ℤ s)) in let g = times_neg (e -ℤ m) (e -ℤ s) in omega (arith, ints, p, f, g))
-    (λ ahead. let more = apart m e ahead other in positive_product (e -ℤ m) (e -ℤ s) (omega (arith, ints, more)) (ahead_from m s e h more))
+    (λ back. let p = positive_product (neg_ℤ (e -ℤ m)) (neg_ℤ (e -ℤ s)) (omega (arith, ints, back))
+        (back_from m s e h back) in
+        let f = neg_times (e -ℤ m) (neg_ℤ (e -ℤ s)) in let g = times_neg (e -ℤ m) (e -ℤ s) in
+            omega (arith, ints, p, f, g))
+    (λ ahead. let more = apart m e ahead other in
+        positive_product (e -ℤ m) (e -ℤ s) (omega (arith, ints, more)) (ahead_from m s e h more))
   where
     apart : (m e : ℤ) → m ≤ℤ e → int_eq m e ≡ false → m <ℤ e
     apart m e h k = grind (arith, ints)
@@ -55,8 +61,10 @@ sum_second a b h k = omega (arith, ints, h, k)
 
 square_of_first : (x y : ℤ) → pos 0 <ℤ (x *ℤ y) → pos 0 <ℤ (x *ℤ x)
 square_of_first x y h = by_lt_z x (pos 0)
-    (λ low. let p = positive_product (neg_ℤ x) (neg_ℤ x) (omega (arith, ints, low)) (omega (arith, ints, low)) in let f = neg_times x (neg_ℤ x) in let g = times_neg x x in omega (arith, ints, p, f, g))
-    (λ high. by_lt_z (pos 0) x (λ up. positive_product x x up up) (λ none. absurd (zero x y (omega (arith, ints, high, none)) h)))
+    (λ low. let p = positive_product (neg_ℤ x) (neg_ℤ x) (omega (arith, ints, low)) (omega (arith, ints, low)) in
+        let f = neg_times x (neg_ℤ x) in let g = times_neg x x in omega (arith, ints, p, f, g))
+    (λ high. by_lt_z (pos 0) x (λ up. positive_product x x up up)
+        (λ none. absurd (zero x y (omega (arith, ints, high, none)) h)))
   where
     zero : (x y : ℤ) → x ≡ pos 0 → pos 0 <ℤ (x *ℤ y) → ⊥
     zero x y e h = let k : x *ℤ y ≡ pos 0 *ℤ y = ap (λ t. t *ℤ y) e in omega (arith, ints, k, h)
@@ -80,14 +88,18 @@ onward_by v p q line x_up y_up (inr h) = record {
 }
 
 -- the rest of a vector is in line with it where the part is
-rest_diff : (px py qx qy vx vy : ℤ) → (qx -ℤ px) *ℤ (vy -ℤ py) -ℤ (qy -ℤ py) *ℤ (vx -ℤ px) ≡ pos 0 → (qx -ℤ vx) *ℤ (qy -ℤ py) -ℤ (qy -ℤ vy) *ℤ (qx -ℤ px) ≡ pos 0
+rest_diff : (px py qx qy vx vy : ℤ) → (qx -ℤ px) *ℤ (vy -ℤ py) -ℤ (qy -ℤ py) *ℤ (vx -ℤ px) ≡ pos 0
+    → (qx -ℤ vx) *ℤ (qy -ℤ py) -ℤ (qy -ℤ vy) *ℤ (qx -ℤ px) ≡ pos 0
 rest_diff px py qx qy vx vy h =
     let a = times_minus (qx -ℤ px) vy py in
     let b = times_minus (qy -ℤ py) vx px in
-    let c : (qx -ℤ vx) *ℤ (qy -ℤ py) ≡ (qy -ℤ py) *ℤ qx -ℤ (qy -ℤ py) *ℤ vx = product_swapped (qx -ℤ vx) (qy -ℤ py) ∙ times_minus (qy -ℤ py) qx vx in
-    let d : (qy -ℤ vy) *ℤ (qx -ℤ px) ≡ (qx -ℤ px) *ℤ qy -ℤ (qx -ℤ px) *ℤ vy = product_swapped (qy -ℤ vy) (qx -ℤ px) ∙ times_minus (qx -ℤ px) qy vy in
+    let c : (qx -ℤ vx) *ℤ (qy -ℤ py) ≡ (qy -ℤ py) *ℤ qx -ℤ (qy -ℤ py) *ℤ vx = product_swapped (qx -ℤ vx) (qy -ℤ py)
+        ∙ times_minus (qy -ℤ py) qx vx in
+    let d : (qy -ℤ vy) *ℤ (qx -ℤ px) ≡ (qx -ℤ px) *ℤ qy -ℤ (qx -ℤ px) *ℤ vy = product_swapped (qy -ℤ vy) (qx -ℤ px)
+        ∙ times_minus (qx -ℤ px) qy vy in
     let e = times_minus (qx -ℤ px) qy py in
-    let f : (qx -ℤ px) *ℤ (qy -ℤ py) ≡ (qy -ℤ py) *ℤ qx -ℤ (qy -ℤ py) *ℤ px = product_swapped (qx -ℤ px) (qy -ℤ py) ∙ times_minus (qy -ℤ py) qx px in
+    let f : (qx -ℤ px) *ℤ (qy -ℤ py) ≡ (qy -ℤ py) *ℤ qx -ℤ (qy -ℤ py) *ℤ px = product_swapped (qx -ℤ px) (qy -ℤ py)
+        ∙ times_minus (qy -ℤ py) qx px in
     omega (arith, ints, a, b, c, d, e, f, h)
 
 -- from a point of the segment that isn't its end, the way on is the segment's own
@@ -103,11 +115,14 @@ onward_of v p q h other =
         (λ e. inl (onward_strictly v.x p.x q.x two.0 e)))
 
 -- a corner stops a segment exactly where it stands on it, before its end, with the segment's own direction in its cone
-pub stops_along : (p q : Point) (c : Corner) → corner_stops p q c ≡ (not (same_point c.here q) && (is_on_segment c.here p q && is_in_cone c (vector p q)))
+pub stops_along : (p q : Point) (c : Corner) → corner_stops p q c
+    ≡ (not (same_point c.here q) && (is_on_segment c.here p q && is_in_cone c (vector p q)))
 unfolding corner_stops
 stops_along p q c =
-    guarded (same_point c.here q) (is_on_segment c.here p q) (is_in_cone c (vector c.here q)) (is_in_cone c (vector p q))
-      (λ other on. let w = onward_of c.here p q on other in same_cone c (vector c.here q) (vector p q) w.way w.rest w.whole)
+    guarded (same_point c.here q) (is_on_segment c.here p q) (is_in_cone c (vector c.here q))
+        (is_in_cone c (vector p q))
+      (λ other on. let w = onward_of c.here p q on other in
+          same_cone c (vector c.here q) (vector p q) w.way w.rest w.whole)
   where
     guarded : (s o a b : Bool) → (s ≡ false → o ≡ true → a ≡ b) → (not s && (o && a)) ≡ (not s && (o && b))
     guarded true o a b f = refl

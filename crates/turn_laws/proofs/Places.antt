@@ -1,5 +1,12 @@
 -- The places of directions tell their order.
-use Rattle.std.proofs.Common.{◌≡◌, ℕ, ◌+◌, ◌-◌, ◌*◌, ◌/◌, ◌<◌, ◌≤◌, ℤ, neg_ℤ, ◌-ℤ◌, ◌*ℤ◌, ◌<ℤ◌, ◌≤ℤ◌, ◌∙◌, arith, subst, nat_lt, sym, pos, refl, negsuc, ap, zero, suc}
+--
+-- Within a quarter a direction is a pair of sizes, how far it leads along the quarter's first side and how far along the
+-- second, and its part is the second's share of their sum. Shares of two directions that differ, differ by at least one
+-- over the product of the sums, at most 800000 each. A part is the floor of the share times 2^40, which is more than
+-- that product: so the floor keeps what is less, less (`part_rises`), and what is not more, not more (`part_falls`). A
+-- quarter turn is one quarter further; so directions of different quarters are told apart by the quarters alone.
+use Rattle.std.proofs.Common.{◌≡◌, ℕ, ◌+◌, ◌-◌, ◌*◌, ◌/◌, ◌<◌, ◌≤◌, ℤ, neg_ℤ, ◌-ℤ◌, ◌*ℤ◌, ◌<ℤ◌, ◌≤ℤ◌, ◌∙◌, arith, subst}
+use Rattle.std.proofs.Common.{nat_lt, sym, pos, refl, negsuc, ap, zero, suc}
 use Rattle.std.proofs.lemmas.Int.{ints, by_lt_z}
 use Rattle.std.proofs.lemmas.Nat.{div_below, le-div}
 use Rattle.std.specs.Ordering.{int_eq}
@@ -27,20 +34,25 @@ cancel m n k some h = by_lt n m
     clash n k x some h j = omega (arith, some, h, j)
 
 under : (n k : ℕ) → 0 < k → (n / k) * k ≤ n
-under n k some = by_lt n ((n / k) * k) (λ lt. let g = div_below n k (n / k) some lt in absurd (omega (arith, g))) (λ le. le)
+under n k some = by_lt n ((n / k) * k) (λ lt. let g = div_below n k (n / k) some lt in absurd (omega (arith, g)))
+    (λ le. le)
 
 -- ---- parts of one quarter
 
 -- with s and t the sizes of the two
-part_rises : (b s e t : ℕ) → 0 < s → 0 < t → s * t ≤ 1099511627776 → b * t < e * s → (b * 1099511627776) / s < (e * 1099511627776) / t
+part_rises : (b s e t : ℕ) → 0 < s → 0 < t → s * t ≤ 1099511627776 → b * t < e * s
+    → (b * 1099511627776) / s < (e * 1099511627776) / t
 part_rises b s e t s_some t_some small less =
     let x = (b * 1099511627776) / s in
     let low = le_times (x * s) (b * 1099511627776) t (under (b * 1099511627776) s s_some) in
     let wide = le_times (b * t + 1) (e * s) 1099511627776 (omega (arith, less)) in
-    let g = le-div (x + 1) (e * 1099511627776) t t_some (cancel ((x + 1) * t) (e * 1099511627776) s s_some (all x s t b e low wide small)) in
+    let g = le-div (x + 1) (e * 1099511627776) t t_some
+        (cancel ((x + 1) * t) (e * 1099511627776) s s_some (all x s t b e low wide small)) in
     omega (arith, g)
   where
-    all : (x s t b e : ℕ) → (x * s) * t ≤ (b * 1099511627776) * t → (b * t + 1) * 1099511627776 ≤ (e * s) * 1099511627776 → s * t ≤ 1099511627776 → ((x + 1) * t) * s ≤ (e * 1099511627776) * s
+    all : (x s t b e : ℕ) → (x * s) * t ≤ (b * 1099511627776) * t
+        → (b * t + 1) * 1099511627776 ≤ (e * s) * 1099511627776 → s * t ≤ 1099511627776
+        → ((x + 1) * t) * s ≤ (e * 1099511627776) * s
     all x s t b e h k j = omega (arith, h, k, j)
 
 part_falls : (b s e t : ℕ) → 0 < s → 0 < t → e * s ≤ b * t → (e * 1099511627776) / t ≤ (b * 1099511627776) / s
@@ -50,7 +62,8 @@ part_falls b s e t s_some t_some more =
     let wide = le_times (e * s) (b * t) 1099511627776 more in
     le-div y (b * 1099511627776) s s_some (cancel (y * s) (b * 1099511627776) t t_some (all y s t b e low wide))
   where
-    all : (y s t b e : ℕ) → (y * t) * s ≤ (e * 1099511627776) * s → (e * s) * 1099511627776 ≤ (b * t) * 1099511627776 → (y * s) * t ≤ (b * 1099511627776) * t
+    all : (y s t b e : ℕ) → (y * t) * s ≤ (e * 1099511627776) * s → (e * s) * 1099511627776 ≤ (b * t) * 1099511627776
+        → (y * s) * t ≤ (b * 1099511627776) * t
     all y s t b e h k = omega (arith, h, k)
 
 pub record Sizes (a b : ℕ) : Type 0 where
@@ -72,8 +85,12 @@ part_tells a b c e h k =
     let s_some = some a b h in
     let t_some = some c e k in
     by_lt (b * c) (e * a)
-      (λ lt. number_less_tested (part_of a b) (part_of c e) (part_rises b (a + b) e (c + e) s_some t_some (small_product a b c e h k) (wider a b c e lt)) ∙ sym (number_less_tested (b * c) (e * a) lt))
-      (λ le. number_not_less (part_of a b) (part_of c e) (part_falls b (a + b) e (c + e) s_some t_some (wider_most a b c e le)) ∙ sym (number_not_less (b * c) (e * a) le))
+      (λ lt. number_less_tested (part_of a b) (part_of c e)
+          (part_rises b (a + b) e (c + e) s_some t_some (small_product a b c e h k) (wider a b c e lt))
+          ∙ sym (number_less_tested (b * c) (e * a) lt))
+      (λ le. number_not_less (part_of a b) (part_of c e)
+          (part_falls b (a + b) e (c + e) s_some t_some (wider_most a b c e le))
+          ∙ sym (number_not_less (b * c) (e * a) le))
   where
     some : (a b : ℕ) → Sizes a b → 0 < a + b
     some a b h = let x = h.some in omega (arith, x)
@@ -83,7 +100,8 @@ part_tells a b c e h k =
     wider_most a b c e h = omega (arith, h)
 
 pub part_below : (a b : ℕ) → Sizes a b → part_of a b < 1099511627776
-part_below a b h = let x = h.some in div_below (b * 1099511627776) (a + b) 1099511627776 (omega (arith, x)) (omega (arith, x))
+part_below a b h = let x = h.some in
+    div_below (b * 1099511627776) (a + b) 1099511627776 (omega (arith, x)) (omega (arith, x))
 
 -- ---- quarters
 
@@ -107,14 +125,23 @@ quarter_of d within some =
     let y = size_is d.y within.y in
     by_lt_z (pos 0) d.x
       (λ right. by_lt_z d.y (pos 0)
-        (λ down. fourth (unsigned_abs d.y) (unsigned_abs d.x) (record { some = size_some_down d.y down; first = y; second = x }) (size_up d.x (not_below d.x right)) (size_down d.y (not_above d.y down)))
-        (λ up. first (unsigned_abs d.x) (unsigned_abs d.y) (record { some = size_some d.x right; first = x; second = y }) (size_up d.x (not_below d.x right)) (size_up d.y up)))
+        (λ down. fourth (unsigned_abs d.y) (unsigned_abs d.x)
+            (record { some = size_some_down d.y down; first = y; second = x }) (size_up d.x (not_below d.x right))
+            (size_down d.y (not_above d.y down)))
+        (λ up. first (unsigned_abs d.x) (unsigned_abs d.y)
+            (record { some = size_some d.x right; first = x; second = y }) (size_up d.x (not_below d.x right))
+            (size_up d.y up)))
       (λ not_right. by_lt_z (pos 0) d.y
-        (λ up. second (unsigned_abs d.y) (unsigned_abs d.x) (record { some = size_some d.y up; first = y; second = x }) (size_down d.x not_right) (size_up d.y (not_below d.y up)))
+        (λ up. second (unsigned_abs d.y) (unsigned_abs d.x) (record { some = size_some d.y up; first = y; second = x })
+            (size_down d.x not_right) (size_up d.y (not_below d.y up)))
         (λ not_up. by_lt_z d.x (pos 0)
-          (λ left. third (unsigned_abs d.x) (unsigned_abs d.y) (record { some = size_some_down d.x left; first = x; second = y }) (size_down d.x not_right) (size_down d.y not_up))
+          (λ left. third (unsigned_abs d.x) (unsigned_abs d.y)
+              (record { some = size_some_down d.x left; first = x; second = y }) (size_down d.x not_right)
+              (size_down d.y not_up))
           (λ not_left. let x_is : d.x ≡ pos 0 = omega (arith, ints, not_right, not_left) in
-              fourth (unsigned_abs d.y) (unsigned_abs d.x) (record { some = size_some_down d.y (down_is d x_is some not_up); first = y; second = x }) (size_up d.x not_left) (size_down d.y not_up))))
+              fourth (unsigned_abs d.y) (unsigned_abs d.x)
+                  (record { some = size_some_down d.y (down_is d x_is some not_up); first = y; second = x })
+                  (size_up d.x not_left) (size_down d.y not_up))))
   where
     size_is : (z : ℤ) → IsWithin (pos 400000) z → unsigned_abs z ≤ 400000
     size_is z h = let l = h.low in let k = h.high in grind (arith, ints)
@@ -123,7 +150,8 @@ quarter_of d within some =
     size_some_down : (z : ℤ) → z <ℤ pos 0 → 0 < unsigned_abs z
     size_some_down z h = grind (arith, ints)
     down_is : (d : Point) → d.x ≡ pos 0 → IsDirected d → d.y ≤ℤ pos 0 → d.y <ℤ pos 0
-    down_is d h s k = let t = s.somewhere in by_lt_z d.y (pos 0) (λ low. low) (λ high. absurd (none d.x d.y h (omega (arith, ints, k, high)) t))
+    down_is d h s k = let t = s.somewhere in
+        by_lt_z d.y (pos 0) (λ low. low) (λ high. absurd (none d.x d.y h (omega (arith, ints, k, high)) t))
       where
         none : (x y : ℤ) → x ≡ pos 0 → y ≡ pos 0 → (int_eq x (pos 0) && int_eq y (pos 0)) ≡ false → ⊥
         none x y h k t = grind (arith, ints)
@@ -146,7 +174,9 @@ size_of_back zero = refl
 size_of_back (suc n) = refl
 
 first_place : (a b : ℕ) → 0 < a → place_at (pos a) (pos b) ≡ part_of a b
-first_place a b some = ap (λ t. cond t (part_of a b) (cond (int_le (pos a) (pos 0) && int_lt (pos 0) (pos b)) (1099511627776 + part_of b a) (cond (int_lt (pos a) (pos 0) && int_le (pos b) (pos 0)) (2199023255552 + part_of a b) (3298534883328 + part_of b a)))) (test a b some)
+first_place a b some = ap (λ t. cond t (part_of a b) (cond (int_le (pos a) (pos 0) && int_lt (pos 0) (pos b))
+    (1099511627776 + part_of b a) (cond (int_lt (pos a) (pos 0) && int_le (pos b) (pos 0))
+    (2199023255552 + part_of a b) (3298534883328 + part_of b a)))) (test a b some)
   where
     test : (a b : ℕ) → 0 < a → (int_lt (pos 0) (pos a) && int_le (pos 0) (pos b)) ≡ true
     test a b h = grind (arith, ints)
@@ -173,7 +203,9 @@ not_up_test n b = grind (arith, ints)
 
 second_place : (a b : ℕ) → 0 < a → place_at (neg_ℤ (pos b)) (pos a) ≡ 1099511627776 + part_of a b
 second_place a b some =
-    pick_second (int_lt (pos 0) (neg_ℤ (pos b)) && int_le (pos 0) (pos a)) (int_le (neg_ℤ (pos b)) (pos 0) && int_lt (pos 0) (pos a)) (int_lt (neg_ℤ (pos b)) (pos 0) && int_le (pos a) (pos 0)) _ _ _ _ (not_up_test b _) (test a b some)
+    pick_second (int_lt (pos 0) (neg_ℤ (pos b)) && int_le (pos 0) (pos a))
+        (int_le (neg_ℤ (pos b)) (pos 0) && int_lt (pos 0) (pos a))
+        (int_lt (neg_ℤ (pos b)) (pos 0) && int_le (pos a) (pos 0)) _ _ _ _ (not_up_test b _) (test a b some)
     ∙ ap (λ t. 1099511627776 + part_of a t) (size_of_back b)
   where
     test : (a b : ℕ) → 0 < a → (int_le (neg_ℤ (pos b)) (pos 0) && int_lt (pos 0) (pos a)) ≡ true
@@ -181,9 +213,12 @@ second_place a b some =
 
 third_place : (a b : ℕ) → 0 < a → place_at (neg_ℤ (pos a)) (neg_ℤ (pos b)) ≡ 2199023255552 + part_of a b
 third_place a b some =
-    pick_third (int_lt (pos 0) (neg_ℤ (pos a)) && int_le (pos 0) (neg_ℤ (pos b))) (int_le (neg_ℤ (pos a)) (pos 0) && int_lt (pos 0) (neg_ℤ (pos b))) (int_lt (neg_ℤ (pos a)) (pos 0) && int_le (neg_ℤ (pos b)) (pos 0)) _ _ _ _
+    pick_third (int_lt (pos 0) (neg_ℤ (pos a)) && int_le (pos 0) (neg_ℤ (pos b)))
+        (int_le (neg_ℤ (pos a)) (pos 0) && int_lt (pos 0) (neg_ℤ (pos b)))
+        (int_lt (neg_ℤ (pos a)) (pos 0) && int_le (neg_ℤ (pos b)) (pos 0)) _ _ _ _
       (not_up_test a _) (middle (int_le (neg_ℤ (pos a)) (pos 0)) b) (test a b some)
-    ∙ ap (λ t. 2199023255552 + part_of t (unsigned_abs (neg_ℤ (pos b)))) (size_of_back a) ∙ ap (λ t. 2199023255552 + part_of a t) (size_of_back b)
+    ∙ ap (λ t. 2199023255552 + part_of t (unsigned_abs (neg_ℤ (pos b)))) (size_of_back a)
+        ∙ ap (λ t. 2199023255552 + part_of a t) (size_of_back b)
   where
     middle : (c : Bool) (b : ℕ) → (c && int_lt (pos 0) (neg_ℤ (pos b))) ≡ false
     middle c b = grind (arith, ints)
@@ -192,7 +227,9 @@ third_place a b some =
 
 fourth_place : (a b : ℕ) → 0 < a → place_at (pos b) (neg_ℤ (pos a)) ≡ 3298534883328 + part_of a b
 fourth_place a b some =
-    pick_fourth (int_lt (pos 0) (pos b) && int_le (pos 0) (neg_ℤ (pos a))) (int_le (pos b) (pos 0) && int_lt (pos 0) (neg_ℤ (pos a))) (int_lt (pos b) (pos 0) && int_le (neg_ℤ (pos a)) (pos 0)) _ _ _ _
+    pick_fourth (int_lt (pos 0) (pos b) && int_le (pos 0) (neg_ℤ (pos a)))
+        (int_le (pos b) (pos 0) && int_lt (pos 0) (neg_ℤ (pos a)))
+        (int_lt (pos b) (pos 0) && int_le (neg_ℤ (pos a)) (pos 0)) _ _ _ _
       (one (int_lt (pos 0) (pos b)) a some) (two (int_le (pos b) (pos 0)) a) (three b (int_le (neg_ℤ (pos a)) (pos 0)))
     ∙ ap (λ t. 3298534883328 + part_of t b) (size_of_back a)
   where
@@ -226,13 +263,15 @@ fourth_upper a b h = grind (arith, ints)
 abbrev cross_at : ℤ → ℤ → ℤ → ℤ → ℤ
 cross_at x y u v = x *ℤ v -ℤ y *ℤ u
 
-left_is : (d e : Point) (x y u v : ℤ) → d.x ≡ x → d.y ≡ y → e.x ≡ u → e.y ≡ v → turns_left d e ≡ int_lt (pos 0) (cross_at x y u v)
+left_is : (d e : Point) (x y u v : ℤ) → d.x ≡ x → d.y ≡ y → e.x ≡ u → e.y ≡ v → turns_left d e
+    ≡ int_lt (pos 0) (cross_at x y u v)
 left_is d e x y u v h k i j =
     ap (λ t. int_lt (pos 0) (cross_at t d.y e.x e.y)) h ∙ ap (λ t. int_lt (pos 0) (cross_at x t e.x e.y)) k
     ∙ ap (λ t. int_lt (pos 0) (cross_at x y t e.y)) i ∙ ap (λ t. int_lt (pos 0) (cross_at x y u t)) j
 
 less_by : (z : ℤ) (m n : ℕ) → z ≡ pos m -ℤ pos n → int_lt (pos 0) z ≡ nat_lt n m
-less_by z m n h = by_lt n m (λ lt. up z m n h lt ∙ sym (number_less_tested n m lt)) (λ le. down z m n h le ∙ sym (number_not_less n m le))
+less_by z m n h = by_lt n m (λ lt. up z m n h lt ∙ sym (number_less_tested n m lt))
+    (λ le. down z m n h le ∙ sym (number_not_less n m le))
   where
     up : (z : ℤ) (m n : ℕ) → z ≡ pos m -ℤ pos n → n < m → int_lt (pos 0) z ≡ true
     up z m n h k = grind (arith, ints)
@@ -243,97 +282,150 @@ first_cross : (a b c e : ℕ) → cross_at (pos a) (pos b) (pos c) (pos e) ≡ p
 first_cross a b c e = omega (arith, ints)
 
 second_cross : (a b c e : ℕ) → cross_at (neg_ℤ (pos b)) (pos a) (neg_ℤ (pos e)) (pos c) ≡ pos (e * a) -ℤ pos (b * c)
-second_cross a b c e = let f = neg_times (pos b) (pos c) in let g = times_neg (pos a) (pos e) in omega (arith, ints, f, g)
+second_cross a b c e = let f = neg_times (pos b) (pos c) in let g = times_neg (pos a) (pos e) in
+    omega (arith, ints, f, g)
 
-third_cross : (a b c e : ℕ) → cross_at (neg_ℤ (pos a)) (neg_ℤ (pos b)) (neg_ℤ (pos c)) (neg_ℤ (pos e)) ≡ pos (e * a) -ℤ pos (b * c)
+third_cross : (a b c e : ℕ) → cross_at (neg_ℤ (pos a)) (neg_ℤ (pos b)) (neg_ℤ (pos c)) (neg_ℤ (pos e))
+    ≡ pos (e * a) -ℤ pos (b * c)
 third_cross a b c e =
     let f = neg_times (pos a) (neg_ℤ (pos e)) in let g = times_neg (pos a) (pos e) in
     let h = neg_times (pos b) (neg_ℤ (pos c)) in let i = times_neg (pos b) (pos c) in omega (arith, ints, f, g, h, i)
 
 fourth_cross : (a b c e : ℕ) → cross_at (pos b) (neg_ℤ (pos a)) (pos e) (neg_ℤ (pos c)) ≡ pos (e * a) -ℤ pos (b * c)
-fourth_cross a b c e = let f = times_neg (pos b) (pos c) in let g = neg_times (pos a) (pos e) in omega (arith, ints, f, g)
+fourth_cross a b c e = let f = times_neg (pos b) (pos c) in let g = neg_times (pos a) (pos e) in
+    omega (arith, ints, f, g)
 
 -- a quarter turn on
 on_first : (a b c e : ℕ) → cross_at (pos a) (pos b) (neg_ℤ (pos e)) (pos c) ≡ pos (a * c + b * e) -ℤ pos 0
 on_first a b c e = let f = times_neg (pos b) (pos e) in omega (arith, ints, f)
 
-on_third : (a b c e : ℕ) → cross_at (neg_ℤ (pos a)) (neg_ℤ (pos b)) (pos e) (neg_ℤ (pos c)) ≡ pos (a * c + b * e) -ℤ pos 0
-on_third a b c e = let f = neg_times (pos a) (neg_ℤ (pos c)) in let g = times_neg (pos a) (pos c) in let h = neg_times (pos b) (pos e) in omega (arith, ints, f, g, h)
+on_third : (a b c e : ℕ) → cross_at (neg_ℤ (pos a)) (neg_ℤ (pos b)) (pos e) (neg_ℤ (pos c))
+    ≡ pos (a * c + b * e) -ℤ pos 0
+on_third a b c e = let f = neg_times (pos a) (neg_ℤ (pos c)) in let g = times_neg (pos a) (pos c) in
+    let h = neg_times (pos b) (pos e) in omega (arith, ints, f, g, h)
 
 off_second : (a b c e : ℕ) → cross_at (neg_ℤ (pos b)) (pos a) (pos c) (pos e) ≡ pos 0 -ℤ pos (b * e + a * c)
 off_second a b c e = let f = neg_times (pos b) (pos e) in omega (arith, ints, f)
 
-off_fourth : (a b c e : ℕ) → cross_at (pos b) (neg_ℤ (pos a)) (neg_ℤ (pos c)) (neg_ℤ (pos e)) ≡ pos 0 -ℤ pos (b * e + a * c)
-off_fourth a b c e = let f = times_neg (pos b) (pos e) in let g = neg_times (pos a) (neg_ℤ (pos c)) in let h = times_neg (pos a) (pos c) in omega (arith, ints, f, g, h)
+off_fourth : (a b c e : ℕ) → cross_at (pos b) (neg_ℤ (pos a)) (neg_ℤ (pos c)) (neg_ℤ (pos e))
+    ≡ pos 0 -ℤ pos (b * e + a * c)
+off_fourth a b c e = let f = times_neg (pos b) (pos e) in let g = neg_times (pos a) (neg_ℤ (pos c)) in
+    let h = times_neg (pos a) (pos c) in omega (arith, ints, f, g, h)
 
 some_product : (a b c e : ℕ) → 0 < a → 0 < c → nat_lt 0 (a * c + b * e) ≡ true
-some_product a b c e h k = number_less_tested 0 (a * c + b * e) (let g = le_times 1 a c (omega (arith, h)) in omega (arith, g, k))
+some_product a b c e h k = number_less_tested 0 (a * c + b * e)
+    (let g = le_times 1 a c (omega (arith, h)) in omega (arith, g, k))
 
 -- ---- together
 
-tells_by : (d e : Point) (u v l : Bool) (x y : ℕ) → is_upper d ≡ u → is_upper e ≡ v → turns_left d e ≡ l → place_of d ≡ x → place_of e ≡ y → turns_by u v l ≡ nat_lt x y → turns_before d e ≡ nat_lt (place_of d) (place_of e)
+tells_by : (d e : Point) (u v l : Bool) (x y : ℕ) → is_upper d ≡ u → is_upper e ≡ v → turns_left d e ≡ l → place_of d
+    ≡ x → place_of e ≡ y → turns_by u v l ≡ nat_lt x y → turns_before d e ≡ nat_lt (place_of d) (place_of e)
 unfolding turns_before
 tells_by d e u v l x y hu hv hl hx hy h =
-    ap (λ t. turns_by t (is_upper e) (turns_left d e)) hu ∙ ap (λ t. turns_by u t (turns_left d e)) hv ∙ ap (turns_by u v) hl ∙ h
+    ap (λ t. turns_by t (is_upper e) (turns_left d e)) hu ∙ ap (λ t. turns_by u t (turns_left d e)) hv
+        ∙ ap (turns_by u v) hl ∙ h
     ∙ sym (ap (λ t. nat_lt t (place_of e)) hx ∙ ap (nat_lt x) hy)
 
 shifted : (q m n : ℕ) → nat_lt (q + m) (q + n) ≡ nat_lt m n
-shifted q m n = by_lt m n (λ lt. number_less_tested (q + m) (q + n) (omega (arith, lt)) ∙ sym (number_less_tested m n lt)) (λ le. number_not_less (q + m) (q + n) (omega (arith, le)) ∙ sym (number_not_less m n le))
+shifted q m n = by_lt m n (λ lt. number_less_tested (q + m) (q + n) (omega (arith, lt))
+    ∙ sym (number_less_tested m n lt)) (λ le. number_not_less (q + m) (q + n) (omega (arith, le))
+    ∙ sym (number_not_less m n le))
 
 tells : (d e : Point) → Quarter d → Quarter e → turns_before d e ≡ nat_lt (place_of d) (place_of e)
 tells d e (first a b s h k) (first c f t i j) =
-    tells_by d e true true (nat_lt (b * c) (f * a)) (part_of a b) (part_of c f) (upper_is d _ _ h k ∙ first_upper a b s.some) (upper_is e _ _ i j ∙ first_upper c f t.some)
-      (left_is d e _ _ _ _ h k i j ∙ less_by _ (f * a) (b * c) (first_cross a b c f)) (place_is d _ _ h k ∙ first_place a b s.some) (place_is e _ _ i j ∙ first_place c f t.some) (sym (part_tells a b c f s t))
+    tells_by d e true true (nat_lt (b * c) (f * a)) (part_of a b) (part_of c f)
+        (upper_is d _ _ h k ∙ first_upper a b s.some) (upper_is e _ _ i j ∙ first_upper c f t.some)
+      (left_is d e _ _ _ _ h k i j ∙ less_by _ (f * a) (b * c) (first_cross a b c f))
+          (place_is d _ _ h k ∙ first_place a b s.some) (place_is e _ _ i j ∙ first_place c f t.some)
+          (sym (part_tells a b c f s t))
 tells d e (second a b s h k) (second c f t i j) =
-    tells_by d e true true (nat_lt (b * c) (f * a)) (1099511627776 + part_of a b) (1099511627776 + part_of c f) (upper_is d _ _ h k ∙ second_upper a b s.some) (upper_is e _ _ i j ∙ second_upper c f t.some)
-      (left_is d e _ _ _ _ h k i j ∙ less_by _ (f * a) (b * c) (second_cross a b c f)) (place_is d _ _ h k ∙ second_place a b s.some) (place_is e _ _ i j ∙ second_place c f t.some) (sym (shifted 1099511627776 (part_of a b) (part_of c f) ∙ part_tells a b c f s t))
+    tells_by d e true true (nat_lt (b * c) (f * a)) (1099511627776 + part_of a b) (1099511627776 + part_of c f)
+        (upper_is d _ _ h k ∙ second_upper a b s.some) (upper_is e _ _ i j ∙ second_upper c f t.some)
+      (left_is d e _ _ _ _ h k i j ∙ less_by _ (f * a) (b * c) (second_cross a b c f))
+          (place_is d _ _ h k ∙ second_place a b s.some) (place_is e _ _ i j ∙ second_place c f t.some)
+          (sym (shifted 1099511627776 (part_of a b) (part_of c f) ∙ part_tells a b c f s t))
 tells d e (third a b s h k) (third c f t i j) =
-    tells_by d e false false (nat_lt (b * c) (f * a)) (2199023255552 + part_of a b) (2199023255552 + part_of c f) (upper_is d _ _ h k ∙ third_upper a b s.some) (upper_is e _ _ i j ∙ third_upper c f t.some)
-      (left_is d e _ _ _ _ h k i j ∙ less_by _ (f * a) (b * c) (third_cross a b c f)) (place_is d _ _ h k ∙ third_place a b s.some) (place_is e _ _ i j ∙ third_place c f t.some) (sym (shifted 2199023255552 (part_of a b) (part_of c f) ∙ part_tells a b c f s t))
+    tells_by d e false false (nat_lt (b * c) (f * a)) (2199023255552 + part_of a b) (2199023255552 + part_of c f)
+        (upper_is d _ _ h k ∙ third_upper a b s.some) (upper_is e _ _ i j ∙ third_upper c f t.some)
+      (left_is d e _ _ _ _ h k i j ∙ less_by _ (f * a) (b * c) (third_cross a b c f))
+          (place_is d _ _ h k ∙ third_place a b s.some) (place_is e _ _ i j ∙ third_place c f t.some)
+          (sym (shifted 2199023255552 (part_of a b) (part_of c f) ∙ part_tells a b c f s t))
 tells d e (fourth a b s h k) (fourth c f t i j) =
-    tells_by d e false false (nat_lt (b * c) (f * a)) (3298534883328 + part_of a b) (3298534883328 + part_of c f) (upper_is d _ _ h k ∙ fourth_upper a b s.some) (upper_is e _ _ i j ∙ fourth_upper c f t.some)
-      (left_is d e _ _ _ _ h k i j ∙ less_by _ (f * a) (b * c) (fourth_cross a b c f)) (place_is d _ _ h k ∙ fourth_place a b s.some) (place_is e _ _ i j ∙ fourth_place c f t.some) (sym (shifted 3298534883328 (part_of a b) (part_of c f) ∙ part_tells a b c f s t))
+    tells_by d e false false (nat_lt (b * c) (f * a)) (3298534883328 + part_of a b) (3298534883328 + part_of c f)
+        (upper_is d _ _ h k ∙ fourth_upper a b s.some) (upper_is e _ _ i j ∙ fourth_upper c f t.some)
+      (left_is d e _ _ _ _ h k i j ∙ less_by _ (f * a) (b * c) (fourth_cross a b c f))
+          (place_is d _ _ h k ∙ fourth_place a b s.some) (place_is e _ _ i j ∙ fourth_place c f t.some)
+          (sym (shifted 3298534883328 (part_of a b) (part_of c f) ∙ part_tells a b c f s t))
 tells d e (first a b s h k) (second c f t i j) =
-    tells_by d e true true true (part_of a b) (1099511627776 + part_of c f) (upper_is d _ _ h k ∙ first_upper a b s.some) (upper_is e _ _ i j ∙ second_upper c f t.some)
-      (left_is d e _ _ _ _ h k i j ∙ less_by _ (a * c + b * f) 0 (on_first a b c f) ∙ some_product a b c f s.some t.some) (place_is d _ _ h k ∙ first_place a b s.some) (place_is e _ _ i j ∙ second_place c f t.some)
+    tells_by d e true true true (part_of a b) (1099511627776 + part_of c f)
+        (upper_is d _ _ h k ∙ first_upper a b s.some) (upper_is e _ _ i j ∙ second_upper c f t.some)
+      (left_is d e _ _ _ _ h k i j ∙ less_by _ (a * c + b * f) 0 (on_first a b c f)
+          ∙ some_product a b c f s.some t.some) (place_is d _ _ h k ∙ first_place a b s.some)
+          (place_is e _ _ i j ∙ second_place c f t.some)
       (sym (number_less_tested _ _ (let g = part_below a b s in omega (arith, g))))
 tells d e (second a b s h k) (first c f t i j) =
-    tells_by d e true true false (1099511627776 + part_of a b) (part_of c f) (upper_is d _ _ h k ∙ second_upper a b s.some) (upper_is e _ _ i j ∙ first_upper c f t.some)
-      (left_is d e _ _ _ _ h k i j ∙ less_by _ 0 (b * f + a * c) (off_second a b c f) ∙ number_not_less (b * f + a * c) 0 (omega arith)) (place_is d _ _ h k ∙ second_place a b s.some) (place_is e _ _ i j ∙ first_place c f t.some)
+    tells_by d e true true false (1099511627776 + part_of a b) (part_of c f)
+        (upper_is d _ _ h k ∙ second_upper a b s.some) (upper_is e _ _ i j ∙ first_upper c f t.some)
+      (left_is d e _ _ _ _ h k i j ∙ less_by _ 0 (b * f + a * c) (off_second a b c f)
+          ∙ number_not_less (b * f + a * c) 0 (omega arith)) (place_is d _ _ h k ∙ second_place a b s.some)
+          (place_is e _ _ i j ∙ first_place c f t.some)
       (sym (number_not_less _ _ (let g = part_below c f t in omega (arith, g))))
 tells d e (third a b s h k) (fourth c f t i j) =
-    tells_by d e false false true (2199023255552 + part_of a b) (3298534883328 + part_of c f) (upper_is d _ _ h k ∙ third_upper a b s.some) (upper_is e _ _ i j ∙ fourth_upper c f t.some)
-      (left_is d e _ _ _ _ h k i j ∙ less_by _ (a * c + b * f) 0 (on_third a b c f) ∙ some_product a b c f s.some t.some) (place_is d _ _ h k ∙ third_place a b s.some) (place_is e _ _ i j ∙ fourth_place c f t.some)
+    tells_by d e false false true (2199023255552 + part_of a b) (3298534883328 + part_of c f)
+        (upper_is d _ _ h k ∙ third_upper a b s.some) (upper_is e _ _ i j ∙ fourth_upper c f t.some)
+      (left_is d e _ _ _ _ h k i j ∙ less_by _ (a * c + b * f) 0 (on_third a b c f)
+          ∙ some_product a b c f s.some t.some) (place_is d _ _ h k ∙ third_place a b s.some)
+          (place_is e _ _ i j ∙ fourth_place c f t.some)
       (sym (number_less_tested _ _ (let g = part_below a b s in omega (arith, g))))
 tells d e (fourth a b s h k) (third c f t i j) =
-    tells_by d e false false false (3298534883328 + part_of a b) (2199023255552 + part_of c f) (upper_is d _ _ h k ∙ fourth_upper a b s.some) (upper_is e _ _ i j ∙ third_upper c f t.some)
-      (left_is d e _ _ _ _ h k i j ∙ less_by _ 0 (b * f + a * c) (off_fourth a b c f) ∙ number_not_less (b * f + a * c) 0 (omega arith)) (place_is d _ _ h k ∙ fourth_place a b s.some) (place_is e _ _ i j ∙ third_place c f t.some)
+    tells_by d e false false false (3298534883328 + part_of a b) (2199023255552 + part_of c f)
+        (upper_is d _ _ h k ∙ fourth_upper a b s.some) (upper_is e _ _ i j ∙ third_upper c f t.some)
+      (left_is d e _ _ _ _ h k i j ∙ less_by _ 0 (b * f + a * c) (off_fourth a b c f)
+          ∙ number_not_less (b * f + a * c) 0 (omega arith)) (place_is d _ _ h k ∙ fourth_place a b s.some)
+          (place_is e _ _ i j ∙ third_place c f t.some)
       (sym (number_not_less _ _ (let g = part_below c f t in omega (arith, g))))
 tells d e (first a b s h k) (third c f t i j) =
-    tells_by d e true false (turns_left d e) (part_of a b) (2199023255552 + part_of c f) (upper_is d _ _ h k ∙ first_upper a b s.some) (upper_is e _ _ i j ∙ third_upper c f t.some) refl
-      (place_is d _ _ h k ∙ first_place a b s.some) (place_is e _ _ i j ∙ third_place c f t.some) (sym (number_less_tested _ _ (let g = part_below a b s in omega (arith, g))))
+    tells_by d e true false (turns_left d e) (part_of a b) (2199023255552 + part_of c f)
+        (upper_is d _ _ h k ∙ first_upper a b s.some) (upper_is e _ _ i j ∙ third_upper c f t.some) refl
+      (place_is d _ _ h k ∙ first_place a b s.some) (place_is e _ _ i j ∙ third_place c f t.some)
+          (sym (number_less_tested _ _ (let g = part_below a b s in omega (arith, g))))
 tells d e (third a b s h k) (first c f t i j) =
-    tells_by d e false true (turns_left d e) (2199023255552 + part_of a b) (part_of c f) (upper_is d _ _ h k ∙ third_upper a b s.some) (upper_is e _ _ i j ∙ first_upper c f t.some) refl
-      (place_is d _ _ h k ∙ third_place a b s.some) (place_is e _ _ i j ∙ first_place c f t.some) (sym (number_not_less _ _ (let g = part_below c f t in omega (arith, g))))
+    tells_by d e false true (turns_left d e) (2199023255552 + part_of a b) (part_of c f)
+        (upper_is d _ _ h k ∙ third_upper a b s.some) (upper_is e _ _ i j ∙ first_upper c f t.some) refl
+      (place_is d _ _ h k ∙ third_place a b s.some) (place_is e _ _ i j ∙ first_place c f t.some)
+          (sym (number_not_less _ _ (let g = part_below c f t in omega (arith, g))))
 tells d e (first a b s h k) (fourth c f t i j) =
-    tells_by d e true false (turns_left d e) (part_of a b) (3298534883328 + part_of c f) (upper_is d _ _ h k ∙ first_upper a b s.some) (upper_is e _ _ i j ∙ fourth_upper c f t.some) refl
-      (place_is d _ _ h k ∙ first_place a b s.some) (place_is e _ _ i j ∙ fourth_place c f t.some) (sym (number_less_tested _ _ (let g = part_below a b s in omega (arith, g))))
+    tells_by d e true false (turns_left d e) (part_of a b) (3298534883328 + part_of c f)
+        (upper_is d _ _ h k ∙ first_upper a b s.some) (upper_is e _ _ i j ∙ fourth_upper c f t.some) refl
+      (place_is d _ _ h k ∙ first_place a b s.some) (place_is e _ _ i j ∙ fourth_place c f t.some)
+          (sym (number_less_tested _ _ (let g = part_below a b s in omega (arith, g))))
 tells d e (fourth a b s h k) (first c f t i j) =
-    tells_by d e false true (turns_left d e) (3298534883328 + part_of a b) (part_of c f) (upper_is d _ _ h k ∙ fourth_upper a b s.some) (upper_is e _ _ i j ∙ first_upper c f t.some) refl
-      (place_is d _ _ h k ∙ fourth_place a b s.some) (place_is e _ _ i j ∙ first_place c f t.some) (sym (number_not_less _ _ (let g = part_below c f t in omega (arith, g))))
+    tells_by d e false true (turns_left d e) (3298534883328 + part_of a b) (part_of c f)
+        (upper_is d _ _ h k ∙ fourth_upper a b s.some) (upper_is e _ _ i j ∙ first_upper c f t.some) refl
+      (place_is d _ _ h k ∙ fourth_place a b s.some) (place_is e _ _ i j ∙ first_place c f t.some)
+          (sym (number_not_less _ _ (let g = part_below c f t in omega (arith, g))))
 tells d e (second a b s h k) (third c f t i j) =
-    tells_by d e true false (turns_left d e) (1099511627776 + part_of a b) (2199023255552 + part_of c f) (upper_is d _ _ h k ∙ second_upper a b s.some) (upper_is e _ _ i j ∙ third_upper c f t.some) refl
-      (place_is d _ _ h k ∙ second_place a b s.some) (place_is e _ _ i j ∙ third_place c f t.some) (sym (number_less_tested _ _ (let g = part_below a b s in omega (arith, g))))
+    tells_by d e true false (turns_left d e) (1099511627776 + part_of a b) (2199023255552 + part_of c f)
+        (upper_is d _ _ h k ∙ second_upper a b s.some) (upper_is e _ _ i j ∙ third_upper c f t.some) refl
+      (place_is d _ _ h k ∙ second_place a b s.some) (place_is e _ _ i j ∙ third_place c f t.some)
+          (sym (number_less_tested _ _ (let g = part_below a b s in omega (arith, g))))
 tells d e (third a b s h k) (second c f t i j) =
-    tells_by d e false true (turns_left d e) (2199023255552 + part_of a b) (1099511627776 + part_of c f) (upper_is d _ _ h k ∙ third_upper a b s.some) (upper_is e _ _ i j ∙ second_upper c f t.some) refl
-      (place_is d _ _ h k ∙ third_place a b s.some) (place_is e _ _ i j ∙ second_place c f t.some) (sym (number_not_less _ _ (let g = part_below c f t in omega (arith, g))))
+    tells_by d e false true (turns_left d e) (2199023255552 + part_of a b) (1099511627776 + part_of c f)
+        (upper_is d _ _ h k ∙ third_upper a b s.some) (upper_is e _ _ i j ∙ second_upper c f t.some) refl
+      (place_is d _ _ h k ∙ third_place a b s.some) (place_is e _ _ i j ∙ second_place c f t.some)
+          (sym (number_not_less _ _ (let g = part_below c f t in omega (arith, g))))
 tells d e (second a b s h k) (fourth c f t i j) =
-    tells_by d e true false (turns_left d e) (1099511627776 + part_of a b) (3298534883328 + part_of c f) (upper_is d _ _ h k ∙ second_upper a b s.some) (upper_is e _ _ i j ∙ fourth_upper c f t.some) refl
-      (place_is d _ _ h k ∙ second_place a b s.some) (place_is e _ _ i j ∙ fourth_place c f t.some) (sym (number_less_tested _ _ (let g = part_below a b s in omega (arith, g))))
+    tells_by d e true false (turns_left d e) (1099511627776 + part_of a b) (3298534883328 + part_of c f)
+        (upper_is d _ _ h k ∙ second_upper a b s.some) (upper_is e _ _ i j ∙ fourth_upper c f t.some) refl
+      (place_is d _ _ h k ∙ second_place a b s.some) (place_is e _ _ i j ∙ fourth_place c f t.some)
+          (sym (number_less_tested _ _ (let g = part_below a b s in omega (arith, g))))
 tells d e (fourth a b s h k) (second c f t i j) =
-    tells_by d e false true (turns_left d e) (3298534883328 + part_of a b) (1099511627776 + part_of c f) (upper_is d _ _ h k ∙ fourth_upper a b s.some) (upper_is e _ _ i j ∙ second_upper c f t.some) refl
-      (place_is d _ _ h k ∙ fourth_place a b s.some) (place_is e _ _ i j ∙ second_place c f t.some) (sym (number_not_less _ _ (let g = part_below c f t in omega (arith, g))))
+    tells_by d e false true (turns_left d e) (3298534883328 + part_of a b) (1099511627776 + part_of c f)
+        (upper_is d _ _ h k ∙ fourth_upper a b s.some) (upper_is e _ _ i j ∙ second_upper c f t.some) refl
+      (place_is d _ _ h k ∙ fourth_place a b s.some) (place_is e _ _ i j ∙ second_place c f t.some)
+          (sym (number_not_less _ _ (let g = part_below c f t in omega (arith, g))))
 
 -- a direction comes before another exactly where its place is smaller
-pub place_tells : (d e : Point) → IsDirection d → IsDirected d → IsDirection e → IsDirected e → turns_before d e ≡ nat_lt (place_of d) (place_of e)
+pub place_tells : (d e : Point) → IsDirection d → IsDirected d → IsDirection e → IsDirected e → turns_before d e
+    ≡ nat_lt (place_of d) (place_of e)
 place_tells d e d_in d_some e_in e_some = tells d e (quarter_of d d_in d_some) (quarter_of e e_in e_some)

@@ -28,7 +28,8 @@ wraps_by false false l h k f = absurd (clash_back l h k)
 
 pub wraps_of : (w : Seen) → pos 0 <ℤ cross_of w.from w.to → turns_before w.from w.to ≡ false → Wraps w
 unfolding turns_before
-wraps_of w up h = wraps_by (is_upper w.from) (is_upper w.to) (int_lt (pos 0) (cross_of w.from w.to)) h (positive_tested _ up) (λ from to. record { from = from; to = to })
+wraps_of w up h = wraps_by (is_upper w.from) (is_upper w.to) (int_lt (pos 0) (cross_of w.from w.to)) h
+    (positive_tested _ up) (λ from to. record { from = from; to = to })
 
 -- much of a whole number above 0 outweighs what is less
 outweighs : (n x y : ℤ) → pos 0 <ℤ y → neg_ℤ n <ℤ x → x <ℤ n → pos 0 <ℤ (n *ℤ y +ℤ x)
@@ -60,5 +61,7 @@ pub spans_at_start : (n : ℤ) (w : Seen) → IsDirected w.from → Wraps w
 spans_at_start n w from_some h a b c e =
     both_true (int_lt (pos 0) (cross_of w.from (just_before n))) (int_lt (pos 0) (cross_of (just_before n) w.to))
       (positive_tested _ (subst (λ t. pos 0 <ℤ t) (before_start n w.from.x w.from.y)
-        (to_part n (neg_ℤ w.from.x) (neg_ℤ w.from.y) (lower_is w.from from_some h.from) (omega (arith, ints, b)) (omega (arith, ints, a)))))
-      (positive_tested _ (subst (λ t. pos 0 <ℤ t) (after_start n w.to.x w.to.y) (to_part n w.to.x w.to.y (upper_is w.to h.to) c e)))
+        (to_part n (neg_ℤ w.from.x) (neg_ℤ w.from.y) (lower_is w.from from_some h.from) (omega (arith, ints, b))
+            (omega (arith, ints, a)))))
+      (positive_tested _ (subst (λ t. pos 0 <ℤ t) (after_start n w.to.x w.to.y)
+          (to_part n w.to.x w.to.y (upper_is w.to h.to) c e)))

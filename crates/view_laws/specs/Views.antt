@@ -2,14 +2,15 @@
 use Rattle.std.proofs.Common.{◌≡◌, ℕ, ◌+◌, ℤ, pos, ◌+ℤ◌, ◌<ℤ◌, get_or}
 use Rattle.std.specs.Option.{option_map}
 use Rattle.std.specs.Ordering.{int_eq}
-use Rattle.std.specs.Prelude.{ℕ, ◌+◌, ◌<◌, ◌==◌, ℤ, ◌+ℤ◌, ◌≡◌, if◌then◌else◌, ◌&&◌, ◌||◌, [], ◌∷◌, Bool, true, not, All, unsigned_abs, nat_lt, pos, int_lt, List, length, Option, false, Some, None, AllPairs}
+use Rattle.std.specs.Prelude.{ℕ, ◌+◌, ◌<◌, ◌==◌, ℤ, ◌+ℤ◌, ◌≡◌, if◌then◌else◌, ◌&&◌, ◌||◌, [], ◌∷◌, Bool, true, not, All}
+use Rattle.std.specs.Prelude.{unsigned_abs, nat_lt, pos, int_lt, List, length, Option, false, Some, None, AllPairs}
 use Rattle.plane_spec.specs.Cones.{is_in_cone}
 use Rattle.plane_spec.specs.Fractions.{Fraction}
 use Rattle.plane_spec.specs.Vectors.{cross_of, dot_of, is_upper, turns_left, point, vector, IsDirection, IsDirected}
 use Rattle.plane_spec.specs.declared.Point.{Point}
 use Rattle.plane_spec.specs.declared.Segment.{Segment}
 use Rattle.sight_spec.specs.Scene.{Scene}
-use Rattle.front_laws.specs.Seen.{Seen, side_of}
+use Rattle.front_laws.specs.Seen.{Seen, side_of, nowhere}
 use Rattle.sweep_laws.specs.First.{IsFirst}
 use Rattle.sweep_laws.specs.Groups.{no_corner, is_ahead, is_behind}
 use Rattle.sweep_laws.specs.Parts.{begins_blocked, nearer_hit, start_stop}
@@ -22,6 +23,7 @@ use Rattle.view_laws.specs.declared.view.View.{View}
 use Rattle.view_laws.specs.declared.view.Arc.TheVariants as arcs
 use Rattle.plane_spec.specs.declared.Corner as corners
 use Rattle.view_laws.specs.declared.view.Ground.TheVariants as grounds
+use Rattle.sweep_laws.specs.Parts.{hides_itself}
 
 -- ---- arcs
 
@@ -31,32 +33,30 @@ is_in_arc arcs.All d = true
 is_in_arc arcs.Later d = is_upper d
 is_in_arc (arcs.Between first last) d = is_upper d && (not (turns_left d first) && not (turns_left last d))
 
--- ---- what is told of one direction
+-- ---- one direction
 
 -- how far a vector leads, in the sum of both coordinates
 abbrev pub length_of : Point → ℕ
 length_of d = unsigned_abs d.x + unsigned_abs d.y
 
--- the wall of the number has the station on its left
-abbrev pub hides_at : Point → List Segment → ℕ → Bool
-hides_at p walls k = nat_lt k (length walls) && int_lt (pos 0) (cross_of (vector p (get_or walls k (record { a = point (pos 0) (pos 0); b = point (pos 0) (pos 0) })).a) (vector p (get_or walls k (record { a = point (pos 0) (pos 0); b = point (pos 0) (pos 0) })).b))
-
--- a blocker that is seen first, as it is told
+-- what is first, as far as sides and hits need it
 abbrev pub front_of : Scene → Point → ℕ × Seen → Front
 front_of scene p first = record {
   edge = vector first.1.from first.1.to;
   spread = cross_of first.1.from first.1.to;
   number = first.0;
-  hides = hides_at p scene.walls first.0;
+  hides = hides_itself p scene.walls first.0;
 }
 
--- what is seen first, and how far off the nearest corners are that are led into, on the way out and on the way back
-pub record Told : Type 0 where
+-- what a view says of one direction: what is first, and how far off the nearest corners are that are led into, on the
+-- way
+-- out and on the way back
+pub record Radial : Type 0 where
   pub front : Option Front
   pub ahead : Option ℕ
   pub behind : Option ℕ
 
--- strictly behind the line of what is seen first
+-- strictly behind the line of what is first
 abbrev pub is_past_first : Option (ℕ × Seen) → Point → Bool
 is_past_first None v = false
 is_past_first (Some first) v = int_lt (side_of first.1 v) (pos 0)
@@ -68,6 +68,7 @@ pub record IsSoFar (p : Point) (test : corners.Corner → Bool) (corners : List 
   pub passes : test (get_or corners at no_corner) ≡ true
   pub far_is : length_of (vector p (get_or corners at no_corner).here) ≡ far
 
+-- the same, where there is a distance
 abbrev pub IsSoFarOrNone : Point → (corners.Corner → Bool) → List corners.Corner → Option ℕ → Type 0
 IsSoFarOrNone p test corners None = true ≡ true
 IsSoFarOrNone p test corners (Some far) = IsSoFar p test corners far
@@ -77,45 +78,49 @@ abbrev pub is_from : Option ℕ → Point → Bool
 is_from None v = false
 is_from (Some far) v = not (nat_lt (length_of v) far)
 
--- what is told of corners is so of one of them, and each that passes the test is no nearer, or behind what is seen first
-pub record IsReached (p : Point) (test : corners.Corner → Bool) (corners : List corners.Corner) (first : Option (ℕ × Seen)) (told : Option ℕ) : Type 0 where
-  pub some : IsSoFarOrNone p test corners told
+-- the distance is that of a corner which passes the test, and each that does is no nearer, or behind what is first
+pub record IsReached (p : Point) (test : corners.Corner → Bool) (corners : List corners.Corner)
+    (first : Option (ℕ × Seen)) (far : Option ℕ) : Type 0 where
+  pub some : IsSoFarOrNone p test corners far
   pub all : (j : ℕ) → j < length corners → test (get_or corners j no_corner) ≡ true
-      → (is_from told (vector p (get_or corners j no_corner).here) || is_past_first first (vector p (get_or corners j no_corner).here)) ≡ true
+      → (is_from far (vector p (get_or corners j no_corner).here)
+          || is_past_first first (vector p (get_or corners j no_corner).here)) ≡ true
 
--- what is told of direction d is so
-pub record IsTold (scene : Scene) (p d : Point) (told : Told) : Type 0 where
+-- what is said of direction d is so
+pub record IsRadial (scene : Scene) (p d : Point) (radial : Radial) : Type 0 where
   pub first : Option (ℕ × Seen)
   pub is_first : IsFirst scene p d first
-  pub front : told.front ≡ option_map (front_of scene p) first
-  pub ahead : IsReached p (is_ahead p d) scene.corners first told.ahead
-  pub behind : IsReached p (is_behind p d) scene.corners first told.behind
+  pub front : radial.front ≡ option_map (front_of scene p) first
+  pub ahead : IsReached p (is_ahead p d) scene.corners first radial.ahead
+  pub behind : IsReached p (is_behind p d) scene.corners first radial.behind
 
 -- ---- views
 
--- only what is seen first
-abbrev pub told_first : Option Front → Told
-told_first front = record { front = front; ahead = None; behind = None }
+-- between two sectors: only what is first
+abbrev pub radial_between : Option Front → Radial
+radial_between front = record { front = front; ahead = None; behind = None }
 
--- what is told in a sector's own direction
-abbrev pub told_on : Sector → Told
-told_on s = record { front = s.on; ahead = s.ahead; behind = s.behind }
+-- in a sector's own direction
+abbrev pub radial_on : Sector → Radial
+radial_on s = record { front = s.on; ahead = s.ahead; behind = s.behind }
 
--- at the place of a sector that is what it tells of its direction; from there up to the next it is what is seen first after it
-unfoldable pub told_by : Option Front → List Sector → ℕ → Told
-told_by before [] place = told_first before
-told_by before (s ∷ rest) place = if nat_lt place s.place then told_first before else (if place == s.place then told_on s else told_by s.after rest place)
+-- at the place of a sector, what it says of its direction; from there up to the next, what is first after it
+unfoldable pub radial_by : Option Front → List Sector → ℕ → Radial
+radial_by before [] place = radial_between before
+radial_by before (s ∷ rest) place = if nat_lt place s.place then radial_between before
+    else (if place == s.place then radial_on s else radial_by s.after rest place)
 
+-- the sectors come in the order of their places
 abbrev pub AreInOrder : List Sector → Type 0
 AreInOrder sectors = AllPairs (λ s t. s.place < t.place) sectors
 
--- what the sector tells of a place that is its own, or comes before the next sector's
-abbrev pub told_at : Sector → ℕ → Told
-told_at s place = if place == s.place then told_on s else told_first s.after
+-- what the sector says of a place that is its own, or comes before the next sector's
+abbrev pub radial_at : Sector → ℕ → Radial
+radial_at s place = if place == s.place then radial_on s else radial_between s.after
 
--- what the view tells of direction d
-abbrev pub told_of : View → Point → Told
-told_of view d = told_by view.before view.sectors.items (place_of d)
+-- what the view says of direction d
+abbrev pub radial_of : View → Point → Radial
+radial_of view d = radial_by view.before view.sectors.items (place_of d)
 
 -- the direction leads from what the station stands on into what is blocked
 unfoldable pub is_led_into : Ground → Point → Bool
@@ -123,11 +128,13 @@ is_led_into grounds.Free d = false
 is_led_into (grounds.Corner c) d = is_in_cone c d
 is_led_into (grounds.Wall w) d = turns_left (vector w.a w.b) d
 
--- the view from p in the directions of the arc: at a sector's direction the first is `on`, between two sectors it is the
--- former's `after`, and a corner that isn't told is behind the first
+-- the view from p in the directions of the arc: in a sector's direction the first is `on`, between two sectors it is
+-- the
+-- former's `after`, and a corner in a direction without a sector is behind the first
 pub record IsViewOf (scene : Scene) (p : Point) (arc : Arc) (view : View) : Type 0 where
   pub ground : (d : Point) → IsDirection d → IsDirected d → begins_blocked scene p d ≡ is_led_into view.ground d
-  pub tells : (d : Point) → IsDirection d → IsDirected d → is_in_arc arc d ≡ true → IsTold scene p d (told_of view d)
+  pub tells : (d : Point) → IsDirection d → IsDirected d → is_in_arc arc d ≡ true
+      → IsRadial scene p d (radial_of view d)
   pub order : AreInOrder view.sectors.items
   pub ways : All (λ s. place_of s.way ≡ s.place) view.sectors.items
 
@@ -142,30 +149,36 @@ abbrev pub is_hidden_by : Option Front → Point → Bool
 is_hidden_by None d = false
 is_hidden_by (Some f) d = int_lt (side_at f d) (pos 0) || (int_eq (side_at f d) (pos 0) && f.hides)
 
+-- the distance is less than that of a point at d
 abbrev pub is_before_end_of : Option ℕ → Point → Bool
 is_before_end_of None d = false
 is_before_end_of (Some far) d = nat_lt far (length_of d)
 
+-- the distance is at most that of a point at d
 abbrev pub is_up_to_end_of : Option ℕ → Point → Bool
 is_up_to_end_of None d = false
 is_up_to_end_of (Some far) d = not (nat_lt (length_of d) far)
 
--- the point at d is seen
-unfoldable pub is_seen_by : Bool → Told → Point → Bool
-is_seen_by begins told d = not (begins || (is_hidden_by told.front d || (is_before_end_of told.ahead d || is_up_to_end_of told.behind d)))
+-- the point at d is seen, by what is said of its direction
+unfoldable pub is_seen_by : Bool → Radial → Point → Bool
+is_seen_by begins radial d = not (begins || (is_hidden_by radial.front d
+    || (is_before_end_of radial.ahead d || is_up_to_end_of radial.behind d)))
 
+-- where the ray meets what is first
 abbrev pub hit_by : Point → Option Front → Option Fraction
 hit_by d None = None
 hit_by d (Some f) = Some (record { num = f.spread; den = cross_of d f.edge })
 
+-- where it reaches a corner so far off
 abbrev pub corner_by : Point → Option ℕ → Option Fraction
 corner_by d None = None
 corner_by d (Some far) = Some (record { num = pos far; den = pos (length_of d) })
 
 -- where the ray in direction d is stopped
-unfoldable pub stop_by : Bool → Told → Point → Option Fraction
-stop_by begins told d = nearer_hit (hit_by d told.front) (nearer_hit (corner_by d told.ahead) (start_stop begins))
+unfoldable pub stop_by : Bool → Radial → Point → Option Fraction
+stop_by begins radial d = nearer_hit (hit_by d radial.front) (nearer_hit (corner_by d radial.ahead) (start_stop begins))
 
+-- the number of what is first
 abbrev pub number_by : Option Front → Option ℕ
 number_by None = None
 number_by (Some f) = Some f.number
