@@ -218,7 +218,7 @@ turn_ends a b q p up line = record {
       (cross_of_exchanged (vector p q) (vector p b)) (sym (orient_is_side a b q p) ∙ line);
 }
 
--- the same with the ends told the other way round, for the second end
+-- the same with the ends the other way round, for the second end
 past_second : (a b q p : Point) → OnLine a b q p → is_on_segment q a b ≡ true → same_point q b ≡ false
     → pos 0 <ℤ cross_of (vector p q) (vector p b)
 unfolding is_on_segment

@@ -1,4 +1,11 @@
--- The walls and screens of an accepted plan are apart wherever one direction spans both.
+-- The walls and screens of a sound plan are apart wherever one direction spans both.
+--
+-- A plan is sound where no edge of one polygon or screen touches one of another, and no two edges of one polygon do but
+-- those that follow each other, which share a corner and no more. So each two of all its edges stand beside each other
+-- (`plan_stands`): the edges of the outer polygon, of each obstacle, of different obstacles, and the screens. The scene
+-- directs some polygons the other way round, but an edge looks the same from its other end (`seen_turned`), so the i-th
+-- wall or screen is seen as the i-th edge. And edges that stand beside each other are apart where one direction spans
+-- both (`Standing`).
 use Rattle.std.proofs.Common.{◌≡◌, ℤ, ℕ, ◌<◌, neg_ℤ, ◌∙◌, [], ◌∷◌, ◌++◌, List, refl, length, sym, arith, pos, ap, zero}
 use Rattle.std.proofs.Common.{suc, get_or, subst}
 use Rattle.std.proofs.lemmas.Bool.{and_parts, and_from}

@@ -1,4 +1,9 @@
--- No wall or screen of a sound plan that a corner's direction spans passes through the corner.
+-- In a sound plan no wall or screen passes through an end of another whose direction spans it.
+--
+-- Where the direction from the station to a corner spans a wall s, and the corner is on the line of s, the corner lies
+-- on s, and at neither of its ends (`passes_at`). But an edge that stands beside s has no end in the interior of s: they
+-- don't touch, or they share an end and the other end of neither is on the other. So a corner has no wall through it but
+-- its own two, and these are not spanned by its direction.
 use Rattle.std.proofs.Common.{◌≡◌, ◌≢◌, ℕ, ◌<◌, ◌≤◌, ◌∙◌, arith, pos, ap, sym, subst, length, get_or}
 use Rattle.std.proofs.lemmas.Int.{ints}
 use Rattle.std.specs.Ordering.{int_eq}

@@ -1,4 +1,4 @@
--- Where walls that begin at a corner stand in the list, and what is told of the corner.
+-- Where walls that begin at a corner stand in the list, and the distance of the corner.
 use Rattle.std.proofs.Common.{◌≡◌, ◌≢◌, ℕ, ◌<◌, ℤ, neg_ℤ, ◌-ℤ◌, ◌*ℤ◌, ◌<ℤ◌, ◌∙◌, pos, arith, ap, sym, subst, nat_lt}
 use Rattle.std.proofs.Common.{refl, List, length, get_or}
 use Rattle.std.proofs.lemmas.Int.{ints}
@@ -97,9 +97,9 @@ cone_along c d v some along =
         (turns_left (vector c.prev c.here) d && t) (turns_left (vector c.prev c.here) d || t))
         (left_along (vector c.here c.next) d v some along)
 
--- ---- what is told of one corner
+-- ---- the distance of one corner
 
--- of the corners that pass a test all but one are behind the first: it alone is told, if it passes
+-- of the corners that pass a test all but one are behind the first: the distance is that of the one, if it passes
 pub one_reached : (p : Point) (test : Corner → Bool) (cs : List Corner) (first : Option (ℕ × Seen)) (i : ℕ)
     → i < length cs
     → ((j : ℕ) → j < length cs → j ≢ i → test (get_or cs j no_corner) ≡ true

@@ -1,4 +1,12 @@
--- The invariant of the round: it begins, it is kept by each group of corners, and it ends in a view.
+-- The steps of the round: up to the next group of corners, a group with a sector, and a group without one.
+--
+-- Between two groups no kept blocker begins or ends, so the list, which holds what is open, is what each direction
+-- between spans (`first_between`), and its first is the first of all, since what is left out has a kept blocker before
+-- it (`first_without`). That first is what the last sector says of what comes after it; and all corners there are behind
+-- it, so nothing else need be said. At a group the list without what ends there is what the group's direction spans
+-- (`first_at`): a sector says its first, and the nearest corners. Where the first is the same before, at and after the
+-- group, and has all of the group's corners behind it, the sectors so far say what is so, without one more. At the end of
+-- the arc the sectors are a view.
 use Rattle.std.proofs.Common.{◌≡◌, ℕ, ◌+◌, ◌<◌, ◌≤◌, ◌==◌, ◌∙◌, [], ◌∷◌, ◌++◌, arith, suc, List, ap, refl, nat_lt, zero}
 use Rattle.std.proofs.Common.{length, get_or, sym, subst}
 use Rattle.std.specs.Option.{option_map}
@@ -104,7 +112,7 @@ order_last (r ∷ rest) s order all (suc i) (suc j) d lt within =
     order_last rest s (λ a b e l w. order (suc a) (suc b) e (omega arith) (omega arith))
         (λ k e l. all (suc k) e (omega arith)) i j d (omega arith) (omega arith)
 
--- ---- what is told of a direction
+-- ---- what is said of a direction
 
 reached_none : (p : Point) (test : Corner → Bool) (cs : List Corner) (first : Option (ℕ × Seen))
     → ((j : ℕ) → j < length cs → test (get_or cs j no_corner) ≡ true
@@ -255,7 +263,7 @@ round_with_sector scene p arc kept before sectors s active at after walls covere
     own : (n : ℕ) → n < n + 1
     own n = omega arith
 
--- a group behind the first changes nothing that is told
+-- a group behind the first changes nothing
 pub round_without_sector : (scene : Scene) (p : Point) (arc : Arc) (kept : ℕ → Bool) (before : Option Front)
     (sectors : List Sector) (place : ℕ) (active at after : List Numbered) → AreWalls scene p
     → AreCoveredIn scene p arc kept

@@ -1,4 +1,11 @@
--- The steps of the round, by places.
+-- What the list of the round holds, by places.
+--
+-- A blocker is open just before a place X where it began before X and ends at X or later, round the circle. Three
+-- equations on three numbers say all that the round needs: with no end between two places, what is open at one is open
+-- at the other (`open_on`); what is spanned at X is what is open just before X and doesn't end at X (`spanned_of_open`);
+-- and what is open just after X is what is spanned at X or begins there (`open_of_spanned`). With the law of places, what
+-- is spanned by a direction is what is spanned at its place (`spans_at`). And the first of a list in order that holds
+-- exactly what is kept and spanned is the first of what is kept (`first_kept`).
 use Rattle.std.proofs.Common.{◌≡◌, ◌≢◌, ℕ, ◌+◌, ◌<◌, ◌≤◌, ◌==◌, ℤ, ◌<ℤ◌, ◌∙◌, [], ◌∷◌, nat_lt, ap, arith, sym, zero}
 use Rattle.std.proofs.Common.{suc, subst, List, length, get_or, pos}
 use Rattle.std.proofs.lemmas.Int.{ints}
@@ -157,11 +164,11 @@ pub first_between : (p d : Point) (blockers : List Segment) (kept : ℕ → Bool
     → IsDirection d → IsDirected d → AreBlockers p blockers → AreAllApart p d blockers
     → HoldsBefore p blockers kept place active → EndNowhere p blockers kept place (place_of d + 1) → place ≤ place_of d
         → IsKeptFirst p d blockers kept (first_held active)
-first_between p d blockers kept place active d_in d_some blockers apart h none le =
+first_between p d blockers kept place active d_in d_some are apart h none le =
     first_kept p d blockers kept active
     (held_so p blockers kept (λ n s. is_open_at (from_place s) (to_place s) place) (λ n s. spans d s) active h
     (λ n s within k seen.
-    let b = blockers n s within seen in
+    let b = are n s within seen in
     let e = none n s within k seen in
     same (from_place s) (to_place s) place (place_of d) (differ s b) e le ∙ sym (spans_at d s d_in d_some b)))
     apart
@@ -193,10 +200,10 @@ first_between p d blockers kept place active d_in d_some blockers apart h none l
 pub first_at : (p d : Point) (blockers : List Segment) (kept : ℕ → Bool) (active : List Numbered) → IsDirection d
     → IsDirected d → AreBlockers p blockers → AreAllApart p d blockers
     → HoldsAt p blockers kept (place_of d) active → IsKeptFirst p d blockers kept (first_held active)
-first_at p d blockers kept active d_in d_some blockers apart h =
+first_at p d blockers kept active d_in d_some are apart h =
     first_kept p d blockers kept active
     (held_so p blockers kept (λ n s. is_spanned_at (from_place s) (to_place s) (place_of d)) (λ n s. spans d s) active h
-    (λ n s within k seen. sym (spans_at d s d_in d_some (blockers n s within seen))))
+    (λ n s within k seen. sym (spans_at d s d_in d_some (are n s within seen))))
     apart
 
 -- once those are out that end at a place, the list holds what is spanned there
@@ -206,12 +213,12 @@ pub all_out : (p : Point) (blockers : List Segment) (kept : ℕ → Bool) (place
     → ((n : ℕ) (s : Seen) → n < length blockers → kept n ≡ true → seen_at p blockers n ≡ Some s
         → is_open_at (from_place s) (to_place s) place ≡ true → out n ≡ (to_place s == place))
     → HoldsAt p blockers kept place active
-all_out p blockers kept place out active blockers h ends =
+all_out p blockers kept place out active are h ends =
     held_so p blockers kept (λ n s. is_open_at (from_place s) (to_place s) place && not (out n))
         (λ n s. is_spanned_at (from_place s) (to_place s) place) active h
     (λ n s within k seen. guarded (is_open_at (from_place s) (to_place s) place) (not (out n))
         (not (to_place s == place)) (λ o. ap not (ends n s within k seen o))
-    ∙ sym (spanned_of_open (from_place s) (to_place s) place (differ s (blockers n s within seen))))
+    ∙ sym (spanned_of_open (from_place s) (to_place s) place (differ s (are n s within seen))))
 
 -- once those are in that begin there, it holds what is open just after it
 pub all_in : (p : Point) (blockers : List Segment) (kept : ℕ → Bool) (place : ℕ) (new : ℕ → Bool)
@@ -220,8 +227,8 @@ pub all_in : (p : Point) (blockers : List Segment) (kept : ℕ → Bool) (place 
     → ((n : ℕ) (s : Seen) → n < length blockers → kept n ≡ true → seen_at p blockers n ≡ Some s → new n
         ≡ (from_place s == place))
     → HoldsBefore p blockers kept (place + 1) active
-all_in p blockers kept place new active blockers h begins =
+all_in p blockers kept place new active are h begins =
     held_so p blockers kept (λ n s. is_spanned_at (from_place s) (to_place s) place || new n)
         (λ n s. is_open_at (from_place s) (to_place s) (place + 1)) active h
     (λ n s within k seen. ap (λ t. is_spanned_at (from_place s) (to_place s) place || t) (begins n s within k seen)
-    ∙ sym (open_of_spanned (from_place s) (to_place s) place (differ s (blockers n s within seen))))
+    ∙ sym (open_of_spanned (from_place s) (to_place s) place (differ s (are n s within seen))))

@@ -1,4 +1,4 @@
--- What corners stop a segment, told by the nearest ones of its direction.
+-- What corners stop a segment, by the nearest ones of its direction.
 use Rattle.std.proofs.Common.{◌≡◌, ℤ, neg_ℤ, ◌+ℤ◌, ◌-ℤ◌, ◌*ℤ◌, ◌<ℤ◌, ◌≤ℤ◌, ap, ◌∙◌, arith, pos, sym, subst, refl, List}
 use Rattle.std.proofs.Common.{get_or}
 use Rattle.std.proofs.lemmas.Int.{ints}

@@ -1,4 +1,4 @@
--- What crosses a segment, told by the first of the walls and screens that its direction spans.
+-- What crosses a segment, by the first of the walls and screens that its direction spans.
 use Rattle.std.proofs.Common.{◌≡◌, ℤ, ℕ, ◌<◌, neg_ℤ, ◌+ℤ◌, ◌-ℤ◌, ◌*ℤ◌, ◌<ℤ◌, ◌≤ℤ◌, ◌∙◌, arith, pos, sym, subst, refl}
 use Rattle.std.proofs.Common.{ap, List, length, get_or}
 use Rattle.std.proofs.lemmas.Int.{ints, by_lt_z}

@@ -1,5 +1,4 @@
--- What hides a point, told by the first of the walls and screens that its direction spans: also the wall that it lies
--- on.
+-- What hides a point, by the first of the walls and screens that its direction spans: also the wall that it lies on.
 use Rattle.std.proofs.Common.{◌≡◌, ℤ, ℕ, ◌<◌, pos, ◌<ℤ◌, ◌≤ℤ◌, ◌∙◌, [], ◌∷◌, ◌++◌, List, length, get_or, nat_lt, ap}
 use Rattle.std.proofs.Common.{zero, suc, arith, refl, sym, subst}
 use Rattle.std.proofs.lemmas.Int.{ints}

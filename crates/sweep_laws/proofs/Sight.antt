@@ -1,4 +1,12 @@
--- Sight of a point, put together.
+-- Sight of a point, by the first of its direction, the nearest corners, and what the station stands on.
+--
+-- A segment is blocked where it crosses a wall or screen, where it begins or ends on a wall and leads to its left there,
+-- or where a corner is in the way. What is crossed is spanned and has the point behind it; then the first has it behind
+-- too, since a hit before another's is before the point (`crossed_by_front`). A wall on which the point lies hides it
+-- where it has the station on its left; if it isn't the first, the first has the point behind it anyhow
+-- (`hidden_by_front`). A corner that stops the segment is at the station, or strictly between, or on the way back up to
+-- the point; of those of one direction the nearest stops it if any does (`before_by_nearest`, `up_to_by_nearest`). What
+-- remains begins at the station. The three groups, put together in another order, are the law.
 use Rattle.std.proofs.Common.{◌≡◌, ℤ, ℕ, ◌-ℤ◌, ◌*ℤ◌, ◌∙◌, List, pos, arith, ap}
 use Rattle.std.proofs.lemmas.Int.{ints}
 use Rattle.std.specs.List.{list_any}
@@ -40,7 +48,7 @@ up_to_is : (p d : Point) (corners : List Corner) (v : Option Point) → IsNeares
 up_to_is p d corners None h = none_up_to p d corners h
 up_to_is p d corners (Some v) h = up_to_by_nearest p d v corners h
 
--- from a point of the line, what is left of it is told by the direction
+-- from a point of the line, the direction decides what is left of it
 from_line : (x y px py qx qy ax ay : ℤ) → x *ℤ (py -ℤ ay) -ℤ y *ℤ (px -ℤ ax) ≡ pos 0
     → x *ℤ (qy -ℤ ay) -ℤ y *ℤ (qx -ℤ ax) ≡ x *ℤ (qy -ℤ py) -ℤ y *ℤ (qx -ℤ px)
 from_line x y px py qx qy ax ay h =

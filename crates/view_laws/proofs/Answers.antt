@@ -1,4 +1,12 @@
--- What a view answers: sight of a point, and the wall that is nearest.
+-- Sight and the nearest wall by what a view says of one direction.
+--
+-- A view says of a direction what is first, as edge and spread, and how far off the nearest corners are. The side of the
+-- first comes from edge and spread (`side_is`), so it hides what the first hides, and its number is that of the nearest
+-- wall. A distance is that of a corner which is led into, and each such corner is no nearer or behind the first. So the
+-- nearest such corner is at that distance; or it is behind the first, and then a point behind that corner is hidden
+-- anyhow (`past_hides`), and one before it isn't reached by the corner. Along one direction distances order as dot
+-- products do (`Lengths`). So the four parts of the law of sight are answered as the view answers them, but for corners
+-- that matter only where the first hides the point already.
 use Rattle.std.proofs.Common.{◌≡◌, ℕ, ◌<◌, ◌≤◌, ℤ, ◌+ℤ◌, ◌-ℤ◌, ◌*ℤ◌, ◌<ℤ◌, ◌≤ℤ◌, ◌∙◌, [], ◌∷◌, arith, zero, suc, refl}
 use Rattle.std.proofs.Common.{List, length, get_or, nat_lt, pos, ap, sym, subst}
 use Rattle.std.proofs.lemmas.Int.{ints, by_lt_z}
@@ -34,7 +42,7 @@ use Rattle.view_laws.proofs.Nearest.{Really, unmet, there, beyond, lengths_tell,
 use Rattle.view_laws.specs.Views.{front_of, is_hidden_by, number_by, IsAlong, length_of, is_before_end_of}
 use Rattle.view_laws.specs.Views.{is_up_to_end_of, Radial, IsRadial, is_seen_by}
 
--- ---- the first, as it is told
+-- ---- the first, by edge and spread
 
 pub side_is : (s : Seen) (d : Point) → cross_of s.from s.to +ℤ cross_of (vector s.from s.to) d ≡ side_of s d
 side_is s d =
@@ -125,7 +133,7 @@ past_hides scene p d v first f is e some along past near =
     spanned_of : IsFront p d (blockers_of_scene scene) f.0 f.1 → spans d f.1 ≡ true
     spanned_of front = front.spanned
 
--- the nearest corner, and that what is told answers as it does
+-- the nearest corner, and that the distance answers as it does
 record Candidate (p d : Point) (test : Corner → Bool) (corners : List Corner) (hidden : Bool)
     (by : Option Point → Bool) (radial : Bool) : Type 0 where
   corner : Option Point
@@ -195,7 +203,7 @@ up_to_candidate p d test corners first reach hidden some hides (beyond v f n alo
 
 -- ---- the answers
 
--- a point is seen from p as is told of its direction
+-- a point is seen from p as the view says of its direction
 pub sight_of_radial : (scene : Scene) (p q : Point) (radial : Radial) (begins : Bool) → same_point p q ≡ false
     → IsDirected (vector p q) → begins_blocked scene p (vector p q) ≡ begins → IsRadial scene p (vector p q) radial
     → are_in_sight scene p q ≡ is_seen_by begins radial (vector p q)
@@ -221,7 +229,7 @@ sight_of_radial scene p q radial begins differ some starts t =
     three true n u m w e f = refl
     three false n u m w e f = ap (λ t. t || u) e ∙ ap (λ t. m || t) f
 
--- the wall that a ray meets first is the one that is told
+-- the wall that a ray meets first is the one of the view
 pub near_wall_of_radial : (scene : Scene) (p d : Point) (radial : Radial) → IsRadial scene p d radial
     → near_wall_of scene p d ≡ number_by radial.front
 near_wall_of_radial scene p d radial t = near_wall_by scene p d t.first t.is_first ∙ ap number_by (sym t.front)

@@ -1,4 +1,9 @@
--- What a view answers: how far a ray reaches.
+-- How far a ray reaches by what a view says of its direction.
+--
+-- The ray is stopped by the first, by the nearest corner ahead, or at its start. The first's hit is that of edge and
+-- spread. The distance of the nearest corner, over that of d, is the corner's parameter in other terms (`corner_same`).
+-- Where the nearest corner is behind the first, it is hit after the first, and so is what the view says instead, so that
+-- neither changes which of the candidates comes first (`stays_by`). In lowest terms all that has one value is one.
 use Rattle.std.proofs.Common.{◌≡◌, ℕ, ◌≤◌, ℤ, ◌+ℤ◌, ◌-ℤ◌, ◌*ℤ◌, ◌<ℤ◌, ◌≤ℤ◌, ◌∙◌, arith, ap, refl, pos, sym, List, subst}
 use Rattle.std.proofs.Common.{zero, suc}
 use Rattle.std.proofs.lemmas.Int.{ints, by_lt_z}
@@ -30,7 +35,7 @@ use Rattle.view_laws.proofs.Lengths.{in_proportion, hit_before}
 use Rattle.view_laws.proofs.Nearest.{some_length, Really, unmet, there, beyond, really}
 use Rattle.view_laws.specs.Views.{front_of, hit_by, length_of, IsAlong, corner_by, Radial, IsRadial, stop_by}
 
--- ---- the hit, as it is told
+-- ---- the hit, by edge and spread
 
 width_is : (s : Seen) (d : Point) → cross_of d (vector s.from s.to) ≡ cross_of d s.to +ℤ cross_of s.from d
 width_is s d =
@@ -89,7 +94,7 @@ same_before f g h s =
     ∙ ap (λ t. int_lt ((g.num *ℤ h.den) *ℤ f.den) t) (product_turned h.num f.den g.den)
     ∙ same_test (g.num *ℤ h.den) (h.num *ℤ g.den) f.den (one_at_least f.den s.up)
 
--- ---- the corner, as it is told
+-- ---- the corner, by its distance
 
 zero_later : (n m : ℤ) → pos 0 <ℤ n → is_before (whole (pos 0)) (record { num = n; den = m }) ≡ true
 zero_later n m h = less_tested (pos 0 *ℤ m) (n *ℤ pos 1) (omega (arith, ints, h))
@@ -103,7 +108,7 @@ corner_same d v some along = record { up = dot_itself d some; up_too = above (po
     above : (z : ℤ) → pos 1 ≤ℤ z → pos 0 <ℤ z
     above z h = omega (arith, ints, h)
 
--- the corner that stops a ray, and that what is told stops it where it does, unless the first stops it before
+-- the corner that stops a ray, and that the distance stops it where the corner does, unless the first stops it before
 record Stopper (p d : Point) (corners : List Corner) (line : Option Fraction) (far : Option ℕ) : Type 0 where
   corner : Option Point
   is : IsNearestOrNone p d (is_ahead p d) corners corner
@@ -228,7 +233,7 @@ spanned_by scene p d first f is e = at (subst (λ t. IsFirst scene p d t) e is)
     at : IsFront p d (blockers_of_scene scene) f.0 f.1 → spans d f.1 ≡ true
     at front = front.spanned
 
--- a ray is stopped where what is told of its direction stops it
+-- a ray is stopped where what the view says of its direction stops it
 pub stop_of_radial : (scene : Scene) (p d : Point) (radial : Radial) (begins : Bool) → IsDirected d
     → begins_blocked scene p d ≡ begins → IsRadial scene p d radial
     → stop_of scene p d ≡ option_map reduced (stop_by begins radial d)
