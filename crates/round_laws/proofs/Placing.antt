@@ -21,6 +21,14 @@ use Rattle.turn_laws.proofs.Together.{together_after}
 use Rattle.turn_laws.specs.Turns.{just_after}
 use Rattle.view_laws.proofs.Lengths.{alike_of, scaled}
 use Rattle.view_laws.specs.Views.{IsAlong, length_of, is_past_first, IsReached}
+use Rattle.turn_laws.specs.Turns.{AreOneWay, same as reached}
+use Rattle.turn_laws.specs.Places.{place_of}
+use Rattle.turn_laws.proofs.After.{goes_on, self_way, neither_before}
+use Rattle.turn_laws.proofs.Together.{spans_just_after}
+use Rattle.turn_laws.proofs.Places.{place_tells}
+use Rattle.front_laws.proofs.Tests.{number_not_less}
+use Rattle.round_laws.specs.Rounds.{is_spanned_at, from_place, to_place}
+use Rattle.round_laws.proofs.Steps.{spans_at}
 
 -- ---- beginning walls
 
@@ -45,6 +53,33 @@ pub new_in_front : (s t : Seen) → IsBlocker s → IsBlocker t → spans t.from
     → pos 0 <ℤ side_of s t.from → is_in_front t s ≡ true
 new_in_front s t s_is t_is spanned apart before =
     begins_before s t t_is.up spanned ((together_from s t s_is t_is spanned apart).back) before
+
+-- ---- one direction for all of them
+
+-- just after a direction all is spanned that the direction spans
+pub spans_goes_on : (v : Point) (s : Seen) → IsDirection v → IsDirected v → IsBlocker s
+    → is_spanned_at (from_place s) (to_place s) (place_of v) ≡ true → spans (just_after v) s ≡ true
+spans_goes_on v s v_in v_some b h =
+    spans_just_after v s v_in b.from_in b.to_in (spans_on v s (spans_at v s v_in v_some b ∙ h))
+
+-- and all that begins at its place
+pub spans_begun : (v : Point) (s : Seen) → IsDirection v → IsDirected v → IsBlocker s → from_place s ≡ place_of v
+    → spans (just_after v) s ≡ true
+spans_begun v s v_in v_some b same =
+    spans_just_after v s v_in b.from_in b.to_in (record {
+      begins = reached way.line way.forward;
+      ends = goes_on s.from v s.to way (self_way v v_some) b.up;
+    })
+  where
+    way : AreOneWay s.from v
+    way = neither_before s.from v b.from_some v_some
+        (place_tells s.from v b.from_in b.from_some v_in v_some
+        ∙ number_not_less (from_place s) (place_of v) (equal (place_of v) (from_place s) (sym same)))
+        (place_tells v s.from v_in v_some b.from_in b.from_some
+        ∙ number_not_less (place_of v) (from_place s) (equal (from_place s) (place_of v) same))
+
+    equal : (m n : ℕ) → m ≡ n → m ≤ n
+    equal m n h = omega (arith, h)
 
 -- ---- cones
 

@@ -29,7 +29,8 @@
 #![tactic(auto)]
 
 ghost use Rattle.std.specs.Option.{option_map};
-ghost use Rattle.std.specs.Prelude.{All, int_lt, length, List, Option, pos, Some, true, [], ◌∷◌, ◌++◌, ◌+◌, ◌<◌, ◌≡◌, ◌≤◌, ℕ};
+ghost use Rattle.std.specs.Prelude.{All, Bool, int_lt, length, List, Option, pos, Some, true};
+ghost use Rattle.std.specs.Prelude.{[], ◌∷◌, ◌++◌, ◌+◌, ◌<◌, ◌≡◌, ◌≤◌, ℕ};
 ghost use Rattle.plane_spec.specs.declared.Point.{Point};
 ghost use Rattle.plane_spec.specs.Vectors.{IsDirected, IsDirection};
 ghost use Rattle.sight_spec.specs.Scene.{blockers_of_scene, Scene};
@@ -84,4 +85,43 @@ pub fn a_corner_with_a_sector()
         → ((d : Point) → IsDirection d → IsDirected d → is_in_arc arc d ≡ true → place_of d ≡ s.place
             → IsReached p (is_behind p d) scene.corners (first_held at) s.behind)
         → IsRound scene p arc kept before (sectors ++ s ∷ []) (s.place + 1) after }
+{}
+
+/// Past the corners of one place without a sector, where the first of the list is the same before, at and after it, and
+/// has all corners of the direction behind it.
+pub fn a_corner_without_a_sector()
+    ensures { (scene : Scene) (p : Point) (arc : Arc) (kept : ℕ → Bool) (before : Option Front)
+        (sectors : List Sector) (place : ℕ) (active at after : List Numbered) → AreWalls scene p
+        → AreCoveredIn scene p arc kept → IsRound scene p arc kept before sectors place active
+        → HoldsAt p (blockers_of_scene scene) kept place at
+        → HoldsBefore p (blockers_of_scene scene) kept (place + 1) after
+        → first_held at ≡ first_held active → first_held after ≡ first_held active
+        → ((d : Point) → IsDirection d → IsDirected d → is_in_arc arc d ≡ true → place_of d ≡ place
+            → AreHidden scene p d (first_held at))
+        → IsRound scene p arc kept before sectors (place + 1) after }
+{}
+
+/// Once each direction of the arc is below the round's place, its sectors are a view.
+pub fn the_round_ends_with_a_view()
+    ensures { (scene : Scene) (p : Point) (arc : Arc) (kept : ℕ → Bool) (view : View) (place : ℕ)
+        (active : List Numbered) → IsRound scene p arc kept view.before view.sectors.items place active
+        → ((d : Point) → IsDirection d → IsDirected d → is_in_arc arc d ≡ true → place_of d < place)
+        → ((d : Point) → IsDirection d → IsDirected d → begins_blocked scene p d ≡ is_led_into view.ground d)
+        → All (λ s. place_of s.way ≡ s.place) view.sectors.items → IsViewOf scene p arc view }
+{}
+
+/// The first of the walls and screens that are kept is the first of all, where each one that is left out and that the
+/// direction spans has a kept one before it.
+pub fn the_first_of_the_kept_is_the_first()
+    ensures { (scene : Scene) (p d : Point) (kept : ℕ → Bool) (first : Option (ℕ × Seen))
+        → IsKeptFirst p d (blockers_of_scene scene) kept first → AreCovered p d (blockers_of_scene scene) kept
+        → IsFirst scene p d first }
+{}
+
+/// What is behind a wall or screen that its direction spans is behind the first.
+pub fn a_corner_behind_a_blocker_is_behind_the_first()
+    ensures { (scene : Scene) (p d v : Point) (first : Option (ℕ × Seen)) (k : ℕ) (cover : Seen)
+        → IsFirst scene p d first → IsDirected d → IsAlong d v → k < length (blockers_of_scene scene)
+        → seen_at p (blockers_of_scene scene) k ≡ Some cover → spans d cover ≡ true
+        → int_lt (side_of cover v) (pos 0) ≡ true → is_past_first first v ≡ true }
 {}

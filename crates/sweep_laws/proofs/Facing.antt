@@ -4,7 +4,7 @@ use Rattle.std.proofs.Common.{zero, suc, arith, refl, sym, subst}
 use Rattle.std.proofs.lemmas.Int.{ints}
 use Rattle.std.specs.List.{list_any}
 use Rattle.std.specs.Ordering.{int_eq}
-use Rattle.std.specs.Prelude.{Bool, ◌&&◌, ◌||◌, int_lt, true, cond, Some, None, false}
+use Rattle.std.specs.Prelude.{◌&&◌, ◌||◌, int_lt, true, cond, Some, None, false}
 use Rattle.plane_spec.specs.Vectors.{vector, cross_of}
 use Rattle.plane_spec.specs.declared.Point.{Point}
 use Rattle.plane_spec.specs.declared.Segment.{Segment}

@@ -1,20 +1,13 @@
 -- All walls and screens of a sound plan are apart.
-use Rattle.std.proofs.Common.{◌≡◌, ◌≢◌, ℕ, ◌<◌, ◌≤◌, ◌∙◌, [], ◌∷◌, List, length, arith, zero, suc, ap, sym, subst}
-use Rattle.std.proofs.Common.{get_or}
-use Rattle.std.specs.List.{list_any}
-use Rattle.std.specs.Prelude.{◌==◌, Bool, true, Some, AllPairs, All, Option, None}
+use Rattle.std.proofs.Common.{◌≡◌, ◌≢◌, ℕ, ◌<◌, ◌≤◌, arith}
+use Rattle.std.specs.Prelude.{true}
 use Rattle.plan_spec.specs.Accepted.{is_sound}
 use Rattle.plan_spec.specs.Plan.{Plan}
-use Rattle.plane_spec.specs.Fractions.{is_before}
 use Rattle.plane_spec.specs.declared.Point.{Point}
-use Rattle.plane_spec.specs.declared.Segment.{Segment}
-use Rattle.sight_spec.specs.Scene.{scene_of, blockers_of_scene, Scene}
+use Rattle.sight_spec.specs.Scene.{scene_of, blockers_of_scene}
 use Rattle.apart_laws.proofs.Plans.{blockers_apart}
-use Rattle.front_laws.proofs.InFront.{front_is_before}
-use Rattle.front_laws.proofs.Lists.{some_of}
-use Rattle.front_laws.proofs.Tests.{by_lt, some_same, tested_same_number, own_number_or}
-use Rattle.front_laws.specs.Seen.{Seen, spans, is_in_front, seen_at, hit_of}
-use Rattle.sweep_laws.specs.First.{AreAllApart, IsFront, IsBare, IsFirst}
+use Rattle.front_laws.proofs.Tests.{by_lt}
+use Rattle.sweep_laws.specs.First.{AreAllApart}
 
 -- as they are in an accepted plan
 pub all_apart : (plan : Plan) (p d : Point) → is_sound plan ≡ true → AreAllApart p d (blockers_of_scene (scene_of plan))

@@ -29,7 +29,7 @@ use Rattle.sweep_laws.proofs.Facing.{hidden_by_front, hidden_by_none}
 use Rattle.sweep_laws.specs.First.{IsFirst}
 use Rattle.sweep_laws.specs.Groups.{is_ahead, is_behind, is_own}
 use Rattle.sweep_laws.specs.Parts.{is_hidden, IsNearestOrNone, is_nearer, is_up_to, leaves_left, begins_blocked}
-use Rattle.sweep_laws.specs.Parts.{first_hides, hides_itself}
+use Rattle.sweep_laws.specs.Parts.{first_hides}
 use Rattle.sweep_laws.specs.First.{seen_first}
 
 hidden_is : (scene : Scene) (p q : Point) (first : Option (ℕ × Seen)) → IsFirst scene p (vector p q) first

@@ -429,3 +429,50 @@ tells d e (fourth a b s h k) (second c f t i j) =
 pub place_tells : (d e : Point) → IsDirection d → IsDirected d → IsDirection e → IsDirected e → turns_before d e
     ≡ nat_lt (place_of d) (place_of e)
 place_tells d e d_in d_some e_in e_some = tells d e (quarter_of d d_in d_some) (quarter_of e e_in e_some)
+
+-- ---- half a turn, and a whole one
+
+upper_by : (d : Point) (up : Bool) (n : ℕ) → is_upper d ≡ up → place_of d ≡ n → up ≡ nat_lt n 2199023255552
+    → is_upper d ≡ nat_lt (place_of d) 2199023255552
+upper_by d up n h k e = h ∙ e ∙ ap (λ t. nat_lt t 2199023255552) (sym k)
+
+half : (d : Point) → Quarter d → is_upper d ≡ nat_lt (place_of d) 2199023255552
+half d (first a b s h k) =
+    upper_by d true (part_of a b) (upper_is d _ _ h k ∙ first_upper a b s.some)
+    (place_is d _ _ h k ∙ first_place a b s.some)
+    (sym (number_less_tested _ _ (let g = part_below a b s in omega (arith, g))))
+half d (second a b s h k) =
+    upper_by d true (1099511627776 + part_of a b) (upper_is d _ _ h k ∙ second_upper a b s.some)
+    (place_is d _ _ h k ∙ second_place a b s.some)
+    (sym (number_less_tested _ _ (let g = part_below a b s in omega (arith, g))))
+half d (third a b s h k) =
+    upper_by d false (2199023255552 + part_of a b) (upper_is d _ _ h k ∙ third_upper a b s.some)
+    (place_is d _ _ h k ∙ third_place a b s.some) (sym (number_not_less _ _ (omega arith)))
+half d (fourth a b s h k) =
+    upper_by d false (3298534883328 + part_of a b) (upper_is d _ _ h k ∙ fourth_upper a b s.some)
+    (place_is d _ _ h k ∙ fourth_place a b s.some) (sym (number_not_less _ _ (omega arith)))
+
+-- a direction is in the first half turn exactly where its place is below that of (-1,0)
+pub half_turn : (d : Point) → IsDirection d → IsDirected d → is_upper d ≡ nat_lt (place_of d) 2199023255552
+half_turn d d_in d_some = half d (quarter_of d d_in d_some)
+
+below_by : (d : Point) (n : ℕ) → place_of d ≡ n → n < 4398046511104 → place_of d < 4398046511104
+below_by d n e h = subst (λ t. t < 4398046511104) (sym e) h
+
+whole : (d : Point) → Quarter d → place_of d < 4398046511104
+whole d (first a b s h k) =
+    below_by d (part_of a b) (place_is d _ _ h k ∙ first_place a b s.some)
+    (let g = part_below a b s in omega (arith, g))
+whole d (second a b s h k) =
+    below_by d (1099511627776 + part_of a b) (place_is d _ _ h k ∙ second_place a b s.some)
+    (let g = part_below a b s in omega (arith, g))
+whole d (third a b s h k) =
+    below_by d (2199023255552 + part_of a b) (place_is d _ _ h k ∙ third_place a b s.some)
+    (let g = part_below a b s in omega (arith, g))
+whole d (fourth a b s h k) =
+    below_by d (3298534883328 + part_of a b) (place_is d _ _ h k ∙ fourth_place a b s.some)
+    (let g = part_below a b s in omega (arith, g))
+
+-- each place is below four quarter turns
+pub whole_turn : (d : Point) → IsDirection d → IsDirected d → place_of d < 4398046511104
+whole_turn d d_in d_some = whole d (quarter_of d d_in d_some)

@@ -16,6 +16,7 @@
 //! | law | what it says | breaks if .. changes |
 //! |---|---|---|
 //! | [`places_keep_the_order_of_directions`] | one direction turns before another exactly where its place is less | `turns_before`, `place_of`, `IsDirection` |
+//! | [`places_go_round_once`] | half a turn and a whole one by places | `is_upper`, `place_of` |
 //! | [`a_blocker_is_spanned_between_its_ends`] | a direction spans a blocker exactly where it comes between its ends | `turns_before` |
 //! | [`one_direction_spans_what_goes_on`] | the direction just after s spans what begins at s or goes on there | `IsDirection` |
 //!
@@ -23,9 +24,9 @@
 //! they keep, and what is spanned just after), `Together` and `Start` (what wraps round (1,0)).
 #![tactic(auto)]
 
-ghost use Rattle.std.specs.Prelude.{nat_lt, pos, true, ◌<ℤ◌, ◌≡◌};
+ghost use Rattle.std.specs.Prelude.{nat_lt, pos, true, ◌<◌, ◌<ℤ◌, ◌≡◌};
 ghost use Rattle.plane_spec.specs.declared.Point.{Point};
-ghost use Rattle.plane_spec.specs.Vectors.{cross_of, IsDirected, IsDirection, turns_before};
+ghost use Rattle.plane_spec.specs.Vectors.{cross_of, is_upper, IsDirected, IsDirection, turns_before};
 ghost use Rattle.front_laws.specs.Seen.{Seen, spans};
 ghost use Rattle.turn_laws.specs.Places.{place_of};
 ghost use Rattle.turn_laws.specs.Turns.{GoesOnFrom, is_among, just_after};
@@ -34,6 +35,13 @@ ghost use Rattle.turn_laws.specs.Turns.{GoesOnFrom, is_among, just_after};
 pub fn places_keep_the_order_of_directions()
     ensures { (d e : Point) → IsDirection d → IsDirected d → IsDirection e → IsDirected e
         → turns_before d e ≡ nat_lt (place_of d) (place_of e) }
+{}
+
+/// A direction is in the half turn from (1,0) up to, not with, (-1,0) exactly where its place is below two quarter
+/// turns; and each place is below four.
+pub fn places_go_round_once()
+    ensures half { (d : Point) → IsDirection d → IsDirected d → is_upper d ≡ nat_lt (place_of d) 2199023255552 }
+    ensures whole { (d : Point) → IsDirection d → IsDirected d → place_of d < 4398046511104 }
 {}
 
 /// A direction spans a blocker exactly where it comes strictly between the blocker's ends, counterclockwise round the

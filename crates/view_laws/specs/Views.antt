@@ -6,11 +6,10 @@ use Rattle.std.specs.Prelude.{ℕ, ◌+◌, ◌<◌, ◌==◌, ℤ, ◌+ℤ◌, 
 use Rattle.std.specs.Prelude.{unsigned_abs, nat_lt, pos, int_lt, List, length, Option, false, Some, None, AllPairs}
 use Rattle.plane_spec.specs.Cones.{is_in_cone}
 use Rattle.plane_spec.specs.Fractions.{Fraction}
-use Rattle.plane_spec.specs.Vectors.{cross_of, dot_of, is_upper, turns_left, point, vector, IsDirection, IsDirected}
+use Rattle.plane_spec.specs.Vectors.{cross_of, dot_of, is_upper, turns_left, vector, IsDirection, IsDirected}
 use Rattle.plane_spec.specs.declared.Point.{Point}
-use Rattle.plane_spec.specs.declared.Segment.{Segment}
 use Rattle.sight_spec.specs.Scene.{Scene}
-use Rattle.front_laws.specs.Seen.{Seen, side_of, nowhere}
+use Rattle.front_laws.specs.Seen.{Seen, side_of}
 use Rattle.sweep_laws.specs.First.{IsFirst}
 use Rattle.sweep_laws.specs.Groups.{no_corner, is_ahead, is_behind}
 use Rattle.sweep_laws.specs.Parts.{begins_blocked, nearer_hit, start_stop}
