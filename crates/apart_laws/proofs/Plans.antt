@@ -1,11 +1,11 @@
 -- The walls and screens of a sound plan are apart wherever one direction spans both.
 --
--- A plan is sound where no edge of one polygon or screen touches one of another, and no two edges of one polygon do but
--- those that follow each other, which share a corner and no more. So each two of all its edges stand beside each other
--- (`plan_stands`): the edges of the outer polygon, of each obstacle, of different obstacles, and the screens. The scene
--- directs some polygons the other way round, but an edge looks the same from its other end (`seen_turned`), so the i-th
--- wall or screen is seen as the i-th edge. And edges that stand beside each other are apart where one direction spans
--- both (`Standing`).
+-- A plan is sound where no edge of one polygon or screen touches one of another, and no two edges of one polygon do
+-- but those that follow each other, which share a corner and no more. So each two of all its edges stand beside each
+-- other (`plan_stands`): the edges of the outer polygon, of each obstacle, of different obstacles, and the screens.
+-- The scene directs some polygons the other way round, but an edge looks the same from its other end (`seen_turned`),
+-- so the i-th wall or screen is seen as the i-th edge. And edges that stand beside each other are apart where one
+-- direction spans both (`Standing`).
 use Rattle.std.proofs.Common.{◌≡◌, ℤ, ℕ, ◌<◌, neg_ℤ, ◌∙◌, [], ◌∷◌, ◌++◌, List, refl, length, sym, arith, pos, ap, zero}
 use Rattle.std.proofs.Common.{suc, get_or, subst}
 use Rattle.std.proofs.lemmas.Bool.{and_parts, and_from}
@@ -45,14 +45,14 @@ use Rattle.front_laws.specs.Seen.{Seen, seen_of, spans, BothApart}
 
 -- ---- the edges of a plan, whichever way they are directed
 
-abbrev edges_of_obstacle : Obstacle → List Segment
+abbrev pub edges_of_obstacle : Obstacle → List Segment
 edges_of_obstacle o = edges_of o.points
 
 abbrev pub edges_of_plan : Plan → List Segment
 edges_of_plan plan = (edges_of plan.outer ++ flat_map edges_of_obstacle plan.obstacles) ++ map segment_of_screen
     plan.screens
 
-own_edges : (points : List Point) → is_polygon points ≡ true → each_two stands (edges_of points) ≡ true
+pub own_edges : (points : List Point) → is_polygon points ≡ true → each_two stands (edges_of points) ≡ true
 unfolding crosses_nowhere
 own_edges points h =
     let a = and_parts (list_all is_in_range points) (is_simple points) h in
@@ -84,7 +84,7 @@ each_two_weaker r q f (x ∷ xs) h =
     each_two_cons q x xs ∙ and_from (list_all (q x) xs) (each_two q xs) (list_all_weaker (r x) (q x) (f x) xs parts.0)
         (each_two_weaker r q f xs parts.1)
 
-obstacle_edges : (plan : Plan) → ObstacleParts plan → each_two stands (flat_map edges_of_obstacle plan.obstacles) ≡ true
+pub obstacle_edges : (plan : Plan) → ObstacleParts plan → each_two stands (flat_map edges_of_obstacle plan.obstacles) ≡ true
 obstacle_edges plan parts =
     each_two_each edges_of_obstacle plan.obstacles
       (list_all_weaker (λ o. is_polygon o.points && lies_within plan.outer o.points)
@@ -94,7 +94,7 @@ obstacle_edges plan parts =
       (each_two_weaker obstacles_apart (λ o q. stand_beside (edges_of_obstacle o) (edges_of_obstacle q)) each_apart
           plan.obstacles parts.apart)
 
-outer_beside_obstacles : (plan : Plan) → ObstacleParts plan
+pub outer_beside_obstacles : (plan : Plan) → ObstacleParts plan
     → stand_beside (edges_of plan.outer) (flat_map edges_of_obstacle plan.obstacles) ≡ true
 outer_beside_obstacles plan parts =
     beside_each edges_of_obstacle (edges_of plan.outer) plan.obstacles

@@ -1,10 +1,11 @@
 -- Edges that stand beside each other in a sound plan are apart wherever one direction spans both.
 --
--- Edges that don't touch don't cross, and no end of one is on the other; seen from either end of each that stays so. On
--- one line, the farther first end or the nearer last end of two that a direction spans both would be on the other
--- (`Apart`). Edges that follow each other share a corner v. Where v is the last end of one and the first of the other, as
--- they are seen, no direction spans both, since it would be left of v and right of v. Else v is the first end of both or
--- the last of both, they cross nowhere, and the other ends decide as before, since neither is on the other edge.
+-- Edges that don't touch don't cross, and no end of one is on the other; seen from either end of each that stays so.
+-- On one line, the farther first end or the nearer last end of two that a direction spans both would be on the other
+-- (`Apart`). Edges that follow each other share a corner v. Where v is the last end of one and the first of the other,
+-- as they are seen, no direction spans both, since it would be left of v and right of v. Else v is the first end of
+-- both or the last of both, they cross nowhere, and the other ends decide as before, since neither is on the other
+-- edge.
 use Rattle.std.proofs.Common.{◌≡◌, ℤ, neg_ℤ, ◌<ℤ◌, ◌∙◌, pos, arith, refl, ap, subst, sym}
 use Rattle.std.proofs.Math.Bool.{or_comm}
 use Rattle.std.proofs.lemmas.Int.{ints}

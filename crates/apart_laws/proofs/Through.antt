@@ -1,9 +1,9 @@
 -- In a sound plan no wall or screen passes through an end of another whose direction spans it.
 --
 -- Where the direction from the station to a corner spans a wall s, and the corner is on the line of s, the corner lies
--- on s, and at neither of its ends (`passes_at`). But an edge that stands beside s has no end in the interior of s: they
--- don't touch, or they share an end and the other end of neither is on the other. So a corner has no wall through it but
--- its own two, and these are not spanned by its direction.
+-- on s, and at neither of its ends (`passes_at`). But an edge that stands beside s has no end in the interior of s:
+-- they don't touch, or they share an end and the other end of neither is on the other. So a corner has no wall through
+-- it but its own two, and these are not spanned by its direction.
 use Rattle.std.proofs.Common.{◌≡◌, ◌≢◌, ℕ, ◌<◌, ◌≤◌, ◌∙◌, arith, pos, ap, sym, subst, length, get_or}
 use Rattle.std.proofs.lemmas.Int.{ints}
 use Rattle.std.specs.Ordering.{int_eq}
@@ -28,10 +28,10 @@ use Rattle.front_laws.specs.Seen.{spans, side_of, Seen, seen_of, seen_at}
 use Rattle.apart_laws.specs.Standing.{PassesThrough}
 
 -- the point is on the segment, at none of its ends
-record IsWithinOne (c x y : Point) : Type 0 where
-  on : is_on_segment c x y ≡ true
-  not_first : same_point c x ≡ false
-  not_last : same_point c y ≡ false
+pub record IsWithinOne (c x y : Point) : Type 0 where
+  pub on : is_on_segment c x y ≡ true
+  pub not_first : same_point c x ≡ false
+  pub not_last : same_point c y ≡ false
 
 off_ends : (o a b l : Bool) → ((o && (not a && not b)) && l) ≡ true → (o ≡ true) × ((a ≡ false) × (b ≡ false))
 off_ends o a b l h = (first o a b l h, (second o a b l h, third o a b l h))
@@ -92,13 +92,13 @@ passes_at p c f s h spanned on =
 
 -- ---- edges
 
-same_self : (c : Point) → same_point c c ≡ true
+pub same_self : (c : Point) → same_point c c ≡ true
 same_self c = both_true (int_eq c.x c.x) (int_eq c.y c.y) (same_tested c.x) (same_tested c.y)
 
-at_first : {P : Type 0} (c x y : Point) → c ≡ x → IsWithinOne c x y → P
+pub at_first : {P : Type 0} (c x y : Point) → c ≡ x → IsWithinOne c x y → P
 at_first c x y e w = clash_to (same_point c x) (subst (λ t. same_point c t ≡ true) e (same_self c)) w.not_first
 
-at_last : {P : Type 0} (c x y : Point) → c ≡ y → IsWithinOne c x y → P
+pub at_last : {P : Type 0} (c x y : Point) → c ≡ y → IsWithinOne c x y → P
 at_last c x y e w = clash_to (same_point c y) (subst (λ t. same_point c t ≡ true) e (same_self c)) w.not_last
 
 none_of : (x a b c d : Bool) → (x || ((a || b) || (c || d))) ≡ false → (a ≡ false)
@@ -118,7 +118,7 @@ none_of x a b c d h = (one x a b c d h, (two x a b c d h, (three x a b c d h, fo
     four x a b c d h = grind arith
 
 -- no end of the first edge lies within the second, nor the other way round
-ends_off : (u v x y : Point) → MayStand u v x y → ((IsWithinOne u x y → ⊥) × (IsWithinOne v x y → ⊥))
+pub ends_off : (u v x y : Point) → MayStand u v x y → ((IsWithinOne u x y → ⊥) × (IsWithinOne v x y → ⊥))
     × ((IsWithinOne x u v → ⊥) × (IsWithinOne y u v → ⊥))
 unfolding do_touch
 ends_off u v x y (clear h) =

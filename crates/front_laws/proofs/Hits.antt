@@ -1,11 +1,11 @@
 -- Hits and crossings as they are seen from the station.
 --
--- The definitions turn a wall's ends by the ray's direction: a hit is where both are strictly on different sides of the
--- ray's line and the parameter is positive. From the station the wall is seen counterclockwise, so that its spread is
--- positive; then "different sides and positive" says that d is strictly left of its first end and right of its second,
--- which is that d spans it. A wall seen the other way is turned, and one in line with the station is never hit. A
--- crossing asks, besides, that the end of the segment is on the other side of the wall than the station, that is, that
--- its side is negative.
+-- The definitions turn a wall's ends by the ray's direction: a hit is where both are strictly on different sides of
+-- the ray's line and the parameter is positive. From the station the wall is seen counterclockwise, so that its spread
+-- is positive; then "different sides and positive" says that d is strictly left of its first end and right of its
+-- second, which is that d spans it. A wall seen the other way is turned, and one in line with the station is never
+-- hit. A crossing asks, besides, that the end of the segment is on the other side of the wall than the station, that
+-- is, that its side is negative.
 use Rattle.std.proofs.Common.{◌≡◌, ℕ, ℤ, pos, ◌+ℤ◌, ◌-ℤ◌, ◌*ℤ◌, neg_ℤ, ◌<ℤ◌, ◌≤ℤ◌, ◌∙◌, ap, arith, refl, sym}
 use Rattle.std.proofs.lemmas.Int.{ints, by_lt_z}
 use Rattle.std.specs.Prelude.{if◌then◌else◌, ◌&&◌, int_lt, Option, Some, None, Bool, true, cond, false}

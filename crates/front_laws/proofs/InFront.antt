@@ -1,12 +1,12 @@
 -- Which of two blockers is in front.
 --
 -- Let d span v and w. The hit of v comes before that of w exactly where a certain difference of products is positive:
--- the spread of w times the width of v before d, less the spread of v times the width of w. That difference is a sum of
--- the sides on which the ends of v lie from w, weighted by how far d is from either end (`sides_are`, by the identity of
--- four directions), and so with v and w exchanged. The weights are positive, since d spans both. So where both ends of v
--- are on one side of w, or one of them on its line, that side decides. Else the ends of v are on different sides, so
--- those of w aren't, as the two are apart; then the sides of w's ends decide, the other way round. That not both ends
--- lie on the line of the other is the second half of apartness; it keeps the sum from being 0.
+-- the spread of w times the width of v before d, less the spread of v times the width of w. That difference is a sum
+-- of the sides on which the ends of v lie from w, weighted by how far d is from either end (`sides_are`, by the
+-- identity of four directions), and so with v and w exchanged. The weights are positive, since d spans both. So where
+-- both ends of v are on one side of w, or one of them on its line, that side decides. Else the ends of v are on
+-- different sides, so those of w aren't, as the two are apart; then the sides of w's ends decide, the other way round.
+-- That not both ends lie on the line of the other is the second half of apartness; it keeps the sum from being 0.
 use Rattle.std.proofs.Common.{◌≡◌, ℤ, ◌+ℤ◌, ◌-ℤ◌, ◌*ℤ◌, neg_ℤ, ◌<ℤ◌, ◌≤ℤ◌, ◌∙◌, arith, ap, pos}
 use Rattle.std.proofs.lemmas.Int.{ints, by_lt_z}
 use Rattle.std.specs.Ordering.{int_eq}

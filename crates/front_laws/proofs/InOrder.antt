@@ -1,10 +1,10 @@
 -- The blockers that one direction spans are in order from the station outwards.
 --
--- Hits are fractions, and `is_before` is a strict order of their values (`before_chain`: as directions above the axis).
--- Two apart blockers have no hit in common: if they had, the weighted sums of sides would be 0, so all four ends would
--- lie on one line, or the two would cross there. So of two of them one is in front (`behind`), and being in front passes
--- on (`front_chain`). A list in this order stays so when one is taken out, and when one is put in at the place up to
--- which all are in front of it, which a binary search finds (`can_search`, `placed`).
+-- Hits are fractions, and `is_before` is a strict order of their values (`before_chain`: as directions above the
+-- axis). Two apart blockers have no hit in common: if they had, the weighted sums of sides would be 0, so all four
+-- ends would lie on one line, or the two would cross there. So of two of them one is in front (`behind`), and being in
+-- front passes on (`front_chain`). A list in this order stays so when one is taken out, and when one is put in at the
+-- place up to which all are in front of it, which a binary search finds (`can_search`, `placed`).
 use Rattle.std.proofs.Common.{◌≡◌, ℕ, ◌≤◌, ℤ, ◌+ℤ◌, ◌-ℤ◌, ◌*ℤ◌, ◌<ℤ◌, ◌∙◌, ◌∷◌, pos, arith, sym, List, subst, get_or}
 use Rattle.std.proofs.Common.{length, suc}
 use Rattle.std.proofs.lemmas.Int.{ints, by_lt_z}

@@ -1,12 +1,12 @@
 //! Laws of blockers as they are seen from a station: where a ray meets them, and which of two is in front.
 //!
 //! ```text
-//!      w.to ●───────────────● w.from     A blocker is a wall or a screen, seen by the vectors from the station p to its
-//!                                        ends, the second left of the first. Direction d spans it where its ends are
-//!         v.to ●──────● v.from           strictly on both sides of the ray. A ray hits what it spans. Of two blockers
-//!                ╲                       that d spans and that are apart, v is in front of w by the sides on which the
-//!               d ╲                      ends of each lie from the other: eight cross products, no division, and no d.
-//!                  p
+//!      w.to ●──────────────● w.from     A blocker is a wall or a screen, seen by the vectors from the station p to its
+//!                                       ends, the second left of the first. Direction d spans it where its ends are
+//!        v.to ●──────● v.from           strictly on both sides of the ray. A ray hits what it spans. Of two blockers
+//!               ╲                       that d spans and that are apart, v is in front of w by the sides on which the
+//!              d ╲                      ends of each lie from the other: eight cross products, no division, and no d.
+//!                 p
 //! ```
 //!
 //! So a sweep keeps what is spanned in one order while it turns, and a blocker is put in or taken out by sides alone.

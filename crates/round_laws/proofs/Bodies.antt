@@ -50,7 +50,7 @@ new_where s t up spanned apart = by_lt_z (side_of s t.from) (pos 0)
 
 -- ---- the ends of what is seen
 
-seen_of_number : (p : Point) (blockers : List Segment) (j : ℕ) (t : Seen) → j < length blockers → seen_at p blockers j
+pub seen_of_number : (p : Point) (blockers : List Segment) (j : ℕ) (t : Seen) → j < length blockers → seen_at p blockers j
     ≡ Some t → seen_of p (get_or blockers j nowhere) ≡ Some t
 seen_of_number p blockers j t within h = sym (mapped_at (seen_of p) blockers j nowhere None within) ∙ h
 

@@ -1,10 +1,10 @@
 -- One side decides where the blockers of a corner stand in the list.
 --
--- Let the direction to v span s. If v is strictly behind s, each blocker that begins or ends at v is behind s, and if v
--- is strictly before s, in front of it: the other sides that `is_in_front` asks are fixed by a weighted sum, whose sign is
--- that of v's side. So the blockers that have v behind them come first in the list (`behind_both`), those that end at v
--- stand right after them (`before_ended`, `after_ended`), and what begins at v comes in at the same place: one search by
--- the sign of one side gives both.
+-- Let the direction to v span s. If v is strictly behind s, each blocker that begins or ends at v is behind s, and if
+-- v is strictly before s, in front of it: the other sides that `is_in_front` asks are fixed by a weighted sum, whose
+-- sign is that of v's side. So the blockers that have v behind them come first in the list (`behind_both`), those that
+-- end at v stand right after them (`before_ended`, `after_ended`), and what begins at v comes in at the same place:
+-- one search by the sign of one side gives both.
 use Rattle.std.proofs.Common.{◌≡◌, ℤ, neg_ℤ, ◌+ℤ◌, ◌-ℤ◌, ◌*ℤ◌, ◌<ℤ◌, ◌≤ℤ◌, ◌∙◌, pos, arith, ap, refl, sym}
 use Rattle.std.proofs.lemmas.Int.{ints, by_lt_z}
 use Rattle.std.specs.Ordering.{int_eq}

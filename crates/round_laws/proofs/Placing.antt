@@ -1,5 +1,5 @@
 -- Where walls that begin at a corner stand in the list, and the distance of the corner.
-use Rattle.std.proofs.Common.{◌≡◌, ◌≢◌, ℕ, ◌<◌, ℤ, neg_ℤ, ◌-ℤ◌, ◌*ℤ◌, ◌<ℤ◌, ◌∙◌, pos, arith, ap, sym, subst, nat_lt}
+use Rattle.std.proofs.Common.{◌≤◌, ◌≡◌, ◌≢◌, ℕ, ◌<◌, ℤ, neg_ℤ, ◌-ℤ◌, ◌*ℤ◌, ◌<ℤ◌, ◌∙◌, pos, arith, ap, sym, subst, nat_lt}
 use Rattle.std.proofs.Common.{refl, List, length, get_or}
 use Rattle.std.proofs.lemmas.Int.{ints}
 use Rattle.std.specs.Prelude.{if◌then◌else◌, ◌&&◌, ◌||◌, true, int_lt, cond, Bool, false, not, Option, Some, None}
@@ -22,6 +22,7 @@ use Rattle.turn_laws.specs.Turns.{just_after}
 use Rattle.view_laws.proofs.Lengths.{alike_of, scaled}
 use Rattle.view_laws.specs.Views.{IsAlong, length_of, is_past_first, IsReached}
 use Rattle.turn_laws.specs.Turns.{AreOneWay, same as reached}
+use Rattle.plane_spec.specs.Vectors.{IsDirection}
 use Rattle.turn_laws.specs.Places.{place_of}
 use Rattle.turn_laws.proofs.After.{goes_on, self_way, neither_before}
 use Rattle.turn_laws.proofs.Together.{spans_just_after}
@@ -71,15 +72,15 @@ spans_begun v s v_in v_some b same =
       ends = goes_on s.from v s.to way (self_way v v_some) b.up;
     })
   where
+    equal : (m n : ℕ) → m ≡ n → m ≤ n
+    equal m n h = omega (arith, h)
+
     way : AreOneWay s.from v
     way = neither_before s.from v b.from_some v_some
         (place_tells s.from v b.from_in b.from_some v_in v_some
         ∙ number_not_less (from_place s) (place_of v) (equal (place_of v) (from_place s) (sym same)))
         (place_tells v s.from v_in v_some b.from_in b.from_some
         ∙ number_not_less (place_of v) (from_place s) (equal (from_place s) (place_of v) same))
-
-    equal : (m n : ℕ) → m ≡ n → m ≤ n
-    equal m n h = omega (arith, h)
 
 -- ---- cones
 

@@ -2,11 +2,11 @@
 --
 -- Between two groups no kept blocker begins or ends, so the list, which holds what is open, is what each direction
 -- between spans (`first_between`), and its first is the first of all, since what is left out has a kept blocker before
--- it (`first_without`). That first is what the last sector says of what comes after it; and all corners there are behind
--- it, so nothing else need be said. At a group the list without what ends there is what the group's direction spans
--- (`first_at`): a sector says its first, and the nearest corners. Where the first is the same before, at and after the
--- group, and has all of the group's corners behind it, the sectors so far say what is so, without one more. At the end of
--- the arc the sectors are a view.
+-- it (`first_without`). That first is what the last sector says of what comes after it; and all corners there are
+-- behind it, so nothing else need be said. At a group the list without what ends there is what the group's direction
+-- spans (`first_at`): a sector says its first, and the nearest corners. Where the first is the same before, at and
+-- after the group, and has all of the group's corners behind it, the sectors so far say what is so, without one more.
+-- At the end of the arc the sectors are a view.
 use Rattle.std.proofs.Common.{◌≡◌, ℕ, ◌+◌, ◌<◌, ◌≤◌, ◌==◌, ◌∙◌, [], ◌∷◌, ◌++◌, arith, suc, List, ap, refl, nat_lt, zero}
 use Rattle.std.proofs.Common.{length, get_or, sym, subst}
 use Rattle.std.specs.Option.{option_map}

@@ -2,10 +2,10 @@
 --
 -- A blocker is open just before a place X where it began before X and ends at X or later, round the circle. Three
 -- equations on three numbers say all that the round needs: with no end between two places, what is open at one is open
--- at the other (`open_on`); what is spanned at X is what is open just before X and doesn't end at X (`spanned_of_open`);
--- and what is open just after X is what is spanned at X or begins there (`open_of_spanned`). With the law of places, what
--- is spanned by a direction is what is spanned at its place (`spans_at`). And the first of a list in order that holds
--- exactly what is kept and spanned is the first of what is kept (`first_kept`).
+-- at the other (`open_on`); what is spanned at X is what is open just before X and doesn't end at X
+-- (`spanned_of_open`); and what is open just after X is what is spanned at X or begins there (`open_of_spanned`). With
+-- the law of places, what is spanned by a direction is what is spanned at its place (`spans_at`). And the first of a
+-- list in order that holds exactly what is kept and spanned is the first of what is kept (`first_kept`).
 use Rattle.std.proofs.Common.{◌≡◌, ◌≢◌, ℕ, ◌+◌, ◌<◌, ◌≤◌, ◌==◌, ℤ, ◌<ℤ◌, ◌∙◌, [], ◌∷◌, nat_lt, ap, arith, sym, zero}
 use Rattle.std.proofs.Common.{suc, subst, List, length, get_or, pos}
 use Rattle.std.proofs.lemmas.Int.{ints}

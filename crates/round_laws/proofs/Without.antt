@@ -1,11 +1,11 @@
 -- What may be left out: a blocker with a kept one before it in each direction that spans it, and corners behind one.
 --
 -- Where both ends of w are strictly behind the line of a cover that d spans, the hit of w comes after the cover's
--- (`cover_before`): the difference of the hits is a weighted sum of the two sides. If each blocker that is left out has
--- a kept one before it, the first of the kept ones is the first of all, since a chain of hits ends at it
+-- (`cover_before`): the difference of the hits is a weighted sum of the two sides. If each blocker that is left out
+-- has a kept one before it, the first of the kept ones is the first of all, since a chain of hits ends at it
 -- (`first_without`). A corner behind any spanned blocker is behind the first (`behind_first`), so it changes neither
--- sight nor stops. And what lies strictly on one side of a direction, at both ends, isn't spanned by what is on the other
--- side (`right_of_arc`, `left_of_arc`).
+-- sight nor stops. And what lies strictly on one side of a direction, at both ends, isn't spanned by what is on the
+-- other side (`right_of_arc`, `left_of_arc`).
 use Rattle.std.proofs.Common.{◌≡◌, ℕ, ◌<◌, ℤ, neg_ℤ, ◌+ℤ◌, ◌-ℤ◌, ◌*ℤ◌, ◌<ℤ◌, ◌≤ℤ◌, ◌∙◌, pos, arith, ap, sym, subst}
 use Rattle.std.proofs.Common.{length}
 use Rattle.std.proofs.lemmas.Int.{ints, by_lt_z}

@@ -1,4 +1,5 @@
-//! Laws of the round of a sweep: how a list of walls and screens, changed at each corner on the way round, makes a view.
+//! Laws of the round of a sweep: how a list of walls and screens, changed at each corner on the way round, makes a
+//! view.
 //!
 //! ```text
 //!        begins ╲      ╱ ends       The list holds, from the station outwards, what is open: what began before a place

@@ -1,8 +1,8 @@
 -- The wall or screen that a ray meets first is the number of the first.
 --
--- What a ray hits, it spans (`hit_at`). The first is hit, and each other that is spanned is hit after it. So the first is
--- nearest by the definition, that is, none is hit before it; and no other is nearest, since the first is hit before it.
--- A list that has one element that passes a test finds its number. Where none is spanned, none is hit.
+-- What a ray hits, it spans (`hit_at`). The first is hit, and each other that is spanned is hit after it. So the first
+-- is nearest by the definition, that is, none is hit before it; and no other is nearest, since the first is hit before
+-- it. A list that has one element that passes a test finds its number. Where none is spanned, none is hit.
 use Rattle.std.proofs.Common.{◌≡◌, ◌≢◌, ℕ, ◌+◌, ◌<◌, ◌∙◌, [], ◌∷◌, ap, List, suc, arith, zero, length, get_or, nat_lt}
 use Rattle.std.proofs.Common.{refl, sym, subst}
 use Rattle.std.specs.List.{position_or_len, position, list_any, filter_map, cons_option}

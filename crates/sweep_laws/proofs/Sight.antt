@@ -1,12 +1,12 @@
 -- Sight of a point, by the first of its direction, the nearest corners, and what the station stands on.
 --
--- A segment is blocked where it crosses a wall or screen, where it begins or ends on a wall and leads to its left there,
--- or where a corner is in the way. What is crossed is spanned and has the point behind it; then the first has it behind
--- too, since a hit before another's is before the point (`crossed_by_front`). A wall on which the point lies hides it
--- where it has the station on its left; if it isn't the first, the first has the point behind it anyhow
--- (`hidden_by_front`). A corner that stops the segment is at the station, or strictly between, or on the way back up to
--- the point; of those of one direction the nearest stops it if any does (`before_by_nearest`, `up_to_by_nearest`). What
--- remains begins at the station. The three groups, put together in another order, are the law.
+-- A segment is blocked where it crosses a wall or screen, where it begins or ends on a wall and leads to its left
+-- there, or where a corner is in the way. What is crossed is spanned and has the point behind it; then the first has
+-- it behind too, since a hit before another's is before the point (`crossed_by_front`). A wall on which the point lies
+-- hides it where it has the station on its left; if it isn't the first, the first has the point behind it anyhow
+-- (`hidden_by_front`). A corner that stops the segment is at the station, or strictly between, or on the way back up
+-- to the point; of those of one direction the nearest stops it if any does (`before_by_nearest`, `up_to_by_nearest`).
+-- What remains begins at the station. The three groups, put together in another order, are the law.
 use Rattle.std.proofs.Common.{◌≡◌, ℤ, ℕ, ◌-ℤ◌, ◌*ℤ◌, ◌∙◌, List, pos, arith, ap}
 use Rattle.std.proofs.lemmas.Int.{ints}
 use Rattle.std.specs.List.{list_any}

@@ -1,11 +1,11 @@
 -- How far a ray reaches: up to the first, or to the nearest corner ahead, or not at all.
 --
 -- All parameters at which a ray is stopped are those of walls and screens, of corners, and 0 where it begins on a wall
--- and leads to its left. The least of a list of fractions is told by its value: none of the list is less, and it is not
--- less than some of it (`IsLeastOf`). The least of two lists is the lesser of their least (`least_append`). Of walls and
--- screens the least is the hit of the first; of corners it is the nearest one ahead, or 0 at a corner on which the
--- station stands; of starts it is 0. Two fractions of one value are the same in lowest terms, so it doesn't matter which
--- of them is found.
+-- and leads to its left. The least of a list of fractions is known by its value: none of the list is less, and it is
+-- not less than some of it (`IsLeastOf`). The least of two lists is the lesser of their least (`least_append`). Of
+-- walls and screens the least is the hit of the first; of corners it is the nearest one ahead, or 0 at a corner on
+-- which the station stands; of starts it is 0. Two fractions of one value are the same in lowest terms, so it doesn't
+-- matter which of them is found.
 use Rattle.std.proofs.Common.{◌≡◌, ℤ, ℕ, ◌<◌, ◌+ℤ◌, ◌-ℤ◌, ◌*ℤ◌, ◌<ℤ◌, ◌≤ℤ◌, ◌∙◌, [], ◌∷◌, ◌++◌, ap, refl, List, zero}
 use Rattle.std.proofs.Common.{arith, length, get_or, suc, sym, pos, subst}
 use Rattle.std.proofs.lemmas.Int.{ints}

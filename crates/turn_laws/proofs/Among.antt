@@ -1,7 +1,7 @@
 -- A direction spans a blocker exactly where it comes between the blocker's ends.
 --
 -- `turns_before` compares first the half of the circle in which two directions lie, and within one half their cross
--- product. So eight cases of halves are told apart. Where all three lie in one half, both sides say the same. Else one
+-- product. So eight cases of halves are taken one by one. Where all three lie in one half, both sides say the same. Else one
 -- of the two crosses decides, and the other follows: turned by half a circle, the three lie in one half, where crosses
 -- pass on (`left_of_left`); or all three would turn more than a half, against the positive spread.
 use Rattle.std.proofs.Common.{◌≡◌, ℤ, pos, ◌*ℤ◌, neg_ℤ, ◌<ℤ◌, ap, ◌∙◌, refl, arith, sym}

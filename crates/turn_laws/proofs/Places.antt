@@ -1,10 +1,11 @@
 -- The places of directions tell their order.
 --
--- Within a quarter a direction is a pair of sizes, how far it leads along the quarter's first side and how far along the
--- second, and its part is the second's share of their sum. Shares of two directions that differ, differ by at least one
--- over the product of the sums, at most 800000 each. A part is the floor of the share times 2^40, which is more than
--- that product: so the floor keeps what is less, less (`part_rises`), and what is not more, not more (`part_falls`). A
--- quarter turn is one quarter further; so directions of different quarters are told apart by the quarters alone.
+-- Within a quarter a direction is a pair of sizes, how far it leads along the quarter's first side and how far along
+-- the second, and its part is the second's share of their sum. Shares of two directions that differ, differ by at
+-- least one over the product of the sums, at most 800000 each. A part is the floor of the share times 2^40, which is
+-- more than that product: so the floor keeps what is less, less (`part_rises`), and what is not more, not more
+-- (`part_falls`). A quarter turn is one quarter further; so directions of different quarters differ by the
+-- quarters alone.
 use Rattle.std.proofs.Common.{◌≡◌, ℕ, ◌+◌, ◌-◌, ◌*◌, ◌/◌, ◌<◌, ◌≤◌, ℤ, neg_ℤ, ◌-ℤ◌, ◌*ℤ◌, ◌<ℤ◌, ◌≤ℤ◌, ◌∙◌, arith, subst}
 use Rattle.std.proofs.Common.{nat_lt, sym, pos, refl, negsuc, ap, zero, suc}
 use Rattle.std.proofs.lemmas.Int.{ints, by_lt_z}

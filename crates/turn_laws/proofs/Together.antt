@@ -1,9 +1,9 @@
 -- Where a blocker begins, one direction spans it and all that go on.
 --
--- The direction just after s is (10^12) s and a little left: its cross product with a vector a is 10^12 times that of s
--- and a, plus or less their dot product, which is at most 320000000000. So where s and a aren't in line the cross product
--- decides, as at s; and where a leads in the direction of s, the dot product decides, and the direction is left of a.
--- That is, it spans what begins at s, what goes on there, and nothing that ends there.
+-- The direction just after s is (10^12) s and a little left: its cross product with a vector a is 10^12 times that of
+-- s and a, plus or less their dot product, which is at most 320000000000. So where s and a aren't in line the cross
+-- product decides, as at s; and where a leads in the direction of s, the dot product decides, and the direction is
+-- left of a. That is, it spans what begins at s, what goes on there, and nothing that ends there.
 use Rattle.std.proofs.Common.{◌≡◌, ℤ, pos, neg_ℤ, ◌+ℤ◌, ◌*ℤ◌, ◌<ℤ◌, arith}
 use Rattle.std.proofs.lemmas.Int.{ints}
 use Rattle.std.specs.Prelude.{true}

@@ -9,7 +9,7 @@
 //!   (1,0) is 0    p               goes on there, since no direction of a plan lies between s and it.
 //! ```
 //!
-//! So a sweep sorts numbers, and what is spanned at a place is told by comparing numbers.
+//! So a sweep sorts numbers, and what is spanned at a place is found by comparing numbers.
 //!
 //! A law is a function without parameters and with an empty body, whose contract states it.
 //!

@@ -1,12 +1,12 @@
 -- Sight and the nearest wall by what a view says of one direction.
 --
--- A view says of a direction what is first, as edge and spread, and how far off the nearest corners are. The side of the
--- first comes from edge and spread (`side_is`), so it hides what the first hides, and its number is that of the nearest
--- wall. A distance is that of a corner which is led into, and each such corner is no nearer or behind the first. So the
--- nearest such corner is at that distance; or it is behind the first, and then a point behind that corner is hidden
--- anyhow (`past_hides`), and one before it isn't reached by the corner. Along one direction distances order as dot
--- products do (`Lengths`). So the four parts of the law of sight are answered as the view answers them, but for corners
--- that matter only where the first hides the point already.
+-- A view says of a direction what is first, as edge and spread, and how far off the nearest corners are. The side of
+-- the first comes from edge and spread (`side_is`), so it hides what the first hides, and its number is that of the
+-- nearest wall. A distance is that of a corner which is led into, and each such corner is no nearer or behind the
+-- first. So the nearest such corner is at that distance; or it is behind the first, and then a point behind that
+-- corner is hidden anyhow (`past_hides`), and one before it isn't reached by the corner. Along one direction distances
+-- order as dot products do (`Lengths`). So the four parts of the law of sight are answered as the view answers them,
+-- but for corners that matter only where the first hides the point already.
 use Rattle.std.proofs.Common.{◌≡◌, ℕ, ◌<◌, ◌≤◌, ℤ, ◌+ℤ◌, ◌-ℤ◌, ◌*ℤ◌, ◌<ℤ◌, ◌≤ℤ◌, ◌∙◌, [], ◌∷◌, arith, zero, suc, refl}
 use Rattle.std.proofs.Common.{List, length, get_or, nat_lt, pos, ap, sym, subst}
 use Rattle.std.proofs.lemmas.Int.{ints, by_lt_z}

@@ -1,9 +1,10 @@
 -- How far a ray reaches by what a view says of its direction.
 --
 -- The ray is stopped by the first, by the nearest corner ahead, or at its start. The first's hit is that of edge and
--- spread. The distance of the nearest corner, over that of d, is the corner's parameter in other terms (`corner_same`).
--- Where the nearest corner is behind the first, it is hit after the first, and so is what the view says instead, so that
--- neither changes which of the candidates comes first (`stays_by`). In lowest terms all that has one value is one.
+-- spread. The distance of the nearest corner, over that of d, is the corner's parameter in other terms
+-- (`corner_same`). Where the nearest corner is behind the first, it is hit after the first, and so is what the view
+-- says instead, so that neither changes which of the candidates comes first (`stays_by`). In lowest terms all that has
+-- one value is one.
 use Rattle.std.proofs.Common.{◌≡◌, ℕ, ◌≤◌, ℤ, ◌+ℤ◌, ◌-ℤ◌, ◌*ℤ◌, ◌<ℤ◌, ◌≤ℤ◌, ◌∙◌, arith, ap, refl, pos, sym, List, subst}
 use Rattle.std.proofs.Common.{zero, suc}
 use Rattle.std.proofs.lemmas.Int.{ints, by_lt_z}
