@@ -4,3 +4,4 @@ pub mod Ground
 pub mod Walls
 pub mod Screens
 pub mod Law
+pub mod NoEnds

@@ -1,14 +1,15 @@
--- What a station stands on: the first corner at it, or else a wall through it, or nothing.
-use Rattle.std.specs.Prelude.{ℕ, ◌<◌, ◌≡◌, Bool, true, false, List, length}
+-- What a station stands on: the first corner at it, or else a wall through it, or nothing; and where corners are.
+use Rattle.std.specs.Prelude.{ℕ, ◌<◌, ◌≤◌, ◌≡◌, Bool, true, false, List, length}
 use Rattle.std.specs.List.{list_any}
 use Rattle.std.proofs.Common.{get_or}
 use Rattle.plane_spec.specs.declared.Point.{Point}
 use Rattle.plane_spec.specs.declared.Segment.{Segment}
 use Rattle.plane_spec.specs.declared.Corner as corners
-use Rattle.plane_spec.specs.Vectors.{same_point, vector}
+use Rattle.plane_spec.specs.Vectors.{same_point, vector, IsDirected}
 use Rattle.sight_spec.specs.Scene.{Scene}
 use Rattle.sight_spec.specs.Sight.{is_in_interior}
 use Rattle.front_laws.specs.Seen.{nowhere}
+use Rattle.turn_laws.specs.Places.{place_of}
 use Rattle.sweep_laws.specs.Groups.{no_corner}
 use Rattle.view_laws.specs.declared.view.Ground.{Ground}
 use Rattle.view_laws.specs.declared.view.Ground.TheVariants as grounds
@@ -49,3 +50,9 @@ pub record HasCornerAt (p : Point) (corners : List corners.Corner) (v : Point) :
   pub number : ℕ
   pub within : number < length corners
   pub there : vector p (get_or corners number no_corner).here ≡ v
+
+-- no corner has a place from low up to high, which isn't with them
+abbrev pub IsFreeOfCorners : Point → List corners.Corner → ℕ → ℕ → Type 0
+IsFreeOfCorners p corners low high = (k : ℕ) → k < length corners → IsDirected (vector p (get_or corners k no_corner).here)
+    → low ≤ place_of (vector p (get_or corners k no_corner).here)
+    → place_of (vector p (get_or corners k no_corner).here) < high → ⊥

@@ -14,13 +14,15 @@
 //! |---|---|---|
 //! | [`the_ground_decides_what_begins_blocked`] | one corner, one wall or nothing decides which directions begin blocked | `is_sound`, `scene_of`, `is_in_cone` |
 //! | [`corners_stand_at_the_ends_of_walls`] | at both ends of each wall and screen stands a corner | `scene_of` |
+//! | [`no_wall_ends_where_no_corner_is`] | between places without a corner no wall or screen begins or ends | `scene_of`, `place_of` |
 //! | [`walls_of_a_sound_plan_are_blockers`] | what is seen from a station in range are blockers, apart where one direction spans two | `is_sound`, `scene_of` |
 //!
 //! Definitions: `Grounds`. Proofs cite `proofs/`: `Law`, `Ends`, `Ranges`, `Ground` (two edges with one point in both
-//! interiors), `Walls` (walls and corners by the edges of polygons) and `Screens`.
+//! interiors), `Walls` (walls and corners by the edges of polygons), `Screens` and
+//! `NoEnds`.
 #![tactic(auto)]
 
-ghost use Rattle.std.specs.Prelude.{length, Some, true, ◌<◌, ◌≡◌, ℕ};
+ghost use Rattle.std.specs.Prelude.{Bool, length, Some, true, ◌<◌, ◌≡◌, ◌≤◌, ℕ};
 ghost use Rattle.plane_spec.specs.declared.Point.{Point};
 ghost use Rattle.plane_spec.specs.Vectors.{InRange};
 ghost use Rattle.plan_spec.specs.Accepted.{is_sound};
@@ -30,8 +32,8 @@ ghost use Rattle.front_laws.specs.Seen.{Seen, seen_at};
 ghost use Rattle.sweep_laws.specs.Parts.{begins_blocked};
 ghost use Rattle.view_laws.specs.declared.view.Ground.{Ground};
 ghost use Rattle.view_laws.specs.Views.{is_led_into};
-ghost use Rattle.round_laws.specs.Rounds.{AreWalls};
-ghost use Rattle.station_laws.specs.Grounds.{HasCornerAt, IsGroundOf};
+ghost use Rattle.round_laws.specs.Rounds.{AreWalls, EndNowhere};
+ghost use Rattle.station_laws.specs.Grounds.{HasCornerAt, IsFreeOfCorners, IsGroundOf};
 
 /// What a station stands on, the first corner at it, else a wall through it, else nothing, decides which directions
 /// begin blocked.
@@ -52,4 +54,11 @@ pub fn corners_stand_at_the_ends_of_walls()
 /// one direction spans are apart.
 pub fn walls_of_a_sound_plan_are_blockers()
     ensures { (plan : Plan) (p : Point) → is_sound plan ≡ true → InRange p → AreWalls (scene_of plan) p }
+{}
+
+/// From a station in range, no wall or screen begins or ends at a place from `low` up to `high` if no corner is there.
+pub fn no_wall_ends_where_no_corner_is()
+    ensures { (plan : Plan) (p : Point) (kept : ℕ → Bool) (low high : ℕ) → is_sound plan ≡ true → InRange p
+        → low ≤ high → IsFreeOfCorners p (scene_of plan).corners low high
+        → EndNowhere p (blockers_of_scene (scene_of plan)) kept low high }
 {}
