@@ -4,14 +4,14 @@
 -- the first end of the next one. A polygon that the scene directs the other way has the same points. Both ends of a
 -- screen are corners. So all ends are among the points at which the scene's corners stand, and each of these is an
 -- end.
-use Rattle.std.proofs.Common.{◌≡◌, ℕ, zero, suc, ◌+◌, ◌<◌, ap, refl, sym, ◌∙◌, List, [], ◌∷◌, ◌++◌, arith, subst}
+use Rattle.std.proofs.Common.{◌≡◌, ℕ, zero, suc, ◌<◌, ap, refl, sym, ◌∙◌, List, [], ◌∷◌, ◌++◌, arith, subst}
 use Rattle.std.proofs.Common.{length, get_or}
-use Rattle.std.specs.Prelude.{Bool, true, false, cond, map, ◌&&◌, ◌||◌, Some}
+use Rattle.std.specs.Prelude.{Bool, true, false, cond, map, ◌&&◌, Some}
 use Rattle.plane_spec.specs.Vectors.{vector}
 use Rattle.std.specs.List.{list_any, list_all, flat_map}
 use Rattle.std.proofs.lemmas.Bool.{and_from, and_parts}
 use Rattle.std.proofs.lemmas.List.{map-append}
-use Rattle.std.proofs.lemmas.List.Folds.{list_all-append, list_all-map}
+use Rattle.std.proofs.lemmas.List.Folds.{list_all-append}
 use Rattle.plane_spec.specs.declared.Point.{Point}
 use Rattle.plane_spec.specs.declared.Segment.{Segment}
 use Rattle.plane_spec.specs.declared.Corner.{Corner}
@@ -21,7 +21,7 @@ use Rattle.plane_spec.specs.Vectors.{same_point}
 use Rattle.plane_spec.specs.Polygons.{edges_of, edges_to}
 use Rattle.plan_spec.specs.declared.item.Screen.{Screen}
 use Rattle.plan_spec.specs.Plan.{Obstacle, Plan}
-use Rattle.sight_spec.specs.Scene.{scene_of, blockers_of_scene, oriented_walls, oriented_corners, corners_along}
+use Rattle.sight_spec.specs.Scene.{last_edge, scene_of, blockers_of_scene, oriented_walls, oriented_corners, corners_along}
 use Rattle.sight_spec.specs.Scene.{corners_after, corners_of_obstacle, walls_of_obstacle, ends_of_screen, turned_corner}
 use Rattle.sight_spec.specs.Scene.{turned_edge, has_orientation, segment_of_screen}
 use Rattle.list_laws.proofs.Tests.{list_all_weaker}
@@ -50,7 +50,7 @@ after_here before (e ∷ es) = ap (λ t. e.a ∷ t) (after_here e es)
 
 along_here : (es : List Segment) → map here_of (corners_along es) ≡ map start_of es
 along_here [] = refl
-along_here (e ∷ es) = after_here _ (e ∷ es)
+along_here (e ∷ es) = after_here (last_edge e es) (e ∷ es)
 
 turned_here : (cs : List Corner) → map here_of (map turned_corner cs) ≡ map here_of cs
 turned_here [] = refl

@@ -5,26 +5,22 @@
 -- have none in common, and of two that share a corner and lead from it past one point, one would lie on the other. And
 -- no corner of a polygon is in the interior of a wall, no two are at one point, and no screen touches a wall. So at
 -- most one wall, or the first corner at the station, decides; a screen's end has an empty cone.
-use Rattle.std.proofs.Common.{◌≡◌, ◌≢◌, ◌⊎◌, inl, inr, ℕ, zero, suc, ◌+◌, ◌<◌, ◌≤◌, ℤ, pos, neg_ℤ, ◌<ℤ◌, ◌≤ℤ◌, arith}
-use Rattle.std.proofs.Common.{ap, refl, sym, ◌∙◌, subst, List, [], ◌∷◌, ◌++◌, length, get_or}
-use Rattle.std.specs.Prelude.{Bool, true, false, cond, map, not, ◌&&◌, ◌||◌, int_le, int_lt}
+use Rattle.std.proofs.Common.{◌≡◌, ◌⊎◌, inl, inr, ℤ, pos, neg_ℤ, ◌<ℤ◌, arith}
+use Rattle.std.proofs.Common.{sym, ◌∙◌, subst}
+use Rattle.std.specs.Prelude.{true, false}
 use Rattle.std.specs.Ordering.{int_eq}
-use Rattle.std.specs.List.{list_any, list_all, flat_map}
 use Rattle.std.proofs.lemmas.Int.{ints, by_lt_z}
 use Rattle.std.proofs.lemmas.Bool.{and_from, and_parts}
-use Rattle.std.proofs.lemmas.List.{map-append}
-use Rattle.std.proofs.lemmas.List.Folds.{list_all-append}
 use Rattle.plane_spec.specs.declared.Point.{Point}
-use Rattle.plane_spec.specs.declared.Segment.{Segment}
 use Rattle.plane_spec.specs.Vectors.{vector, cross_of, dot_of, orient_of, same_point}
 use Rattle.plane_spec.specs.Segments.{is_between, is_on_segment, do_touch}
 use Rattle.plane_laws.proofs.Points.Between.{IsBetween, between}
 use Rattle.plane_laws.proofs.Points.Directions.{parallel, some_square, exchanged}
 use Rattle.plane_laws.proofs.Segments.Shared.{on_line_x, on_line_y}
 use Rattle.plane_laws.proofs.Law.{common_point_touches}
-use Rattle.front_laws.proofs.Tests.{by_cases, clash, clash_to, other_of_both, both_true, tested_not}
+use Rattle.front_laws.proofs.Tests.{by_cases, clash, clash_to, other_of_both}
 use Rattle.apart_laws.proofs.Standing.{MayStand, clear, next, prev, segment_turned}
-use Rattle.apart_laws.proofs.Through.{IsWithinOne, ends_off, at_first, at_last}
+use Rattle.apart_laws.proofs.Through.{IsWithinOne}
 
 -- ---- two edges with one point in their interiors
 

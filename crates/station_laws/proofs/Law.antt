@@ -1,29 +1,29 @@
 -- What a station stands on decides which directions begin blocked, as the contract states it.
-use Rattle.std.proofs.Common.{◌≡◌, ◌≢◌, ℕ, ◌+◌, ◌-◌, ◌<◌, ◌≤◌, arith, ap, refl, sym, ◌∙◌, subst, List, [], ◌++◌, length}
+use Rattle.std.proofs.Common.{◌≡◌, ℕ, ◌+◌, ◌-◌, ◌<◌, ◌≤◌, arith, ap, refl, sym, ◌∙◌, subst, List, ◌++◌, length}
 use Rattle.std.proofs.Common.{get_or}
-use Rattle.std.specs.Prelude.{Bool, true, false, map, not, ◌&&◌, ◌||◌}
+use Rattle.std.specs.Prelude.{Bool, true, false, ◌||◌}
 use Rattle.std.specs.List.{list_any, flat_map}
 use Rattle.std.proofs.lemmas.Bool.{and_from, and_parts}
-use Rattle.std.proofs.lemmas.List.{append-assoc, get_or_append_left, get_or-append_right, length-append}
+use Rattle.std.proofs.lemmas.List.{append_assoc, get_or_append_left, get_or-append_right, length-append}
 use Rattle.plane_spec.specs.declared.Point.{Point}
 use Rattle.plane_spec.specs.declared.Segment.{Segment}
 use Rattle.plane_spec.specs.declared.Corner.{Corner}
-use Rattle.plane_spec.specs.Vectors.{vector, same_point, turns_left}
+use Rattle.plane_spec.specs.Vectors.{vector, turns_left}
 use Rattle.plane_spec.specs.Segments.{is_on_segment}
 use Rattle.plane_spec.specs.Cones.{is_in_cone}
 use Rattle.plan_spec.specs.Plan.{Plan}
 use Rattle.plan_spec.specs.Accepted.{is_sound}
-use Rattle.sight_spec.specs.Scene.{scene_of, walls_of, corners_of, ends_of_screen}
+use Rattle.plane_spec.specs.declared.Orientation.TheVariants.{Clockwise}
+use Rattle.sight_spec.specs.Scene.{oriented_corners, corners_of_obstacle, scene_of, walls_of, corners_of, ends_of_screen}
 use Rattle.sight_spec.specs.Sight.{is_in_interior}
 use Rattle.front_laws.specs.Seen.{nowhere}
-use Rattle.front_laws.proofs.Tests.{by_cases, by_lt, clash, clash_to, both_true, mapped_at, never}
+use Rattle.front_laws.proofs.Tests.{by_cases, by_lt, clash, clash_to, mapped_at}
 use Rattle.front_laws.proofs.Lists.{HasPassing, any_at, any_is, some_of}
 use Rattle.apart_laws.proofs.Plans.{points_same, same_length}
 use Rattle.apart_laws.proofs.Through.{IsWithinOne, ends_off, at_first}
 use Rattle.sweep_laws.specs.Groups.{no_corner, is_own}
 use Rattle.sweep_laws.specs.Parts.{leaves_left, begins_blocked}
 use Rattle.view_laws.specs.declared.view.Ground.{Ground}
-use Rattle.view_laws.specs.declared.view.Ground.TheVariants as grounds
 use Rattle.view_laws.specs.Views.{is_led_into}
 use Rattle.station_laws.specs.Grounds.{is_at, IsFirstCorner, IsOnWall, IsAtNoCorner, IsGroundOf, at_corner, on_wall}
 use Rattle.station_laws.specs.Grounds.{on_nothing}
@@ -51,7 +51,8 @@ polygon_at plan k within =
     ∙ mapped_at start_of (polygon_edges plan) k nowhere (nowhere.a) (subst (λ n. k < n) (polygon_many plan) within)
 
 corner_list : (plan : Plan) → corners_of plan ≡ polygon_corners plan ++ flat_map ends_of_screen plan.screens
-corner_list plan = sym (append-assoc _ _ _)
+corner_list plan = sym (append_assoc (oriented_corners Clockwise plan.outer)
+    (flat_map corners_of_obstacle plan.obstacles) (flat_map ends_of_screen plan.screens))
 
 -- the corner of the number is a polygon's, or an end of a screen
 data KindOf (plan : Plan) (k : ℕ) : Type 0 where

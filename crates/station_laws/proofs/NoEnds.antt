@@ -1,15 +1,14 @@
 -- Between two places without a corner no wall or screen begins or ends.
-use Rattle.std.proofs.Common.{◌≡◌, ℕ, ◌<◌, ◌≤◌, arith, ap, sym, ◌∙◌, subst, length, get_or, nat_lt}
-use Rattle.std.specs.Prelude.{Bool, true, false}
+use Rattle.std.proofs.Common.{◌≡◌, ℕ, ◌<◌, ◌≤◌, arith, sym, ◌∙◌, subst, nat_lt}
+use Rattle.std.specs.Prelude.{Bool, true}
 use Rattle.plane_spec.specs.declared.Point.{Point}
-use Rattle.plane_spec.specs.Vectors.{vector, InRange, IsDirected}
+use Rattle.plane_spec.specs.Vectors.{InRange, IsDirected}
 use Rattle.plan_spec.specs.Plan.{Plan}
 use Rattle.plan_spec.specs.Accepted.{is_sound}
 use Rattle.sight_spec.specs.Scene.{scene_of, blockers_of_scene}
 use Rattle.front_laws.proofs.Tests.{by_lt, number_less_tested, number_not_less}
 use Rattle.turn_laws.specs.Places.{place_of}
-use Rattle.sweep_laws.specs.Groups.{no_corner}
-use Rattle.round_laws.specs.Rounds.{EndNowhere, IsBlocker}
+use Rattle.round_laws.specs.Rounds.{EndNowhere}
 use Rattle.station_laws.specs.Grounds.{HasCornerAt, IsFreeOfCorners}
 use Rattle.station_laws.proofs.Ends.{corners_at_ends}
 use Rattle.station_laws.proofs.Ranges.{walls_of_sound}

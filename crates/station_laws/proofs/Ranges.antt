@@ -1,5 +1,5 @@
 -- The walls and screens of a sound plan are in range, so as they are seen from a station they are blockers.
-use Rattle.std.proofs.Common.{◌≡◌, ℕ, zero, suc, ◌+◌, ◌<◌, arith, List, [], ◌∷◌, ◌++◌, length, get_or}
+use Rattle.std.proofs.Common.{◌≡◌, zero, suc, arith, List, [], ◌∷◌, ◌++◌, get_or}
 use Rattle.std.specs.Prelude.{Bool, true, false, cond, map, All}
 use Rattle.std.specs.List.{flat_map}
 use Rattle.plane_spec.specs.declared.Point.{Point}
@@ -9,10 +9,8 @@ use Rattle.plane_spec.specs.declared.Orientation.TheVariants.{Counterclockwise, 
 use Rattle.plane_spec.specs.Vectors.{InRange}
 use Rattle.plane_spec.specs.Segments.{IsSegmentInRange}
 use Rattle.plane_spec.specs.Polygons.{edges_of}
-use Rattle.plan_spec.specs.declared.item.Screen.{Screen}
-use Rattle.plan_spec.specs.Plan.{Obstacle, Plan}
+use Rattle.plan_spec.specs.Plan.{Plan}
 use Rattle.plan_spec.specs.Accepted.{is_sound}
-use Rattle.plan_spec.specs.Ranges.{IsProperSegmentInRange}
 use Rattle.plan_laws.proofs.Ranges.{outer_in_range, obstacles_in_range, sound_screens}
 use Rattle.exact_geom.proofs.Edges.{edges_of-in_range}
 use Rattle.sight_spec.specs.Scene.{scene_of, blockers_of_scene, oriented_walls, walls_of_obstacle, turned_edge}
@@ -29,15 +27,15 @@ in_map P f (x ∷ xs) h zero d lt = h 0 x (omega arith)
 in_map P f (x ∷ xs) h (suc k) d lt = in_map P f xs (λ j e l. h (suc j) e (omega arith)) k d (omega arith)
 
 in_both : {X : Type 0} (P : X → Type 0) (xs ys : List X) → All P xs → All P ys → All P (xs ++ ys)
-in_both P [] ys h g = g
+in_both P [] ys h g k d lt = g k d lt
 in_both P (x ∷ xs) ys h g zero d lt = h 0 x (omega arith)
 in_both P (x ∷ xs) ys h g (suc k) d lt = in_both P xs ys (λ j e l. h (suc j) e (omega arith)) g k d (omega arith)
 
 in_flat : {X Y : Type 0} (P : Y → Type 0) (f : X → List Y) (xs : List X) → All (λ x. All P (f x)) xs
     → All P (flat_map f xs)
 in_flat P f [] h k d lt = absurd (omega arith)
-in_flat P f (x ∷ xs) h = in_both P (f x) (flat_map f xs) (h 0 x (omega arith))
-    (in_flat P f xs (λ j e l. h (suc j) e (omega arith)))
+in_flat P f (x ∷ xs) h k d lt = in_both P (f x) (flat_map f xs) (h 0 x (omega arith))
+    (in_flat P f xs (λ j e l. h (suc j) e (omega arith))) k d lt
 
 -- ---- walls and screens
 

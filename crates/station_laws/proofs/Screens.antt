@@ -1,7 +1,7 @@
 -- The ends of a sound plan's screens: none is on a wall, and the corners there lead into nothing.
-use Rattle.std.proofs.Common.{◌≡◌, ℕ, zero, suc, ◌+◌, ◌<◌, ◌≤◌, ℤ, pos, ◌-ℤ◌, ◌*ℤ◌, arith, ap, refl, sym, ◌∙◌, subst}
-use Rattle.std.proofs.Common.{List, [], ◌∷◌, ◌++◌, length, get_or}
-use Rattle.std.specs.Prelude.{Bool, true, false, cond, map, not, ◌&&◌, ◌||◌, All, int_lt}
+use Rattle.std.proofs.Common.{◌≡◌, ℕ, zero, suc, ◌<◌, ℤ, pos, ◌-ℤ◌, ◌*ℤ◌, arith, ap, refl, ◌∙◌}
+use Rattle.std.proofs.Common.{List, [], ◌∷◌, length, get_or}
+use Rattle.std.specs.Prelude.{Bool, true, false, cond, not, ◌&&◌, ◌||◌, All, int_lt}
 use Rattle.std.specs.List.{list_any, list_all, flat_map}
 use Rattle.std.proofs.lemmas.Int.{ints}
 use Rattle.std.proofs.lemmas.Bool.{and_from, and_parts}
@@ -9,19 +9,18 @@ use Rattle.std.proofs.lemmas.List.Folds.{list_all-append}
 use Rattle.plane_spec.specs.declared.Point.{Point}
 use Rattle.plane_spec.specs.declared.Segment.{Segment}
 use Rattle.plane_spec.specs.declared.Corner.{Corner}
-use Rattle.plane_spec.specs.Vectors.{vector, cross_of, turns_left}
-use Rattle.plane_spec.specs.Segments.{is_on_segment, do_touch}
+use Rattle.plane_spec.specs.Vectors.{vector, turns_left}
+use Rattle.plane_spec.specs.Segments.{cross_properly, is_on_segment, do_touch}
 use Rattle.plane_spec.specs.Polygons.{edges_of, is_inside}
 use Rattle.plane_spec.specs.Cones.{is_in_cone}
 use Rattle.plan_spec.specs.declared.item.Screen.{Screen}
 use Rattle.plan_spec.specs.Plan.{Obstacle, Plan}
 use Rattle.plan_spec.specs.Accepted.{is_sound, is_proper_segment, segment_lies_within, segment_meets_polygon}
 use Rattle.plan_spec.specs.Accepted.{touches_border}
-use Rattle.plan_laws.proofs.Parts.{parts_of_sound, ScreenParts, parts_of_screens}
+use Rattle.plan_laws.proofs.Parts.{parts_of_sound, parts_of_screens}
 use Rattle.sight_spec.specs.Scene.{ends_of_screen, screen_corner}
-use Rattle.list_laws.proofs.Tests.{list_all_weaker}
 use Rattle.front_laws.specs.Seen.{nowhere}
-use Rattle.front_laws.proofs.Tests.{tested_not, neither_first, neither_second, clash}
+use Rattle.front_laws.proofs.Tests.{tested_not, neither_first, neither_second}
 use Rattle.apart_laws.proofs.Plans.{edges_of_obstacle}
 use Rattle.station_laws.proofs.Walls.{polygon_edges}
 
@@ -106,7 +105,9 @@ ends_free c a b z u h = (one c a b z u h, two c a b z u h)
 clear_ends : (s : Screen) (e : Segment) → is_clear s e ≡ true
     → (is_on_segment s.from e.a e.b ≡ false) × (is_on_segment s.to e.a e.b ≡ false)
 unfolding do_touch
-clear_ends s e h = ends_free _ _ _ _ _ (tested_not (do_touch s.from s.to e.a e.b) h)
+clear_ends s e h =
+    ends_free (cross_properly s.from s.to e.a e.b) (is_on_segment s.from e.a e.b) (is_on_segment s.to e.a e.b)
+    (is_on_segment e.a s.from s.to) (is_on_segment e.b s.from s.to) (tested_not (do_touch s.from s.to e.a e.b) h)
 
 -- ---- their corners
 

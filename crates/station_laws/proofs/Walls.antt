@@ -1,9 +1,9 @@
 -- The walls of a sound plan and its polygons' corners, by their edges.
-use Rattle.std.proofs.Common.{◌≡◌, ◌≢◌, ℕ, zero, suc, ◌+◌, ◌-◌, ◌<◌, ◌≤◌, ℤ, pos, arith, ap, refl, sym, ◌∙◌, subst}
+use Rattle.std.proofs.Common.{◌≡◌, ℕ, ◌<◌, ℤ, pos, arith, ap, refl, sym, ◌∙◌, subst}
 use Rattle.std.proofs.Common.{List, [], ◌∷◌, ◌++◌, length, get_or}
-use Rattle.std.specs.Prelude.{Bool, true, false, cond, map, not, ◌&&◌, ◌||◌, int_le}
+use Rattle.std.specs.Prelude.{Bool, true, false, cond, map, not, ◌&&◌, ◌||◌}
 use Rattle.std.specs.Ordering.{int_eq}
-use Rattle.std.specs.List.{list_any, list_all, flat_map}
+use Rattle.std.specs.List.{list_all, flat_map}
 use Rattle.std.proofs.lemmas.Int.{ints}
 use Rattle.std.proofs.lemmas.Bool.{and_from, and_parts}
 use Rattle.std.proofs.lemmas.List.{map-append}
@@ -14,7 +14,7 @@ use Rattle.plane_spec.specs.declared.Corner.{Corner}
 use Rattle.plane_spec.specs.declared.Orientation.{Orientation}
 use Rattle.plane_spec.specs.declared.Orientation.TheVariants.{Counterclockwise, Clockwise}
 use Rattle.plane_spec.specs.Vectors.{orient_of, same_point}
-use Rattle.plane_spec.specs.Segments.{is_between, is_on_segment, do_touch}
+use Rattle.plane_spec.specs.Segments.{cross_properly, is_between, is_on_segment, do_touch}
 use Rattle.plane_spec.specs.Polygons.{edges_of, is_on_edge}
 use Rattle.plan_spec.specs.Plan.{Obstacle, Plan}
 use Rattle.plan_spec.specs.Accepted.{each_two, is_sound}
@@ -170,7 +170,8 @@ pub never_one_start : (u v x y : Point) → MayStand u v x y → u ≡ x → ⊥
 unfolding do_touch
 never_one_start u v x y (clear h) same =
     clash (do_touch u v x y)
-    (touch_at _ (is_on_segment u x y) _ _ _ (subst (λ t. is_on_segment u t y ≡ true) same (start_on u y))) h
+    (touch_at (cross_properly u v x y) (is_on_segment u x y) (is_on_segment v x y) (is_on_segment x u v)
+        (is_on_segment y u v) (subst (λ t. is_on_segment u t y ≡ true) same (start_on u y))) h
 never_one_start u v x y (next e u_off y_off) same =
     clash (is_on_segment u x y) (subst (λ t. is_on_segment u t y ≡ true) same (start_on u y)) u_off
 never_one_start u v x y (prev e x_off v_off) same =
