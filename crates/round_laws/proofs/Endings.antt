@@ -100,7 +100,7 @@ along_stands : (p d x : Point) → IsAlong d (vector p x) → stands_in p d x �
 along_stands p d x a = both_true (int_eq (cross_of d (vector p x)) (pos 0)) (int_lt (pos 0) (dot_of d (vector p x)))
     (zero_tested (cross_of d (vector p x)) a.line) (positive_tested (dot_of d (vector p x)) a.ahead)
 
-along_some : (d v : Point) → IsAlong d v → IsDirected v
+pub along_some : (d v : Point) → IsAlong d v → IsDirected v
 along_some d v a = record {
   somewhere = by_cases (same_point v (point (pos 0) (pos 0)))
       (λ h. absurd (let z = points_zero v h in none d.x d.y v.x v.y z.0 z.1 a.ahead))

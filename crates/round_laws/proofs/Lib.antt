@@ -7,3 +7,4 @@ pub mod Sectors
 pub mod Corners
 pub mod Begun
 pub mod Bodies
+pub mod HiddenBodies

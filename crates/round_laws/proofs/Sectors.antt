@@ -19,10 +19,9 @@ use Rattle.front_laws.proofs.Tests.{number_not_less, number_less_tested, own_num
 use Rattle.front_laws.specs.Seen.{Seen}
 use Rattle.round_laws.proofs.Steps.{held_on, first_between, first_at}
 use Rattle.round_laws.proofs.Without.{first_without}
-use Rattle.round_laws.specs.Kept.{AreCovered}
-use Rattle.round_laws.specs.Rounds.{front_after, AreBlockers, from_place, to_place, EndNowhere, Numbered, HoldsBefore}
+use Rattle.round_laws.specs.Rounds.{front_after, from_place, to_place, EndNowhere, Numbered, HoldsBefore}
 use Rattle.round_laws.specs.Rounds.{first_held, IsRound, HoldsAt, AreWalls, AreCoveredIn, AreHidden}
-use Rattle.sweep_laws.specs.First.{IsFirst, AreAllApart}
+use Rattle.sweep_laws.specs.First.{IsFirst}
 use Rattle.sweep_laws.specs.Groups.{no_corner, is_ahead, is_behind}
 use Rattle.turn_laws.specs.Places.{place_of}
 use Rattle.view_laws.specs.Views.{radial_between, radial_on, radial_by, AreInOrder, is_past_first, IsReached, front_of}

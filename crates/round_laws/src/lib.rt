@@ -24,29 +24,32 @@
 //! | [`the_round_ends_with_a_view`] | once the arc is below the place, the sectors are a view | `IsViewOf` |
 //! | [`the_first_of_the_kept_is_the_first`] | what may be left out | `IsFirst` |
 //! | [`a_corner_behind_a_blocker_is_behind_the_first`] | and which corners | the same |
+//! | [`a_hidden_body_may_be_left_out`] | bodies behind covers in all of their bins | `place_of` |
 //!
 //! Definitions: `Rounds` and `Kept`. Proofs cite `proofs/`: `Sectors` and `Endings` (the steps), `Steps` (what the list
-//! holds), `Edits`, `Begun` (put in and taken out), `Corners`, `Placing` (where), `Without`, `Bodies` (left out).
+//! holds), `Edits`, `Begun` (put in and taken out), `Corners`, `Placing` (where), `Without`, `Bodies`, `HiddenBodies` (left
+//! out).
 #![tactic(auto)]
 
 ghost use Rattle.std.specs.Option.{option_map};
-ghost use Rattle.std.specs.Prelude.{All, Bool, int_lt, length, List, Option, pos, Some, true};
+ghost use Rattle.std.specs.Prelude.{All, Bool, false, int_lt, length, List, Option, pos, Some, true};
 ghost use Rattle.std.specs.Prelude.{[], ◌∷◌, ◌++◌, ◌+◌, ◌<◌, ◌≡◌, ◌≤◌, ℕ};
+ghost use Rattle.std.proofs.Common.{get_or};
 ghost use Rattle.plane_spec.specs.declared.Point.{Point};
-ghost use Rattle.plane_spec.specs.Vectors.{IsDirected, IsDirection};
+ghost use Rattle.plane_spec.specs.Vectors.{IsDirected, IsDirection, vector};
 ghost use Rattle.sight_spec.specs.Scene.{blockers_of_scene, Scene};
 ghost use Rattle.front_laws.specs.Seen.{Seen, seen_at, side_of, spans};
 ghost use Rattle.turn_laws.specs.Places.{place_of};
 ghost use Rattle.sweep_laws.specs.First.{IsFirst};
-ghost use Rattle.sweep_laws.specs.Groups.{is_ahead, is_behind};
+ghost use Rattle.sweep_laws.specs.Groups.{is_ahead, is_behind, no_corner};
 ghost use Rattle.sweep_laws.specs.Parts.{begins_blocked};
 ghost use Rattle.view_laws.specs.declared.view.Arc.{Arc};
 ghost use Rattle.view_laws.specs.declared.view.Front.{Front};
 ghost use Rattle.view_laws.specs.declared.view.Sector.{Sector};
 ghost use Rattle.view_laws.specs.declared.view.View.{View};
 ghost use Rattle.view_laws.specs.Views.{front_of, is_in_arc, is_led_into, is_past_first, IsAlong, IsReached, IsViewOf};
-ghost use Rattle.round_laws.specs.Kept.{AreCovered, IsKeptFirst};
-ghost use Rattle.round_laws.specs.Rounds.{AreCoveredIn, AreHidden, AreWalls, EndNowhere, first_held, HoldsAt};
+ghost use Rattle.round_laws.specs.Kept.{AreCovered, ArePast, IsHiddenPoint, IsHiddenWall, IsKeptFirst};
+ghost use Rattle.round_laws.specs.Rounds.{AreBlockers, AreCoveredIn, AreHidden, AreWalls, EndNowhere, first_held, HoldsAt};
 ghost use Rattle.round_laws.specs.Rounds.{HoldsBefore, IsRound, Numbered};
 
 /// At a place that no direction of the arc comes before, a list that holds what is open there begins a round, and what
@@ -125,4 +128,20 @@ pub fn a_corner_behind_a_blocker_is_behind_the_first()
         → IsFirst scene p d first → IsDirected d → IsAlong d v → k < length (blockers_of_scene scene)
         → seen_at p (blockers_of_scene scene) k ≡ Some cover → spans d cover ≡ true
         → int_lt (side_of cover v) (pos 0) ≡ true → is_past_first first v ≡ true }
+{}
+
+/// Where each wall that is left out joins points of a hidden body, each of them has a kept one before it in every
+/// direction that spans it; and where each corner that is left out is a point of one, it is behind a wall that its
+/// direction spans.
+pub fn a_hidden_body_may_be_left_out()
+    ensures walls { (scene : Scene) (p : Point) (arc : Arc) (kept : ℕ → Bool) → AreBlockers p (blockers_of_scene scene)
+        → ((j : ℕ) (t : Seen) → j < length (blockers_of_scene scene) → kept j ≡ false
+            → seen_at p (blockers_of_scene scene) j ≡ Some t → IsHiddenWall p (blockers_of_scene scene) kept j t)
+        → AreCoveredIn scene p arc kept }
+    ensures corners { (scene : Scene) (p d : Point) (kept corners_kept : ℕ → Bool) → IsDirection d → IsDirected d
+        → AreBlockers p (blockers_of_scene scene)
+        → ((j : ℕ) → j < length scene.corners → IsDirection (vector p (get_or scene.corners j no_corner).here))
+        → ((j : ℕ) → j < length scene.corners → corners_kept j ≡ false
+            → IsHiddenPoint p (blockers_of_scene scene) kept (get_or scene.corners j no_corner).here)
+        → ArePast scene p d corners_kept }
 {}
