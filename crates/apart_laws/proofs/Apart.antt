@@ -44,13 +44,13 @@ back_on_line p d a b c e w_spans v_spans c_on e_on =
     let x_is : side_of w v.from ≡ pos 0 = side_is_orient p a b c ∙ c_on in
     let y_is : side_of w v.to ≡ pos 0 = side_is_orient p a b e ∙ e_on in
     let none = no_sum (cross_of d v.to) (cross_of v.from d) (side_of w v.from) (side_of w v.to)
-        (cross_of w.from w.to *ℤ (cross_of d v.to +ℤ cross_of v.from d))
-        (cross_of v.from v.to *ℤ (cross_of d w.to +ℤ cross_of w.from d)) (sides_are d v w) x_is y_is in
+    (cross_of w.from w.to *ℤ (cross_of d v.to +ℤ cross_of v.from d))
+    (cross_of v.from v.to *ℤ (cross_of d w.to +ℤ cross_of w.from d)) (sides_are d v w) x_is y_is in
     let equal : side_of v w.from ≡ side_of v w.to = equal_of (side_of w v.from) (side_of w v.to) (side_of v w.from)
-        (side_of v w.to) (sides_differ v w) x_is y_is in
+    (side_of v w.to) (sides_differ v w) x_is y_is in
     let zero = zero_weights (cross_of d w.to) (cross_of w.from d) (side_of v w.from) (side_of v w.to)
-        (tested_positive _ w_two.1) (tested_positive _ w_two.0)
-        (sides_are d w v ∙ none) (same_sides (side_of v w.from) (side_of v w.to) equal) in
+    (tested_positive _ w_two.1) (tested_positive _ w_two.0)
+    (sides_are d w v ∙ none) (same_sides (side_of v w.from) (side_of v w.to) equal) in
     (sym (side_is_orient p c e a) ∙ zero.0, sym (side_is_orient p c e b) ∙ zero.1)
   where
     equal_of : (x y z u : ℤ) → y -ℤ x ≡ z -ℤ u → x ≡ pos 0 → y ≡ pos 0 → z ≡ u
@@ -84,15 +84,15 @@ apart_where p d a b c e ab_up ce_up w_spans v_spans uncrossed c_off a_off =
     let z = side_is_orient p c e a in
     let u = side_is_orient p c e b in
     apart_of (side_of w v.from) (side_of w v.to) (side_of v w.from) (side_of v w.to)
-      (rw (x, y, z, u) uncrossed)
-      (by_cases (int_eq (side_of w v.from) (pos 0) && int_eq (side_of w v.to) (pos 0))
-        (λ h. let two = both_of (int_eq (side_of w v.from) (pos 0)) (int_eq (side_of w v.to) (pos 0)) h in
-            let c_on : orient_of a b c ≡ pos 0 = sym x ∙ tested_zero _ two.0 in
-            let e_on : orient_of a b e ≡ pos 0 = sym y ∙ tested_zero _ two.1 in
-            absurd (not_on a b c e (overlap p d a b c e ab_up ce_up (tested_positive _ w_two.0)
-                (tested_positive _ w_two.1) (tested_positive _ v_two.0) (tested_positive _ v_two.1) c_on
-                (back_on_line p d a b c e w_spans v_spans c_on e_on).0) c_off a_off))
-        (λ h. h))
+    (rw (x, y, z, u) uncrossed)
+    (by_cases (int_eq (side_of w v.from) (pos 0) && int_eq (side_of w v.to) (pos 0))
+    (λ h. let two = both_of (int_eq (side_of w v.from) (pos 0)) (int_eq (side_of w v.to) (pos 0)) h in
+    let c_on : orient_of a b c ≡ pos 0 = sym x ∙ tested_zero _ two.0 in
+    let e_on : orient_of a b e ≡ pos 0 = sym y ∙ tested_zero _ two.1 in
+    absurd (not_on a b c e (overlap p d a b c e ab_up ce_up (tested_positive _ w_two.0)
+    (tested_positive _ w_two.1) (tested_positive _ v_two.0) (tested_positive _ v_two.1) c_on
+    (back_on_line p d a b c e w_spans v_spans c_on e_on).0) c_off a_off))
+    (λ h. h))
 
 not_on_end : (a b c e : Point) → EndOnOther a b c e → is_on_segment e a b ≡ false → is_on_segment b c e ≡ false → ⊥
 not_on_end a b c e (last h) f g = clash (is_on_segment e a b) h f
@@ -115,12 +115,12 @@ apart_where_ends p d a b c e ab_up ce_up w_spans v_spans uncrossed e_off b_off =
     let z = side_is_orient p c e a in
     let u = side_is_orient p c e b in
     apart_of (side_of w v.from) (side_of w v.to) (side_of v w.from) (side_of v w.to)
-      (rw (x, y, z, u) uncrossed)
-      (by_cases (int_eq (side_of w v.from) (pos 0) && int_eq (side_of w v.to) (pos 0))
-        (λ h. let two = both_of (int_eq (side_of w v.from) (pos 0)) (int_eq (side_of w v.to) (pos 0)) h in
-            let c_on : orient_of a b c ≡ pos 0 = sym x ∙ tested_zero _ two.0 in
-            let e_on : orient_of a b e ≡ pos 0 = sym y ∙ tested_zero _ two.1 in
-            absurd (not_on_end a b c e (overlap_ends p d a b c e ab_up ce_up (tested_positive _ w_two.0)
-                (tested_positive _ w_two.1) (tested_positive _ v_two.0) (tested_positive _ v_two.1) e_on
-                (back_on_line p d a b c e w_spans v_spans c_on e_on).1) e_off b_off))
-        (λ h. h))
+    (rw (x, y, z, u) uncrossed)
+    (by_cases (int_eq (side_of w v.from) (pos 0) && int_eq (side_of w v.to) (pos 0))
+    (λ h. let two = both_of (int_eq (side_of w v.from) (pos 0)) (int_eq (side_of w v.to) (pos 0)) h in
+    let c_on : orient_of a b c ≡ pos 0 = sym x ∙ tested_zero _ two.0 in
+    let e_on : orient_of a b e ≡ pos 0 = sym y ∙ tested_zero _ two.1 in
+    absurd (not_on_end a b c e (overlap_ends p d a b c e ab_up ce_up (tested_positive _ w_two.0)
+    (tested_positive _ w_two.1) (tested_positive _ v_two.0) (tested_positive _ v_two.1) e_on
+    (back_on_line p d a b c e w_spans v_spans c_on e_on).1) e_off b_off))
+    (λ h. h))

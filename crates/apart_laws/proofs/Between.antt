@@ -25,7 +25,7 @@ use Rattle.front_laws.proofs.Tests.{not_below, same_tested, turned_up}
 weight_diff : (a b c d e f g h i j k l : ℕ) →
     (diff a b *ℤ diff k l -ℤ diff c d *ℤ diff i j) *ℤ diff e f
     ≡ (diff a b *ℤ diff g h -ℤ diff c d *ℤ diff e f) *ℤ diff i
-        j +ℤ (diff e f *ℤ diff k l -ℤ diff g h *ℤ diff i j) *ℤ diff a b
+    j +ℤ (diff e f *ℤ diff k l -ℤ diff g h *ℤ diff i j) *ℤ diff a b
 weight_diff a b c d e f g h i j k l = simp (product_diff, minus_diff, sum_diff) (same_diff _ _ _ _ (omega arith))
 
 weight_x : (ax ay bx by cx cy : ℤ) → (ax *ℤ cy -ℤ ay *ℤ cx) *ℤ bx
@@ -33,12 +33,12 @@ weight_x : (ax ay bx by cx cy : ℤ) → (ax *ℤ cy -ℤ ay *ℤ cx) *ℤ bx
 weight_x ax ay bx by cx cy =
     rw (is_diff ax, is_diff ay, is_diff bx, is_diff by, is_diff cx, is_diff cy)
     (weight_diff (up ax) (down ax) (up ay) (down ay) (up bx) (down bx) (up by) (down by) (up cx) (down cx) (up cy)
-        (down cy))
+    (down cy))
 
 weight_y_diff : (a b c d e f g h i j k l : ℕ) →
     (diff a b *ℤ diff k l -ℤ diff c d *ℤ diff i j) *ℤ diff g h
     ≡ (diff a b *ℤ diff g h -ℤ diff c d *ℤ diff e f) *ℤ diff k
-        l +ℤ (diff e f *ℤ diff k l -ℤ diff g h *ℤ diff i j) *ℤ diff c d
+    l +ℤ (diff e f *ℤ diff k l -ℤ diff g h *ℤ diff i j) *ℤ diff c d
 weight_y_diff a b c d e f g h i j k l = simp (product_diff, minus_diff, sum_diff) (same_diff _ _ _ _ (omega arith))
 
 weight_y : (ax ay bx by cx cy : ℤ) → (ax *ℤ cy -ℤ ay *ℤ cx) *ℤ by
@@ -46,7 +46,7 @@ weight_y : (ax ay bx by cx cy : ℤ) → (ax *ℤ cy -ℤ ay *ℤ cx) *ℤ by
 weight_y ax ay bx by cx cy =
     rw (is_diff ax, is_diff ay, is_diff bx, is_diff by, is_diff cx, is_diff cy)
     (weight_y_diff (up ax) (down ax) (up ay) (down ay) (up bx) (down bx) (up by) (down by) (up cx) (down cx) (up cy)
-        (down cy))
+    (down cy))
 
 -- n c = g e + h s with n = g + h: how far c is from s and from e
 apart_first : (n g h s c e : ℤ) → n *ℤ c ≡ g *ℤ e +ℤ h *ℤ s → n ≡ g +ℤ h → n *ℤ (c -ℤ s) ≡ g *ℤ (e -ℤ s)
@@ -76,21 +76,22 @@ pub between_weights : (n g h s c e : ℤ) → pos 0 <ℤ n → pos 0 ≤ℤ g �
     → n *ℤ (c -ℤ e) ≡ h *ℤ (s -ℤ e) → is_between c s e ≡ true
 between_weights n g h s c e n_up g_up h_up a b =
     by_lt_z e s
-      (λ down. ordered c s e (neg_side (c -ℤ s) (e -ℤ s) n g n_up g_up a (omega (arith, ints)))
-          (pos_side (c -ℤ e) (s -ℤ e) n h n_up h_up b (omega (arith, ints))))
-      (λ upward. rising c s e (pos_side (c -ℤ s) (e -ℤ s) n g n_up g_up a (omega (arith, ints)))
-          (neg_side (c -ℤ e) (s -ℤ e) n h n_up h_up b (omega (arith, ints))))
+    (λ down. ordered c s e (neg_side (c -ℤ s) (e -ℤ s) n g n_up g_up a (omega (arith, ints)))
+    (pos_side (c -ℤ e) (s -ℤ e) n h n_up h_up b (omega (arith, ints))))
+    (λ upward. rising c s e (pos_side (c -ℤ s) (e -ℤ s) n g n_up g_up a (omega (arith, ints)))
+    (neg_side (c -ℤ e) (s -ℤ e) n h n_up h_up b (omega (arith, ints))))
   where
     pos_side : (u w n g : ℤ) → pos 0 <ℤ n → pos 0 ≤ℤ g → n *ℤ u ≡ g *ℤ w → pos 0 ≤ℤ w → pos 0 ≤ℤ u
     pos_side u w n g n_up g_up e w_up = by_lt_z u (pos 0)
         (λ low. let p = positive_product n (neg_ℤ u) n_up (omega (arith, ints, low)) in let m = times_neg n u in
-            let q = not_negative_product g w g_up w_up in absurd (omega (arith, ints, p, m, q, e)))
+        let q = not_negative_product g w g_up w_up in absurd (omega (arith, ints, p, m, q, e)))
         (λ high. high)
+
     neg_side : (u w n g : ℤ) → pos 0 <ℤ n → pos 0 ≤ℤ g → n *ℤ u ≡ g *ℤ w → w ≤ℤ pos 0 → u ≤ℤ pos 0
     neg_side u w n g n_up g_up e w_low = by_lt_z (pos 0) u
         (λ high. let p = positive_product n u n_up high in
-            let q = not_negative_product g (neg_ℤ w) g_up (omega (arith, ints, w_low)) in let m = times_neg g w in
-            absurd (omega (arith, ints, p, m, q, e)))
+        let q = not_negative_product g (neg_ℤ w) g_up (omega (arith, ints, w_low)) in let m = times_neg g w in
+        absurd (omega (arith, ints, p, m, q, e)))
         (λ low. low)
 
 farther : (s c e : ℤ) → is_between c s e ≡ true → s <ℤ c → pos 0 <ℤ (e -ℤ s)
@@ -107,15 +108,15 @@ weight_positive : (n g s c e : ℤ) → pos 0 <ℤ n → n *ℤ (c -ℤ s) ≡ g
     ≡ false → pos 0 <ℤ g
 weight_positive n g s c e n_up w between other =
     by_lt_z s c
-      (λ right. let far : pos 0 <ℤ (e -ℤ s) = farther s c e between right in
-          let p = positive_product n (c -ℤ s) n_up (omega (arith, ints, right)) in
-          positive_factor g (e -ℤ s) (subst (λ t. pos 0 <ℤ t) w p) far)
-      (λ not_right. let left : c <ℤ s = strictly_left s c not_right other in
-          let far : pos 0 <ℤ neg_ℤ (e -ℤ s) = nearer s c e between left in
-          let p = positive_product n (neg_ℤ (c -ℤ s)) n_up (omega (arith, ints, left)) in
-          let m = times_neg n (c -ℤ s) in
-          let k = times_neg g (e -ℤ s) in
-          positive_factor g (neg_ℤ (e -ℤ s)) (omega (arith, ints, p, m, k, w)) far)
+    (λ right. let far : pos 0 <ℤ (e -ℤ s) = farther s c e between right in
+    let p = positive_product n (c -ℤ s) n_up (omega (arith, ints, right)) in
+    positive_factor g (e -ℤ s) (subst (λ t. pos 0 <ℤ t) w p) far)
+    (λ not_right. let left : c <ℤ s = strictly_left s c not_right other in
+    let far : pos 0 <ℤ neg_ℤ (e -ℤ s) = nearer s c e between left in
+    let p = positive_product n (neg_ℤ (c -ℤ s)) n_up (omega (arith, ints, left)) in
+    let m = times_neg n (c -ℤ s) in
+    let k = times_neg g (e -ℤ s) in
+    positive_factor g (neg_ℤ (e -ℤ s)) (omega (arith, ints, p, m, k, w)) far)
 
 -- ---- points of the plane
 
@@ -153,21 +154,21 @@ weights_x : (a b q p : Point) → OnLine a b q p
     (cross_of (vector p q) (vector p b)) a.x q.x b.x
 weights_x a b q p on =
     weights_of (cross_of (vector p a) (vector p b)) (cross_of (vector p a) (vector p q))
-        (cross_of (vector p q) (vector p b)) a.x q.x b.x p.x
-      (weight_x (vector p a).x (vector p a).y (vector p q).x (vector p q).y (vector p b).x (vector p b).y) on.sum
+    (cross_of (vector p q) (vector p b)) a.x q.x b.x p.x
+    (weight_x (vector p a).x (vector p a).y (vector p q).x (vector p q).y (vector p b).x (vector p b).y) on.sum
 
 weights_y : (a b q p : Point) → OnLine a b q p
     → Weights (cross_of (vector p a) (vector p b)) (cross_of (vector p a) (vector p q))
     (cross_of (vector p q) (vector p b)) a.y q.y b.y
 weights_y a b q p on =
     weights_of (cross_of (vector p a) (vector p b)) (cross_of (vector p a) (vector p q))
-        (cross_of (vector p q) (vector p b)) a.y q.y b.y p.y
-      (weight_y (vector p a).x (vector p a).y (vector p q).x (vector p q).y (vector p b).x (vector p b).y) on.sum
+    (cross_of (vector p q) (vector p b)) a.y q.y b.y p.y
+    (weight_y (vector p a).x (vector p a).y (vector p q).x (vector p q).y (vector p b).x (vector p b).y) on.sum
 
 -- a point of the line whose direction lies between those of the ends is on the wall
 pub on_wall : (a b q p : Point) → OnLine a b q p → orient_of a b q ≡ pos 0
     → pos 0 ≤ℤ cross_of (vector p a) (vector p q) → pos 0 ≤ℤ cross_of (vector p q) (vector p b) → is_on_segment q a b
-        ≡ true
+    ≡ true
 unfolding is_on_segment
 on_wall a b q p on line g_up h_up =
     let n = cross_of (vector p a) (vector p b) in
@@ -176,8 +177,8 @@ on_wall a b q p on line g_up h_up =
     let x = weights_x a b q p on in
     let y = weights_y a b q p on in
     all_three _ _ _ (zero_tested _ line)
-      (between_weights n g k a.x q.x b.x on.up g_up h_up x.from_first x.from_second)
-      (between_weights n g k a.y q.y b.y on.up g_up h_up y.from_first y.from_second)
+    (between_weights n g k a.x q.x b.x on.up g_up h_up x.from_first x.from_second)
+    (between_weights n g k a.y q.y b.y on.up g_up h_up y.from_first y.from_second)
 
 -- and back: a point on the wall, other than its first end, has its direction strictly left of that end's
 pub past_first : (a b q p : Point) → OnLine a b q p → is_on_segment q a b ≡ true → same_point q a ≡ false
@@ -192,9 +193,9 @@ past_first a b q p on h other =
     let x = weights_x a b q p on in
     let y = weights_y a b q p on in
     by_cases (int_eq q.x a.x)
-      (λ e. weight_positive n g a.y q.y b.y on.up y.from_first two.1
-          (other_of_both (int_eq q.x a.x) (int_eq q.y a.y) e other))
-      (λ e. weight_positive n g a.x q.x b.x on.up x.from_first two.0 e)
+    (λ e. weight_positive n g a.y q.y b.y on.up y.from_first two.1
+    (other_of_both (int_eq q.x a.x) (int_eq q.y a.y) e other))
+    (λ e. weight_positive n g a.x q.x b.x on.up x.from_first two.0 e)
 
 -- ---- a target on a wall
 
@@ -203,8 +204,8 @@ unfoldable pub faces_where : Point → Point → Segment → Bool
 faces_where p q w =
     int_lt (pos 0) (cross_of (vector p w.a) (vector p w.b))
     && ((int_lt (pos 0) (cross_of (vector p w.a) (vector p q)) && int_lt (pos 0) (cross_of (vector p q) (vector p w.b)))
-        && int_eq ((cross_of (vector p w.a) (vector p w.b) +ℤ cross_of (vector p w.b) (vector p q)) -ℤ cross_of
-            (vector p w.a) (vector p q)) (pos 0))
+    && int_eq ((cross_of (vector p w.a) (vector p w.b) +ℤ cross_of (vector p w.b) (vector p q)) -ℤ cross_of
+    (vector p w.a) (vector p q)) (pos 0))
 
 sum_of_side : (n s t g : ℤ) → s ≡ neg_ℤ t → (n +ℤ s) -ℤ g ≡ pos 0 → n ≡ g +ℤ t
 sum_of_side n s t g e h = omega (arith, ints, e, h)
@@ -230,12 +231,13 @@ past_second a b q p on h other =
     let x = weights_x a b q p on in
     let y = weights_y a b q p on in
     by_cases (int_eq q.x b.x)
-      (λ e. weight_positive n k b.y q.y a.y on.up y.from_second (other_way q.y a.y b.y two.1)
-          (other_of_both (int_eq q.x b.x) (int_eq q.y b.y) e other))
-      (λ e. weight_positive n k b.x q.x a.x on.up x.from_second (other_way q.x a.x b.x two.0) e)
+    (λ e. weight_positive n k b.y q.y a.y on.up y.from_second (other_way q.y a.y b.y two.1)
+    (other_of_both (int_eq q.x b.x) (int_eq q.y b.y) e other))
+    (λ e. weight_positive n k b.x q.x a.x on.up x.from_second (other_way q.x a.x b.x two.0) e)
   where
     or_swap : (a b : Bool) → (a || b) ≡ true → (b || a) ≡ true
     or_swap a b h = grind arith
+
     other_way : (m s e : ℤ) → is_between m s e ≡ true → is_between m e s ≡ true
     other_way m s e = or_swap (int_le s m && int_le m e) (int_le e m && int_le m s)
 
@@ -253,6 +255,7 @@ not_same p q a h = by_cases (same_point q a)
   where
     moved : (x y z : ℤ) → int_eq x y ≡ true → x -ℤ z ≡ y -ℤ z
     moved x y z e = ap (λ t. t -ℤ z) (tested_equal x y e)
+
     none : (x y u v : ℤ) → u ≡ x → v ≡ y → pos 0 <ℤ (x *ℤ v -ℤ y *ℤ u) → ⊥
     none x y u v e f h =
         let k : x *ℤ v ≡ x *ℤ y = ap (λ t. x *ℤ t) f in
@@ -277,33 +280,33 @@ pub leaves_where : (p q : Point) (w : Segment) → starts_into_wall q p w ≡ fa
 unfolding starts_into_wall faces_where
 leaves_where p q w =
     agree (starts_into_wall q p w) (faces_where p q w)
-      (λ h. let all = both_of (is_on_edge q w && (not (same_point q w.a) && not (same_point q w.b)))
-          (int_lt (pos 0) (orient_of w.a w.b p)) h in
-          let one = both_of (is_on_edge q w) (not (same_point q w.a) && not (same_point q w.b)) all.0 in
-          let two = both_of (not (same_point q w.a)) (not (same_point q w.b)) one.1 in
-          let up = subst (λ t. pos 0 <ℤ t) (orient_is_cross w.a w.b p) (tested_positive (orient_of w.a w.b p) all.1) in
-          let line = line_of_segment q w.a w.b one.0 in
-          let on = turn_ends w.a w.b q p up line in
-          four_true (positive_tested _ up) (positive_tested _ (past_first w.a w.b q p on one.0 (false_of two.0)))
-              (positive_tested _ (past_second w.a w.b q p on one.0 (false_of two.1)))
-            (zero_tested _ (sym (orient_is_side w.a w.b q p) ∙ line)))
-      (λ h. let a = vector p w.a in
-          let b = vector p w.b in
-          let d = vector p q in
-          let one = both_of (int_lt (pos 0) (cross_of a b))
-              ((int_lt (pos 0) (cross_of a d) && int_lt (pos 0) (cross_of d b))
-              && int_eq ((cross_of a b +ℤ cross_of b d) -ℤ cross_of a d) (pos 0)) h in
-          let two = both_of (int_lt (pos 0) (cross_of a d) && int_lt (pos 0) (cross_of d b))
-              (int_eq ((cross_of a b +ℤ cross_of b d) -ℤ cross_of a d) (pos 0)) one.1 in
-          let three = both_of (int_lt (pos 0) (cross_of a d)) (int_lt (pos 0) (cross_of d b)) two.0 in
-          let up = tested_positive (cross_of a b) one.0 in
-          let line : orient_of w.a w.b q ≡ pos 0 = orient_is_side w.a w.b q p ∙ tested_zero _ two.1 in
-          let on = turn_ends w.a w.b q p up line in
-          let first = tested_positive (cross_of a d) three.0 in
-          let last = tested_positive (cross_of d b) three.1 in
-          chain_true (on_wall w.a w.b q p on line (not_below _ first) (not_below _ last))
-            (not_true_of (not_same p q w.a first)) (not_true_of (not_same_end p q w.b last))
-            (positive_tested _ (subst (λ t. pos 0 <ℤ t) (sym (orient_is_cross w.a w.b p)) up)))
+    (λ h. let all = both_of (is_on_edge q w && (not (same_point q w.a) && not (same_point q w.b)))
+    (int_lt (pos 0) (orient_of w.a w.b p)) h in
+    let one = both_of (is_on_edge q w) (not (same_point q w.a) && not (same_point q w.b)) all.0 in
+    let two = both_of (not (same_point q w.a)) (not (same_point q w.b)) one.1 in
+    let up = subst (λ t. pos 0 <ℤ t) (orient_is_cross w.a w.b p) (tested_positive (orient_of w.a w.b p) all.1) in
+    let line = line_of_segment q w.a w.b one.0 in
+    let on = turn_ends w.a w.b q p up line in
+    four_true (positive_tested _ up) (positive_tested _ (past_first w.a w.b q p on one.0 (false_of two.0)))
+    (positive_tested _ (past_second w.a w.b q p on one.0 (false_of two.1)))
+    (zero_tested _ (sym (orient_is_side w.a w.b q p) ∙ line)))
+    (λ h. let a = vector p w.a in
+    let b = vector p w.b in
+    let d = vector p q in
+    let one = both_of (int_lt (pos 0) (cross_of a b))
+    ((int_lt (pos 0) (cross_of a d) && int_lt (pos 0) (cross_of d b))
+    && int_eq ((cross_of a b +ℤ cross_of b d) -ℤ cross_of a d) (pos 0)) h in
+    let two = both_of (int_lt (pos 0) (cross_of a d) && int_lt (pos 0) (cross_of d b))
+    (int_eq ((cross_of a b +ℤ cross_of b d) -ℤ cross_of a d) (pos 0)) one.1 in
+    let three = both_of (int_lt (pos 0) (cross_of a d)) (int_lt (pos 0) (cross_of d b)) two.0 in
+    let up = tested_positive (cross_of a b) one.0 in
+    let line : orient_of w.a w.b q ≡ pos 0 = orient_is_side w.a w.b q p ∙ tested_zero _ two.1 in
+    let on = turn_ends w.a w.b q p up line in
+    let first = tested_positive (cross_of a d) three.0 in
+    let last = tested_positive (cross_of d b) three.1 in
+    chain_true (on_wall w.a w.b q p on line (not_below _ first) (not_below _ last))
+    (not_true_of (not_same p q w.a first)) (not_true_of (not_same_end p q w.b last))
+    (positive_tested _ (subst (λ t. pos 0 <ℤ t) (sym (orient_is_cross w.a w.b p)) up)))
   where
     not_same_end : (p q b : Point) → pos 0 <ℤ cross_of (vector p q) (vector p b) → same_point q b ≡ false
     not_same_end p q b h = by_cases (same_point q b)
@@ -311,8 +314,10 @@ leaves_where p q w =
       where
         eq_swap : (x y : ℤ) → int_eq x y ≡ true → int_eq y x ≡ true
         eq_swap x y h = subst (λ t. int_eq t x ≡ true) (tested_equal x y h) (same_tested x)
+
         both_swap : {a b : Bool} → a ≡ true → b ≡ true → (a && b) ≡ true
         both_swap {a} {b} h k = grind arith
+
         swap : same_point q b ≡ true → same_point b q ≡ true
         swap e = both_swap (eq_swap q.x b.x (both_of (int_eq q.x b.x) (int_eq q.y b.y) e).0)
             (eq_swap q.y b.y (both_of (int_eq q.x b.x) (int_eq q.y b.y) e).1)
@@ -339,11 +344,11 @@ pub before_end : (a b c d : Point) → pos 0 <ℤ cross_of a b → pos 0 <ℤ cr
     → pos 0 <ℤ cross_of c d → pos 0 ≤ℤ cross_of a c → pos 0 <ℤ cross_of c b
 before_end a b c d ab ad db cd ac =
     more_up (cross_of a b) (cross_of c d) (cross_of c b) (cross_of a d) (cross_of a c) (cross_of d b)
-      (subst (λ t. cross_of a b *ℤ cross_of c d +ℤ cross_of a c *ℤ t ≡ cross_of c b *ℤ cross_of a d)
-          (sym (cross_of_exchanged b d))
-        (swap_products (cross_of a b) (cross_of c d) (cross_of a d) (cross_of b c) (cross_of a c) (cross_of b d)
-            (cross_of c b) (four_of a b c d) (cross_of_exchanged b c)))
-      ab cd ac db ad
+    (subst (λ t. cross_of a b *ℤ cross_of c d +ℤ cross_of a c *ℤ t ≡ cross_of c b *ℤ cross_of a d)
+    (sym (cross_of_exchanged b d))
+    (swap_products (cross_of a b) (cross_of c d) (cross_of a d) (cross_of b c) (cross_of a c) (cross_of b d)
+    (cross_of c b) (four_of a b c d) (cross_of_exchanged b c)))
+    ab cd ac db ad
 
 pub data OneOnOther (a b c e : Point) : Type 0 where
   third : is_on_segment c a b ≡ true → OneOnOther a b c e
@@ -353,13 +358,13 @@ pub data OneOnOther (a b c e : Point) : Type 0 where
 pub overlap : (p d a b c e : Point) → pos 0 <ℤ cross_of (vector p a) (vector p b)
     → pos 0 <ℤ cross_of (vector p c) (vector p e)
     → pos 0 <ℤ cross_of (vector p a) d → pos 0 <ℤ cross_of d (vector p b) → pos 0 <ℤ cross_of (vector p c) d
-        → pos 0 <ℤ cross_of d (vector p e)
+    → pos 0 <ℤ cross_of d (vector p e)
     → orient_of a b c ≡ pos 0 → orient_of c e a ≡ pos 0 → OneOnOther a b c e
 overlap p d a b c e ab_up ce_up ad db cd de line other_line =
     by_lt_z (cross_of (vector p a) (vector p c)) (pos 0)
-      (λ low. let ca : pos 0 ≤ℤ cross_of (vector p c) (vector p a) = turned_up _ _
-          (cross_of_exchanged (vector p a) (vector p c)) low in
-          first (on_wall c e a p (turn_ends c e a p ce_up other_line) other_line ca
-            (not_below _ (before_end (vector p c) (vector p e) (vector p a) d ce_up cd de ad ca))))
-      (λ high. third (on_wall a b c p (turn_ends a b c p ab_up line) line high
-            (not_below _ (before_end (vector p a) (vector p b) (vector p c) d ab_up ad db cd high))))
+    (λ low. let ca : pos 0 ≤ℤ cross_of (vector p c) (vector p a) = turned_up _ _
+    (cross_of_exchanged (vector p a) (vector p c)) low in
+    first (on_wall c e a p (turn_ends c e a p ce_up other_line) other_line ca
+    (not_below _ (before_end (vector p c) (vector p e) (vector p a) d ce_up cd de ad ca))))
+    (λ high. third (on_wall a b c p (turn_ends a b c p ab_up line) line high
+    (not_below _ (before_end (vector p a) (vector p b) (vector p c) d ab_up ad db cd high))))

@@ -25,9 +25,9 @@ after_start : (a b e d : Point) → pos 0 <ℤ cross_of a b → pos 0 <ℤ cross
     → pos 0 <ℤ cross_of d e → pos 0 ≤ℤ cross_of e b → pos 0 <ℤ cross_of a e
 after_start a b e d ab ad db de eb =
     positive_as _ _ (sym (mirrored e a))
-      (before_end (mirror b) (mirror a) (mirror e) (mirror d)
-        (positive_as _ _ (mirrored b a) ab) (positive_as _ _ (mirrored b d) db) (positive_as _ _ (mirrored d a) ad)
-            (positive_as _ _ (mirrored e d) de) (least_as _ _ (mirrored b e) eb))
+    (before_end (mirror b) (mirror a) (mirror e) (mirror d)
+    (positive_as _ _ (mirrored b a) ab) (positive_as _ _ (mirrored b d) db) (positive_as _ _ (mirrored d a) ad)
+    (positive_as _ _ (mirrored e d) de) (least_as _ _ (mirrored b e) eb))
 
 pub data EndOnOther (a b c e : Point) : Type 0 where
   last : is_on_segment e a b ≡ true → EndOnOther a b c e
@@ -37,13 +37,13 @@ pub data EndOnOther (a b c e : Point) : Type 0 where
 pub overlap_ends : (p d a b c e : Point) → pos 0 <ℤ cross_of (vector p a) (vector p b)
     → pos 0 <ℤ cross_of (vector p c) (vector p e)
     → pos 0 <ℤ cross_of (vector p a) d → pos 0 <ℤ cross_of d (vector p b) → pos 0 <ℤ cross_of (vector p c) d
-        → pos 0 <ℤ cross_of d (vector p e)
+    → pos 0 <ℤ cross_of d (vector p e)
     → orient_of a b e ≡ pos 0 → orient_of c e b ≡ pos 0 → EndOnOther a b c e
 overlap_ends p d a b c e ab_up ce_up ad db cd de line other_line =
     by_lt_z (cross_of (vector p e) (vector p b)) (pos 0)
-      (λ low. let be : pos 0 ≤ℤ cross_of (vector p b) (vector p e) = turned_up _ _
-          (cross_of_exchanged (vector p e) (vector p b)) low in
-          own (on_wall c e b p (turn_ends c e b p ce_up other_line) other_line
-            (not_below _ (after_start (vector p c) (vector p e) (vector p b) d ce_up cd de db be)) be))
-      (λ high. last (on_wall a b e p (turn_ends a b e p ab_up line) line
-            (not_below _ (after_start (vector p a) (vector p b) (vector p e) d ab_up ad db de high)) high))
+    (λ low. let be : pos 0 ≤ℤ cross_of (vector p b) (vector p e) = turned_up _ _
+    (cross_of_exchanged (vector p e) (vector p b)) low in
+    own (on_wall c e b p (turn_ends c e b p ce_up other_line) other_line
+    (not_below _ (after_start (vector p c) (vector p e) (vector p b) d ce_up cd de db be)) be))
+    (λ high. last (on_wall a b e p (turn_ends a b e p ab_up line) line
+    (not_below _ (after_start (vector p a) (vector p b) (vector p e) d ab_up ad db de high)) high))

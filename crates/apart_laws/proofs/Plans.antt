@@ -65,7 +65,7 @@ within_outer : (outer points : List Point) → lies_within outer points ≡ true
 unfolding lies_within
 within_outer outer points h =
     clear_beside (edges_of outer) (edges_of points)
-        (tested_not _ (and_parts (list_all (λ p. is_inside p outer) points) (not (borders_touch outer points)) h).1)
+    (tested_not _ (and_parts (list_all (λ p. is_inside p outer) points) (not (borders_touch outer points)) h).1)
 
 each_apart : (o q : Obstacle) → obstacles_apart o q ≡ true → stand_beside (edges_of_obstacle o) (edges_of_obstacle q)
     ≡ true
@@ -73,7 +73,7 @@ unfolding polygons_meet
 each_apart o q h =
     let a = tested_not _ (and_parts (not (polygons_meet o.points q.points)) (not (bytes_eq o.name q.name)) h).0 in
     let b = neither_of (borders_touch o.points q.points)
-        (list_any (λ p. is_inside p q.points) o.points || list_any (λ p. is_inside p o.points) q.points) a in
+    (list_any (λ p. is_inside p q.points) o.points || list_any (λ p. is_inside p o.points) q.points) a in
     clear_beside (edges_of o.points) (edges_of q.points) b.0
 
 each_two_weaker : {X : Type 0} (r q : X → X → Bool) → ((x y : X) → r x y ≡ true → q x y ≡ true) → (xs : List X)
@@ -82,26 +82,27 @@ each_two_weaker r q f [] h = refl
 each_two_weaker r q f (x ∷ xs) h =
     let parts = and_parts (list_all (r x) xs) (each_two r xs) (sym (each_two_cons r x xs) ∙ h) in
     each_two_cons q x xs ∙ and_from (list_all (q x) xs) (each_two q xs) (list_all_weaker (r x) (q x) (f x) xs parts.0)
-        (each_two_weaker r q f xs parts.1)
+    (each_two_weaker r q f xs parts.1)
 
-pub obstacle_edges : (plan : Plan) → ObstacleParts plan → each_two stands (flat_map edges_of_obstacle plan.obstacles) ≡ true
+pub obstacle_edges : (plan : Plan) → ObstacleParts plan
+    → each_two stands (flat_map edges_of_obstacle plan.obstacles) ≡ true
 obstacle_edges plan parts =
     each_two_each edges_of_obstacle plan.obstacles
-      (list_all_weaker (λ o. is_polygon o.points && lies_within plan.outer o.points)
-          (λ o. each_two stands (edges_of_obstacle o))
-        (λ o h. own_edges o.points (and_parts (is_polygon o.points) (lies_within plan.outer o.points) h).0)
-            plan.obstacles parts.polygons)
-      (each_two_weaker obstacles_apart (λ o q. stand_beside (edges_of_obstacle o) (edges_of_obstacle q)) each_apart
-          plan.obstacles parts.apart)
+    (list_all_weaker (λ o. is_polygon o.points && lies_within plan.outer o.points)
+    (λ o. each_two stands (edges_of_obstacle o))
+    (λ o h. own_edges o.points (and_parts (is_polygon o.points) (lies_within plan.outer o.points) h).0)
+    plan.obstacles parts.polygons)
+    (each_two_weaker obstacles_apart (λ o q. stand_beside (edges_of_obstacle o) (edges_of_obstacle q)) each_apart
+    plan.obstacles parts.apart)
 
 pub outer_beside_obstacles : (plan : Plan) → ObstacleParts plan
     → stand_beside (edges_of plan.outer) (flat_map edges_of_obstacle plan.obstacles) ≡ true
 outer_beside_obstacles plan parts =
     beside_each edges_of_obstacle (edges_of plan.outer) plan.obstacles
-      (list_all_weaker (λ o. is_polygon o.points && lies_within plan.outer o.points)
-          (λ o. stand_beside (edges_of plan.outer) (edges_of_obstacle o))
-        (λ o h. within_outer plan.outer o.points
-            (and_parts (is_polygon o.points) (lies_within plan.outer o.points) h).1) plan.obstacles parts.polygons)
+    (list_all_weaker (λ o. is_polygon o.points && lies_within plan.outer o.points)
+    (λ o. stand_beside (edges_of plan.outer) (edges_of_obstacle o))
+    (λ o h. within_outer plan.outer o.points
+    (and_parts (is_polygon o.points) (lies_within plan.outer o.points) h).1) plan.obstacles parts.polygons)
 
 -- ---- the screens
 
@@ -120,11 +121,11 @@ outer_beside_screens : (plan : Plan) → ScreenParts plan
     → stand_beside (edges_of plan.outer) (map segment_of_screen plan.screens) ≡ true
 outer_beside_screens plan parts =
     beside_by_columns (edges_of plan.outer) (map segment_of_screen plan.screens)
-      (mapped_all (λ f. list_all (λ e. stands e f) (edges_of plan.outer)) plan.screens
-        (list_all_weaker (λ s. is_proper_segment s.from s.to && segment_lies_within plan.outer s.from s.to)
-            (λ s. list_all (λ e. stands e (segment_of_screen s)) (edges_of plan.outer))
-          (λ s h. screen_within plan.outer s (and_parts (is_proper_segment s.from s.to)
-              (segment_lies_within plan.outer s.from s.to) h).1) plan.screens parts.lines))
+    (mapped_all (λ f. list_all (λ e. stands e f) (edges_of plan.outer)) plan.screens
+    (list_all_weaker (λ s. is_proper_segment s.from s.to && segment_lies_within plan.outer s.from s.to)
+    (λ s. list_all (λ e. stands e (segment_of_screen s)) (edges_of plan.outer))
+    (λ s h. screen_within plan.outer s (and_parts (is_proper_segment s.from s.to)
+    (segment_lies_within plan.outer s.from s.to) h).1) plan.screens parts.lines))
 
 clear_of_obstacle : (s : Screen) (o : Obstacle) → segment_meets_polygon s.from s.to o.points ≡ false
     → list_all (λ e. stands e (segment_of_screen s)) (edges_of_obstacle o) ≡ true
@@ -138,39 +139,39 @@ clear_of_obstacles : (s : Screen) (os : List Obstacle) → list_any (λ o. segme
 clear_of_obstacles s [] h = refl
 clear_of_obstacles s (o ∷ os) h =
     let parts = neither_of (segment_meets_polygon s.from s.to o.points)
-        (list_any (λ o. segment_meets_polygon s.from s.to o.points) os) h in
+    (list_any (λ o. segment_meets_polygon s.from s.to o.points) os) h in
     list_all-append (λ e. stands e (segment_of_screen s)) (edges_of_obstacle o) (flat_map edges_of_obstacle os)
     ∙ and_from (list_all (λ e. stands e (segment_of_screen s)) (edges_of_obstacle o))
-        (list_all (λ e. stands e (segment_of_screen s)) (flat_map edges_of_obstacle os))
-        (clear_of_obstacle s o parts.0) (clear_of_obstacles s os parts.1)
+    (list_all (λ e. stands e (segment_of_screen s)) (flat_map edges_of_obstacle os))
+    (clear_of_obstacle s o parts.0) (clear_of_obstacles s os parts.1)
 
 obstacles_beside_screens : (plan : Plan) → ScreenParts plan
     → stand_beside (flat_map edges_of_obstacle plan.obstacles) (map segment_of_screen plan.screens) ≡ true
 obstacles_beside_screens plan parts =
     beside_by_columns (flat_map edges_of_obstacle plan.obstacles) (map segment_of_screen plan.screens)
-      (mapped_all (λ f. list_all (λ e. stands e f) (flat_map edges_of_obstacle plan.obstacles)) plan.screens
-        (list_all_weaker (λ s. not (list_any (λ o. segment_meets_polygon s.from s.to o.points) plan.obstacles))
-            (λ s. list_all (λ e. stands e (segment_of_screen s)) (flat_map edges_of_obstacle plan.obstacles))
-          (λ s h. clear_of_obstacles s plan.obstacles (tested_not _ h)) plan.screens parts.clear))
+    (mapped_all (λ f. list_all (λ e. stands e f) (flat_map edges_of_obstacle plan.obstacles)) plan.screens
+    (list_all_weaker (λ s. not (list_any (λ o. segment_meets_polygon s.from s.to o.points) plan.obstacles))
+    (λ s. list_all (λ e. stands e (segment_of_screen s)) (flat_map edges_of_obstacle plan.obstacles))
+    (λ s h. clear_of_obstacles s plan.obstacles (tested_not _ h)) plan.screens parts.clear))
 
 mapped_two : (screens : List Screen) → each_two (λ s t. stands (segment_of_screen s) (segment_of_screen t)) screens
     ≡ true → each_two stands (map segment_of_screen screens) ≡ true
 mapped_two [] h = refl
 mapped_two (s ∷ screens) h =
     let parts = and_parts (list_all (λ t. stands (segment_of_screen s) (segment_of_screen t)) screens)
-        (each_two (λ s t. stands (segment_of_screen s) (segment_of_screen t)) screens)
-        (sym (each_two_cons (λ s t. stands (segment_of_screen s) (segment_of_screen t)) s screens) ∙ h) in
+    (each_two (λ s t. stands (segment_of_screen s) (segment_of_screen t)) screens)
+    (sym (each_two_cons (λ s t. stands (segment_of_screen s) (segment_of_screen t)) s screens) ∙ h) in
     each_two_cons stands (segment_of_screen s) (map segment_of_screen screens)
     ∙ and_from (list_all (stands (segment_of_screen s)) (map segment_of_screen screens))
-        (each_two stands (map segment_of_screen screens))
-        (mapped_all (stands (segment_of_screen s)) screens parts.0) (mapped_two screens parts.1)
+    (each_two stands (map segment_of_screen screens))
+    (mapped_all (stands (segment_of_screen s)) screens parts.0) (mapped_two screens parts.1)
 
 own_screens : (plan : Plan) → ScreenParts plan → each_two stands (map segment_of_screen plan.screens) ≡ true
 own_screens plan parts =
     mapped_two plan.screens (each_two_weaker screens_apart (λ s t. stands (segment_of_screen s) (segment_of_screen t))
-      (λ s t h. clear_stands (segment_of_screen s) (segment_of_screen t)
-          (tested_not _ (and_parts (not (do_touch s.from s.to t.from t.to)) (not (bytes_eq s.name t.name)) h).0))
-          plan.screens parts.apart)
+    (λ s t h. clear_stands (segment_of_screen s) (segment_of_screen t)
+    (tested_not _ (and_parts (not (do_touch s.from s.to t.from t.to)) (not (bytes_eq s.name t.name)) h).0))
+    plan.screens parts.apart)
 
 -- each two edges of an accepted plan may stand beside each other
 pub plan_stands : (plan : Plan) → is_sound plan ≡ true → each_two stands (edges_of_plan plan) ≡ true
@@ -179,13 +180,13 @@ plan_stands plan sound =
     let obstacles = parts_of_obstacles plan parts.obstacles in
     let screens = parts_of_screens plan parts.screens in
     each_two_join (edges_of plan.outer ++ flat_map edges_of_obstacle plan.obstacles)
-        (map segment_of_screen plan.screens)
-      (each_two_join (edges_of plan.outer) (flat_map edges_of_obstacle plan.obstacles)
-          (own_edges plan.outer parts.outer) (obstacle_edges plan obstacles) (outer_beside_obstacles plan obstacles))
-      (own_screens plan screens)
-      (beside_join_first (edges_of plan.outer) (flat_map edges_of_obstacle plan.obstacles)
-          (map segment_of_screen plan.screens) (outer_beside_screens plan screens)
-          (obstacles_beside_screens plan screens))
+    (map segment_of_screen plan.screens)
+    (each_two_join (edges_of plan.outer) (flat_map edges_of_obstacle plan.obstacles)
+    (own_edges plan.outer parts.outer) (obstacle_edges plan obstacles) (outer_beside_obstacles plan obstacles))
+    (own_screens plan screens)
+    (beside_join_first (edges_of plan.outer) (flat_map edges_of_obstacle plan.obstacles)
+    (map segment_of_screen plan.screens) (outer_beside_screens plan screens)
+    (obstacles_beside_screens plan screens))
 
 -- ---- as they are seen
 
@@ -207,15 +208,17 @@ seen_turned p e =
     let a : Seen = record { from = vector p e.a; to = vector p e.b } in
     let b : Seen = record { from = vector p e.b; to = vector p e.a } in
     ap (λ t. cond t (Some b) (cond (int_lt m (pos 0)) (Some a) None))
-        (up_down n m (cross_of_exchanged (vector p e.a) (vector p e.b)))
+    (up_down n m (cross_of_exchanged (vector p e.a) (vector p e.b)))
     ∙ ap (λ t. cond (int_lt n (pos 0)) (Some b) (cond t (Some a) None))
-        (down_up n m (cross_of_exchanged (vector p e.a) (vector p e.b)))
+    (down_up n m (cross_of_exchanged (vector p e.a) (vector p e.b)))
     ∙ either_order (int_lt (pos 0) n) (int_lt n (pos 0)) b a (one_way n)
   where
     up_down : (n m : ℤ) → m ≡ neg_ℤ n → int_lt (pos 0) m ≡ int_lt n (pos 0)
     up_down n m h = grind (arith, ints)
+
     down_up : (n m : ℤ) → m ≡ neg_ℤ n → int_lt m (pos 0) ≡ int_lt (pos 0) n
     down_up n m h = grind (arith, ints)
+
     one_way : (n : ℤ) → int_lt (pos 0) n ≡ true → int_lt n (pos 0) ≡ false
     one_way n h = grind (arith, ints)
 
@@ -249,10 +252,10 @@ plan_seen p plan =
     let screens = map segment_of_screen plan.screens in
     map-append (seen_of p) (oriented_walls Clockwise plan.outer ++ flat_map walls_of_obstacle plan.obstacles) screens
     ∙ ap (λ t. t ++ map (seen_of p) screens)
-        (map-append (seen_of p) (oriented_walls Clockwise plan.outer) (flat_map walls_of_obstacle plan.obstacles)
-        ∙ ap (λ t. t ++ map (seen_of p) (flat_map walls_of_obstacle plan.obstacles)) (round_seen p Clockwise plan.outer)
-        ∙ ap (λ t. map (seen_of p) (edges_of plan.outer) ++ t) (obstacles_seen p plan.obstacles)
-        ∙ sym (map-append (seen_of p) (edges_of plan.outer) (flat_map edges_of_obstacle plan.obstacles)))
+    (map-append (seen_of p) (oriented_walls Clockwise plan.outer) (flat_map walls_of_obstacle plan.obstacles)
+    ∙ ap (λ t. t ++ map (seen_of p) (flat_map walls_of_obstacle plan.obstacles)) (round_seen p Clockwise plan.outer)
+    ∙ ap (λ t. map (seen_of p) (edges_of plan.outer) ++ t) (obstacles_seen p plan.obstacles)
+    ∙ sym (map-append (seen_of p) (edges_of plan.outer) (flat_map edges_of_obstacle plan.obstacles)))
     ∙ sym (map-append (seen_of p) (edges_of plan.outer ++ flat_map edges_of_obstacle plan.obstacles) screens)
 
 -- ---- by their numbers
@@ -290,12 +293,12 @@ stand_cases true false b h f g k = k h
 pub may_of : (e f : Segment) → stands e f ≡ true → MayStand e.a e.b f.a f.b
 may_of e f h =
     stand_cases (edges_touch e f) (follows e f) (follows f e) h (λ t. clear t)
-      (λ t. let parts = and_parts (same_point e.b f.a) (not (folds_back e f)) t in
-          let off = neither_of (is_on_segment e.a f.a f.b) (is_on_segment f.b e.a e.b) (tested_not _ parts.1) in
-          next (points_same e.b f.a parts.0) off.0 off.1)
-      (λ t. let parts = and_parts (same_point f.b e.a) (not (folds_back f e)) t in
-          let off = neither_of (is_on_segment f.a e.a e.b) (is_on_segment e.b f.a f.b) (tested_not _ parts.1) in
-          prev (points_same f.b e.a parts.0) off.0 off.1)
+    (λ t. let parts = and_parts (same_point e.b f.a) (not (folds_back e f)) t in
+    let off = neither_of (is_on_segment e.a f.a f.b) (is_on_segment f.b e.a e.b) (tested_not _ parts.1) in
+    next (points_same e.b f.a parts.0) off.0 off.1)
+    (λ t. let parts = and_parts (same_point f.b e.a) (not (folds_back f e)) t in
+    let off = neither_of (is_on_segment f.a e.a e.b) (is_on_segment e.b f.a f.b) (tested_not _ parts.1) in
+    prev (points_same f.b e.a parts.0) off.0 off.1)
 
 nowhere : Segment
 nowhere = record { a = point (pos 0) (pos 0); b = point (pos 0) (pos 0) }
@@ -304,20 +307,20 @@ nowhere = record { a = point (pos 0) (pos 0); b = point (pos 0) (pos 0) }
 pub blockers_apart : (plan : Plan) (p d : Point) (i j : ℕ) (s t : Seen) → is_sound plan ≡ true → i < j
     → j < length (blockers_of_scene (scene_of plan))
     → get_or (map (seen_of p) (blockers_of_scene (scene_of plan))) i None ≡ Some s
-        → get_or (map (seen_of p) (blockers_of_scene (scene_of plan))) j None ≡ Some t
+    → get_or (map (seen_of p) (blockers_of_scene (scene_of plan))) j None ≡ Some t
     → spans d s ≡ true → spans d t ≡ true → BothApart s t
 blockers_apart plan p d i j s t sound lt within s_is t_is s_spans t_spans =
     let edges = edges_of_plan plan in
     let e = get_or edges i nowhere in
     let f = get_or edges j nowhere in
     let many : length (blockers_of_scene (scene_of plan))
-        ≡ length edges = sym (same_length (seen_of p) (blockers_of_scene (scene_of plan)))
-        ∙ ap length (plan_seen p plan) ∙ same_length (seen_of p) edges in
+    ≡ length edges = sym (same_length (seen_of p) (blockers_of_scene (scene_of plan)))
+    ∙ ap length (plan_seen p plan) ∙ same_length (seen_of p) edges in
     let j_in : j < length edges = subst (λ n. j < n) many within in
     let i_in : i < length edges = omega (arith, lt, j_in) in
     let e_is : seen_of p e ≡ Some s = sym (mapped_at (seen_of p) edges i nowhere None i_in)
-        ∙ ap (λ xs. get_or xs i None) (sym (plan_seen p plan)) ∙ s_is in
+    ∙ ap (λ xs. get_or xs i None) (sym (plan_seen p plan)) ∙ s_is in
     let f_is : seen_of p f ≡ Some t = sym (mapped_at (seen_of p) edges j nowhere None j_in)
-        ∙ ap (λ xs. get_or xs j None) (sym (plan_seen p plan)) ∙ t_is in
+    ∙ ap (λ xs. get_or xs j None) (sym (plan_seen p plan)) ∙ t_is in
     standing_apart p d e.a e.b f.a f.b s t (may_of e f (two_at stands edges i j nowhere (plan_stands plan sound) lt
-        j_in)) (ways_of p e s e_is) (ways_of p f t f_is) s_spans t_spans
+    j_in)) (ways_of p e s e_is) (ways_of p f t f_is) s_spans t_spans

@@ -44,9 +44,9 @@ pub ways_of : (p : Point) (e : Segment) (s : Seen) → seen_of p e ≡ Some s �
 unfolding seen_of
 ways_of p e s h =
     split (int_lt (pos 0) (cross_of (vector p e.a) (vector p e.b)))
-        (int_lt (cross_of (vector p e.a) (vector p e.b)) (pos 0)) (seen_from p e.a e.b) (seen_from p e.b e.a) s h
-      (λ n w. ahead (tested_positive _ n) w)
-      (λ m w. back (back_up _ _ (cross_of_exchanged (vector p e.a) (vector p e.b)) m) w)
+    (int_lt (cross_of (vector p e.a) (vector p e.b)) (pos 0)) (seen_from p e.a e.b) (seen_from p e.b e.a) s h
+    (λ n w. ahead (tested_positive _ n) w)
+    (λ m w. back (back_up _ _ (cross_of_exchanged (vector p e.a) (vector p e.b)) m) w)
 
 -- ---- the facts of two edges ab and ce
 
@@ -110,11 +110,11 @@ pub segment_turned : (q a b : Point) → is_on_segment q b a ≡ is_on_segment q
 unfolding is_on_segment
 segment_turned q a b =
     ap (λ t. t && (is_between q.x b.x a.x && is_between q.y b.y a.y))
-        (zero_turned (orient_of a b q) (orient_of b a q) (orient_of_first_exchanged a b q))
+    (zero_turned (orient_of a b q) (orient_of b a q) (orient_of_first_exchanged a b q))
     ∙ ap (λ t. int_eq (orient_of a b q) (pos 0) && (t && is_between q.y b.y a.y))
-        (or_comm (int_le b.x q.x && int_le q.x a.x) (int_le a.x q.x && int_le q.x b.x))
+    (or_comm (int_le b.x q.x && int_le q.x a.x) (int_le a.x q.x && int_le q.x b.x))
     ∙ ap (λ t. int_eq (orient_of a b q) (pos 0) && (is_between q.x a.x b.x && t))
-        (or_comm (int_le b.y q.y && int_le q.y a.y) (int_le a.y q.y && int_le q.y b.y))
+    (or_comm (int_le b.y q.y && int_le q.y a.y) (int_le a.y q.y && int_le q.y b.y))
 
 flip_first : (x y z u v w : ℤ) → v ≡ neg_ℤ x → w ≡ neg_ℤ y → (are_opposite x y && are_opposite z u) ≡ false
     → (are_opposite v w && are_opposite u z) ≡ false
@@ -160,19 +160,19 @@ clear_apart : (p d a b c e : Point) (s t : Seen) → NotTouching a b c e → Way
     → spans d t ≡ true → BothApart s t
 clear_apart p d a b c e s t n (ahead ab v) (ahead ce w) =
     as_seen d s t (seen_from p a b) (seen_from p c e) v w
-        (λ h k. both_apart p d a b c e ab ce h k n.crossing (firsts n.c_off n.a_off))
+    (λ h k. both_apart p d a b c e ab ce h k n.crossing (firsts n.c_off n.a_off))
 clear_apart p d a b c e s t n (back ab v) (ahead ce w) =
     let m = first_turned a b c e n in
-        as_seen d s t (seen_from p b a) (seen_from p c e) v w
-        (λ h k. both_apart p d b a c e ab ce h k m.crossing (firsts m.c_off m.a_off))
+    as_seen d s t (seen_from p b a) (seen_from p c e) v w
+    (λ h k. both_apart p d b a c e ab ce h k m.crossing (firsts m.c_off m.a_off))
 clear_apart p d a b c e s t n (ahead ab v) (back ce w) =
     let m = second_turned a b c e n in
-        as_seen d s t (seen_from p a b) (seen_from p e c) v w
-        (λ h k. both_apart p d a b e c ab ce h k m.crossing (firsts m.c_off m.a_off))
+    as_seen d s t (seen_from p a b) (seen_from p e c) v w
+    (λ h k. both_apart p d a b e c ab ce h k m.crossing (firsts m.c_off m.a_off))
 clear_apart p d a b c e s t n (back ab v) (back ce w) =
     let m = second_turned b a c e (first_turned a b c e n) in
-        as_seen d s t (seen_from p b a) (seen_from p e c) v w
-        (λ h k. both_apart p d b a e c ab ce h k m.crossing (firsts m.c_off m.a_off))
+    as_seen d s t (seen_from p b a) (seen_from p e c) v w
+    (λ h k. both_apart p d b a e c ab ce h k m.crossing (firsts m.c_off m.a_off))
 
 own_opposite : (z : ℤ) → z ≡ neg_ℤ z → z ≡ pos 0
 own_opposite z h = omega (arith, ints, h)
@@ -209,18 +209,18 @@ next_apart : (p d u v y : Point) (s t : Seen) → is_on_segment u v y ≡ false 
     → Ways p u v s → Ways p v y t → spans d s ≡ true → spans d t ≡ true → BothApart s t
 next_apart p d u v y s t u_off y_off (ahead ab i) (ahead ce j) =
     as_seen d s t (seen_from p u v) (seen_from p v y) i j
-        (λ h k. not_both d (vector p v) (spans_to d (seen_from p u v) h) (spans_from d (seen_from p v y) k))
+    (λ h k. not_both d (vector p v) (spans_to d (seen_from p u v) h) (spans_from d (seen_from p v y) k))
 next_apart p d u v y s t u_off y_off (ahead ab i) (back ce j) =
     as_seen d s t (seen_from p u v) (seen_from p y v) i j (λ h k. both_apart p d u v y v ab ce h k
-      (none_opposite_last (orient_of u v y) (orient_of u v v) (orient_of y v u) (orient_of y v v) (twin_last u v))
-          (firsts y_off (segment_turned u v y ∙ u_off)))
+    (none_opposite_last (orient_of u v y) (orient_of u v v) (orient_of y v u) (orient_of y v v) (twin_last u v))
+    (firsts y_off (segment_turned u v y ∙ u_off)))
 next_apart p d u v y s t u_off y_off (back ab i) (ahead ce j) =
     as_seen d s t (seen_from p v u) (seen_from p v y) i j (λ h k. both_apart p d v u v y ab ce h k
-      (none_opposite_first (orient_of v u v) (orient_of v u y) (orient_of v y v) (orient_of v y u) (twin_ends v u))
-          (lasts (segment_turned y u v ∙ y_off) u_off))
+    (none_opposite_first (orient_of v u v) (orient_of v u y) (orient_of v y v) (orient_of v y u) (twin_ends v u))
+    (lasts (segment_turned y u v ∙ y_off) u_off))
 next_apart p d u v y s t u_off y_off (back ab i) (back ce j) =
     as_seen d s t (seen_from p v u) (seen_from p y v) i j
-        (λ h k. not_both d (vector p v) (spans_to d (seen_from p y v) k) (spans_from d (seen_from p v u) h))
+    (λ h k. not_both d (vector p v) (spans_to d (seen_from p y v) k) (spans_from d (seen_from p v u) h))
 
 apart_swapped : (s t : Seen) → BothApart s t → BothApart t s
 apart_swapped s t b = record { first = b.second; second = b.first }
@@ -231,14 +231,14 @@ pub standing_apart : (p d u v x y : Point) (s t : Seen) → MayStand u v x y →
 standing_apart p d u v x y s t (clear h) v_s v_t = clear_apart p d u v x y s t (untouched u v x y h) v_s v_t
 standing_apart p d u v x y s t (next e u_off y_off) v_s v_t =
     let at : (z : Point) → v ≡ z → is_on_segment u z y ≡ false → Ways p z y t → spans d s ≡ true → spans d t ≡ true
-        → BothApart s t =
-        λ z same off w. next_apart p d u v y s t (subst (λ k. is_on_segment u k y ≡ false) (sym same) off) y_off v_s
-            (subst (λ k. Ways p k y t) (sym same) w) in
+    → BothApart s t =
+    λ z same off w. next_apart p d u v y s t (subst (λ k. is_on_segment u k y ≡ false) (sym same) off) y_off v_s
+    (subst (λ k. Ways p k y t) (sym same) w) in
     at x e u_off v_t
 standing_apart p d u v x y s t (prev e x_off v_off) v_s v_t =
     let at : (z : Point) → y ≡ z → is_on_segment x z v ≡ false → Ways p z v s → spans d s ≡ true → spans d t ≡ true
-        → BothApart s t =
-        λ z same off w h k. apart_swapped t s (next_apart p d x y v t s
-            (subst (λ k. is_on_segment x k v ≡ false) (sym same) off) v_off v_t
-            (subst (λ k. Ways p k v s) (sym same) w) k h) in
+    → BothApart s t =
+    λ z same off w h k. apart_swapped t s (next_apart p d x y v t s
+    (subst (λ k. is_on_segment x k v ≡ false) (sym same) off) v_off v_t
+    (subst (λ k. Ways p k v s) (sym same) w) k h) in
     at u e x_off v_s

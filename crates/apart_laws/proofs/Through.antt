@@ -55,7 +55,7 @@ of_leaves c p w h =
 faces_by : (p c : Point) (w : Segment) → int_lt (pos 0) (cross_of (vector p w.a) (vector p w.b)) ≡ true
     → spans (vector p c) (record { from = vector p w.a; to = vector p w.b }) ≡ true
     → int_eq (side_of (record { from = vector p w.a; to = vector p w.b }) (vector p c)) (pos 0) ≡ true
-        → faces_where p c w ≡ true
+    → faces_where p c w ≡ true
 unfolding faces_where
 faces_by p c w up spanned on = both_true _ _ up (both_true _ _ spanned on)
 
@@ -70,22 +70,22 @@ passes_at p c f s h spanned on =
     let a = vector p f.a in let b = vector p f.b in
     by_cases (int_lt (pos 0) (cross_of a b))
     (λ k. let e = some_same (record { from = a; to = b }) s
-        (sym (ap (λ t. cond t (Some (record { from = a; to = b }))
-        (cond (int_lt (cross_of a b) (pos 0)) (Some (record { from = b; to = a })) None)) k) ∙ h) in
+    (sym (ap (λ t. cond t (Some (record { from = a; to = b }))
+    (cond (int_lt (cross_of a b) (pos 0)) (Some (record { from = b; to = a })) None)) k) ∙ h) in
     of_leaves c p f (leaves_where p c f ∙ faces_by p c f k (subst (λ t. spans (vector p c) t ≡ true) (sym e) spanned)
-        (subst (λ t. int_eq (side_of t (vector p c)) (pos 0) ≡ true) (sym e) on)))
+    (subst (λ t. int_eq (side_of t (vector p c)) (pos 0) ≡ true) (sym e) on)))
     (λ k. by_cases (int_lt (cross_of a b) (pos 0))
     (λ l. let e = some_same (record { from = b; to = a }) s
-        (sym (ap (λ t. cond t (Some (record { from = a; to = b }))
-        (cond (int_lt (cross_of a b) (pos 0)) (Some (record { from = b; to = a })) None)) k
-        ∙ ap (λ t. cond t (Some (record { from = b; to = a })) None) l) ∙ h) in
+    (sym (ap (λ t. cond t (Some (record { from = a; to = b }))
+    (cond (int_lt (cross_of a b) (pos 0)) (Some (record { from = b; to = a })) None)) k
+    ∙ ap (λ t. cond t (Some (record { from = b; to = a })) None) l) ∙ h) in
     let w : Segment = record { a = f.b; b = f.a } in
     turned_on c f.b f.a (of_leaves c p w (leaves_where p c w
-        ∙ faces_by p c w (turned a b l) (subst (λ t. spans (vector p c) t ≡ true) (sym e) spanned)
-        (subst (λ t. int_eq (side_of t (vector p c)) (pos 0) ≡ true) (sym e) on))))
+    ∙ faces_by p c w (turned a b l) (subst (λ t. spans (vector p c) t ≡ true) (sym e) spanned)
+    (subst (λ t. int_eq (side_of t (vector p c)) (pos 0) ≡ true) (sym e) on))))
     (λ l. none_some s (sym (ap (λ t. cond t (Some (record { from = a; to = b }))
-        (cond (int_lt (cross_of a b) (pos 0)) (Some (record { from = b; to = a })) None)) k
-        ∙ ap (λ t. cond t (Some (record { from = b; to = a })) None) l) ∙ h)))
+    (cond (int_lt (cross_of a b) (pos 0)) (Some (record { from = b; to = a })) None)) k
+    ∙ ap (λ t. cond t (Some (record { from = b; to = a })) None) l) ∙ h)))
   where
     turned : (a b : Point) → int_lt (cross_of a b) (pos 0) ≡ true → int_lt (pos 0) (cross_of b a) ≡ true
     turned a b h = positive_tested (cross_of b a) (omega (arith, ints, h))
@@ -123,15 +123,18 @@ pub ends_off : (u v x y : Point) → MayStand u v x y → ((IsWithinOne u x y �
 unfolding do_touch
 ends_off u v x y (clear h) =
     let n = none_of (cross_properly u v x y) (is_on_segment u x y) (is_on_segment v x y) (is_on_segment x u v)
-        (is_on_segment y u v) h in
-    (((λ w. clash_to (is_on_segment u x y) w.on n.0), (λ w. clash_to (is_on_segment v x y) w.on n.1.0)),
-        ((λ w. clash_to (is_on_segment x u v) w.on n.1.1.0), (λ w. clash_to (is_on_segment y u v) w.on n.1.1.1)))
-ends_off u v x y (next e off off_too) =
-    (((λ w. clash_to (is_on_segment u x y) w.on off), (λ w. at_first v x y e w)),
-        ((λ w. at_last x u v (sym e) w), (λ w. clash_to (is_on_segment y u v) w.on off_too)))
-ends_off u v x y (prev e off off_too) =
-    (((λ w. at_last u x y (sym e) w), (λ w. clash_to (is_on_segment v x y) w.on off_too)),
-        ((λ w. clash_to (is_on_segment x u v) w.on off), (λ w. at_first y u v e w)))
+    (is_on_segment y u v) h in (
+      ((λ w. clash_to (is_on_segment u x y) w.on n.0), (λ w. clash_to (is_on_segment v x y) w.on n.1.0)),
+      ((λ w. clash_to (is_on_segment x u v) w.on n.1.1.0), (λ w. clash_to (is_on_segment y u v) w.on n.1.1.1)),
+    )
+ends_off u v x y (next e off off_too) = (
+  ((λ w. clash_to (is_on_segment u x y) w.on off), (λ w. at_first v x y e w)),
+  ((λ w. at_last x u v (sym e) w), (λ w. clash_to (is_on_segment y u v) w.on off_too)),
+)
+ends_off u v x y (prev e off off_too) = (
+  ((λ w. at_last u x y (sym e) w), (λ w. clash_to (is_on_segment v x y) w.on off_too)),
+  ((λ w. clash_to (is_on_segment x u v) w.on off), (λ w. at_first y u v e w)),
+)
 
 -- the ends are the vectors to the wall's ends, in one order or the other
 pub by_ends : (P : Point → Type 0) (p : Point) (w : Segment) (t : Seen) → P (vector p w.a) → P (vector p w.b)
@@ -141,16 +144,16 @@ by_ends P p w t first last h =
     let a = vector p w.a in let b = vector p w.b in
     by_cases (int_lt (pos 0) (cross_of a b))
     (λ k. subst (λ s. (P s.from) × (P s.to)) (some_same (record { from = a; to = b }) t
-        (sym (ap (λ t. cond t (Some (record { from = a; to = b }))
-        (cond (int_lt (cross_of a b) (pos 0)) (Some (record { from = b; to = a })) None)) k) ∙ h)) (first, last))
+    (sym (ap (λ t. cond t (Some (record { from = a; to = b }))
+    (cond (int_lt (cross_of a b) (pos 0)) (Some (record { from = b; to = a })) None)) k) ∙ h)) (first, last))
     (λ k. by_cases (int_lt (cross_of a b) (pos 0))
     (λ l. subst (λ s. (P s.from) × (P s.to)) (some_same (record { from = b; to = a }) t
-        (sym (ap (λ t. cond t (Some (record { from = a; to = b }))
-        (cond (int_lt (cross_of a b) (pos 0)) (Some (record { from = b; to = a })) None)) k
-        ∙ ap (λ t. cond t (Some (record { from = b; to = a })) None) l) ∙ h)) (last, first))
+    (sym (ap (λ t. cond t (Some (record { from = a; to = b }))
+    (cond (int_lt (cross_of a b) (pos 0)) (Some (record { from = b; to = a })) None)) k
+    ∙ ap (λ t. cond t (Some (record { from = b; to = a })) None) l) ∙ h)) (last, first))
     (λ l. none_some t (sym (ap (λ t. cond t (Some (record { from = a; to = b }))
-        (cond (int_lt (cross_of a b) (pos 0)) (Some (record { from = b; to = a })) None)) k
-        ∙ ap (λ t. cond t (Some (record { from = b; to = a })) None) l) ∙ h)))
+    (cond (int_lt (cross_of a b) (pos 0)) (Some (record { from = b; to = a })) None)) k
+    ∙ ap (λ t. cond t (Some (record { from = b; to = a })) None) l) ∙ h)))
 
 -- ---- of a plan
 
@@ -158,13 +161,13 @@ by_ends P p w t first last h =
 pub none_through : (plan : Plan) (p : Point) (i j : ℕ) (s t : Seen) → is_sound plan ≡ true → i ≢ j
     → i < length (blockers_of_scene (scene_of plan)) → j < length (blockers_of_scene (scene_of plan))
     → seen_at p (blockers_of_scene (scene_of plan)) i ≡ Some s → seen_at p (blockers_of_scene (scene_of plan)) j
-        ≡ Some t
+    ≡ Some t
     → (spans t.from s ≡ true → int_eq (side_of s t.from) (pos 0) ≡ true → ⊥)
-        × (spans t.to s ≡ true → int_eq (side_of s t.to) (pos 0) ≡ true → ⊥)
+    × (spans t.to s ≡ true → int_eq (side_of s t.to) (pos 0) ≡ true → ⊥)
 none_through plan p i j s t sound other i_lt j_lt s_is t_is =
     by_ends (λ v. spans v s ≡ true → int_eq (side_of s v) (pos 0) ≡ true → ⊥) p f t
     (λ spanned on. off.0 (passes_at p f.a e s e_is spanned on))
-        (λ spanned on. off.1 (passes_at p f.b e s e_is spanned on)) f_is
+    (λ spanned on. off.1 (passes_at p f.b e s e_is spanned on)) f_is
   where
     many : length (blockers_of_scene (scene_of plan)) ≡ length (edges_of_plan plan)
     many = sym (same_length (seen_of p) (blockers_of_scene (scene_of plan))) ∙ ap length (plan_seen p plan)
@@ -193,9 +196,9 @@ none_through plan p i j s t sound other i_lt j_lt s_is t_is =
     off : (IsWithinOne f.a e.a e.b → ⊥) × (IsWithinOne f.b e.a e.b → ⊥)
     off = by_lt i j
         (λ lt. (ends_off e.a e.b f.a f.b (may_of e f (two_at stands (edges_of_plan plan) i j nowhere
-            (plan_stands plan sound) lt j_in))).1)
+        (plan_stands plan sound) lt j_in))).1)
         (λ ge. (ends_off f.a f.b e.a e.b (may_of f e (two_at stands (edges_of_plan plan) j i nowhere
-            (plan_stands plan sound) (below ge) i_in))).0)
+        (plan_stands plan sound) (below ge) i_in))).0)
       where
         below : j ≤ i → j < i
         below ge = by_lt j i (λ lt. lt) (λ le. absurd (other (omega (arith, ge, le))))

@@ -54,37 +54,37 @@ hit_up : (n x y u : ℤ) → pos 0 <ℤ n → u ≡ neg_ℤ x → hit_by n x y
 unfolding hit_by
 hit_up n x y u n_up e = by_cases (int_lt (pos 0) u && int_lt (pos 0) y)
     (λ h. let d_up : pos 0 <ℤ (y -ℤ x) = grind (arith, ints) in
-        let r = ratio_up n (y -ℤ x) d_up in
-        let c : (are_opposite x y && int_lt (pos 0) (fraction n (y -ℤ x)).num) ≡ true = rw r (grind (arith, ints)) in
-        pick _ _ _ c ∙ ap Some r ∙ same_ratio n n (y -ℤ x) (y +ℤ u) refl (omega (arith, ints)) ∙ sym (pick _ _ _ h))
+    let r = ratio_up n (y -ℤ x) d_up in
+    let c : (are_opposite x y && int_lt (pos 0) (fraction n (y -ℤ x)).num) ≡ true = rw r (grind (arith, ints)) in
+    pick _ _ _ c ∙ ap Some r ∙ same_ratio n n (y -ℤ x) (y +ℤ u) refl (omega (arith, ints)) ∙ sym (pick _ _ _ h))
     (λ h. let c : (are_opposite x y && int_lt (pos 0) (fraction n (y -ℤ x)).num) ≡ false =
-              by_lt_z (pos 0) (y -ℤ x)
-                (λ p. rw (ratio_up n (y -ℤ x) p) (grind (arith, ints)))
-                (λ q. rw (ratio_down n (y -ℤ x) q) (grind (arith, ints))) in
-        skip _ _ _ c ∙ sym (skip _ _ _ h))
+    by_lt_z (pos 0) (y -ℤ x)
+    (λ p. rw (ratio_up n (y -ℤ x) p) (grind (arith, ints)))
+    (λ q. rw (ratio_down n (y -ℤ x) q) (grind (arith, ints))) in
+    skip _ _ _ c ∙ sym (skip _ _ _ h))
 
 hit_down : (n x y v m : ℤ) → n <ℤ pos 0 → v ≡ neg_ℤ y → m ≡ neg_ℤ n → hit_by n x y
     ≡ (if int_lt (pos 0) v && int_lt (pos 0) x then Some (record { num = m; den = x +ℤ v }) else None)
 unfolding hit_by
 hit_down n x y v m n_down e f = by_cases (int_lt (pos 0) v && int_lt (pos 0) x)
     (λ h. let d_down : (y -ℤ x) ≤ℤ pos 0 = grind (arith, ints) in
-        let r = ratio_down n (y -ℤ x) d_down in
-        let c : (are_opposite x y && int_lt (pos 0) (fraction n (y -ℤ x)).num) ≡ true = rw r (grind (arith, ints)) in
-        pick _ _ _ c ∙ ap Some r ∙ same_ratio (neg_ℤ n) m (neg_ℤ (y -ℤ x)) (x +ℤ v) (sym f) (omega (arith, ints))
-            ∙ sym (pick _ _ _ h))
+    let r = ratio_down n (y -ℤ x) d_down in
+    let c : (are_opposite x y && int_lt (pos 0) (fraction n (y -ℤ x)).num) ≡ true = rw r (grind (arith, ints)) in
+    pick _ _ _ c ∙ ap Some r ∙ same_ratio (neg_ℤ n) m (neg_ℤ (y -ℤ x)) (x +ℤ v) (sym f) (omega (arith, ints))
+    ∙ sym (pick _ _ _ h))
     (λ h. let c : (are_opposite x y && int_lt (pos 0) (fraction n (y -ℤ x)).num) ≡ false =
-              by_lt_z (pos 0) (y -ℤ x)
-                (λ p. rw (ratio_up n (y -ℤ x) p) (grind (arith, ints)))
-                (λ q. rw (ratio_down n (y -ℤ x) q) (grind (arith, ints))) in
-        skip _ _ _ c ∙ sym (skip _ _ _ h))
+    by_lt_z (pos 0) (y -ℤ x)
+    (λ p. rw (ratio_up n (y -ℤ x) p) (grind (arith, ints)))
+    (λ q. rw (ratio_down n (y -ℤ x) q) (grind (arith, ints))) in
+    skip _ _ _ c ∙ sym (skip _ _ _ h))
 
 hit_none : (n x y : ℤ) → n ≡ pos 0 → hit_by n x y ≡ None
 unfolding hit_by
 hit_none n x y e =
     let c : (are_opposite x y && int_lt (pos 0) (fraction n (y -ℤ x)).num) ≡ false =
-        by_lt_z (pos 0) (y -ℤ x)
-          (λ p. rw (ratio_up n (y -ℤ x) p) (grind (arith, ints)))
-          (λ q. rw (ratio_down n (y -ℤ x) q) (grind (arith, ints))) in
+    by_lt_z (pos 0) (y -ℤ x)
+    (λ p. rw (ratio_up n (y -ℤ x) p) (grind (arith, ints)))
+    (λ q. rw (ratio_down n (y -ℤ x) q) (grind (arith, ints))) in
     skip _ _ _ c
 
 not_down : (z : ℤ) → pos 0 ≤ℤ z → int_lt z (pos 0) ≡ false
@@ -106,16 +106,16 @@ hit_is_where p d w =
     let b = vector p w.b in
     blocker_hit_is p d w ∙
     by_lt_z (pos 0) (cross_of a b)
-      (λ n_up. hit_up (cross_of a b) (cross_of d a) (cross_of d b) (cross_of a d) n_up (cross_of_exchanged d a)
-          ∙ sym (ap (hit_where d) (pick (int_lt (pos 0) (cross_of a b)) _ _ (positive_tested _ n_up))))
-      (λ n_low. by_lt_z (cross_of a b) (pos 0)
-        (λ n_down. hit_down (cross_of a b) (cross_of d a) (cross_of d b) (cross_of b d) (cross_of b a) n_down
-            (cross_of_exchanged d b) (cross_of_exchanged a b)
-            ∙ sym (ap (hit_where d) (skip (int_lt (pos 0) (cross_of a b)) _ _ (not_positive_tested _ n_low)
-                ∙ pick (int_lt (cross_of a b) (pos 0)) _ _ (negative_tested _ n_down))))
-        (λ n_high. hit_none (cross_of a b) (cross_of d a) (cross_of d b) (is_none _ n_low n_high)
-            ∙ sym (ap (hit_where d) (skip (int_lt (pos 0) (cross_of a b)) _ _ (not_positive_tested _ n_low)
-                ∙ skip (int_lt (cross_of a b) (pos 0)) _ _ (not_down _ n_high)))))
+    (λ n_up. hit_up (cross_of a b) (cross_of d a) (cross_of d b) (cross_of a d) n_up (cross_of_exchanged d a)
+    ∙ sym (ap (hit_where d) (pick (int_lt (pos 0) (cross_of a b)) _ _ (positive_tested _ n_up))))
+    (λ n_low. by_lt_z (cross_of a b) (pos 0)
+    (λ n_down. hit_down (cross_of a b) (cross_of d a) (cross_of d b) (cross_of b d) (cross_of b a) n_down
+    (cross_of_exchanged d b) (cross_of_exchanged a b)
+    ∙ sym (ap (hit_where d) (skip (int_lt (pos 0) (cross_of a b)) _ _ (not_positive_tested _ n_low)
+    ∙ pick (int_lt (cross_of a b) (pos 0)) _ _ (negative_tested _ n_down))))
+    (λ n_high. hit_none (cross_of a b) (cross_of d a) (cross_of d b) (is_none _ n_low n_high)
+    ∙ sym (ap (hit_where d) (skip (int_lt (pos 0) (cross_of a b)) _ _ (not_positive_tested _ n_low)
+    ∙ skip (int_lt (cross_of a b) (pos 0)) _ _ (not_down _ n_high)))))
 
 -- ---- crossings
 
@@ -129,7 +129,7 @@ station_is : (ax ay bx by px py : ℤ) → (bx -ℤ ax) *ℤ (py -ℤ ay) -ℤ (
 station_is ax ay bx by px py =
     rw (is_diff ax, is_diff ay, is_diff bx, is_diff by, is_diff px, is_diff py)
     (station_diff (up ax) (down ax) (up ay) (down ay) (up bx) (down bx) (up by) (down by) (up px) (down px) (up py)
-        (down py))
+    (down py))
 
 -- the station's side of the line
 pub orient_is_cross : (a b p : Point) → orient_of a b p ≡ cross_of (vector p a) (vector p b)
@@ -138,7 +138,7 @@ orient_is_cross a b p = station_is a.x a.y b.x b.y p.x p.y
 side_diff : (a b c d e f g h i j k l : ℕ) →
     (diff e f -ℤ diff a b) *ℤ (diff k l -ℤ diff c d) -ℤ (diff g h -ℤ diff c d) *ℤ (diff i j -ℤ diff a b)
     ≡ ((diff a b *ℤ diff g h -ℤ diff c d *ℤ diff e f) +ℤ (diff e f *ℤ diff k l -ℤ diff g h *ℤ diff i j)) -ℤ (diff a
-        b *ℤ diff k l -ℤ diff c d *ℤ diff i j)
+    b *ℤ diff k l -ℤ diff c d *ℤ diff i j)
 side_diff a b c d e f g h i j k l = simp (product_diff, minus_diff, sum_diff) (same_diff _ _ _ _ (omega arith))
 
 side_is : (ax ay bx by qx qy : ℤ) → (bx -ℤ ax) *ℤ (qy -ℤ ay) -ℤ (by -ℤ ay) *ℤ (qx -ℤ ax)
@@ -146,7 +146,7 @@ side_is : (ax ay bx by qx qy : ℤ) → (bx -ℤ ax) *ℤ (qy -ℤ ay) -ℤ (by 
 side_is ax ay bx by qx qy =
     rw (is_diff ax, is_diff ay, is_diff bx, is_diff by, is_diff qx, is_diff qy)
     (side_diff (up ax) (down ax) (up ay) (down ay) (up bx) (down bx) (up by) (down by) (up qx) (down qx) (up qy)
-        (down qy))
+    (down qy))
 
 pub shift : (a b p : ℤ) → b -ℤ a ≡ (b -ℤ p) -ℤ (a -ℤ p)
 shift a b p = omega (arith, ints)
@@ -186,16 +186,16 @@ crosses_where p q w =
     let d = vector p q in
     crosses_is p q w ∙
     by_lt_z (pos 0) (cross_of a b)
-      (λ n_up. cross_up (cross_of a b) (orient_of w.a w.b q) (cross_of d a) (cross_of d b) (cross_of a d)
-          (cross_of b d) _ n_up (cross_of_exchanged d a) (cross_of_exchanged d b) (orient_is_side w.a w.b q p) refl
-          ∙ sym (ap (crossed_where d) (pick (int_lt (pos 0) (cross_of a b)) _ _ (positive_tested _ n_up))))
-      (λ n_low. by_lt_z (cross_of a b) (pos 0)
-        (λ n_down. cross_down (cross_of a b) (orient_of w.a w.b q) (cross_of d a) (cross_of d b) (cross_of a d)
-            (cross_of b d) _ (cross_of b a) n_down (cross_of_exchanged d a) (cross_of_exchanged d b)
-            (cross_of_exchanged a b) (orient_is_side w.a w.b q p) refl
-            ∙ sym (ap (crossed_where d) (skip (int_lt (pos 0) (cross_of a b)) _ _ (not_positive_tested _ n_low)
-                ∙ pick (int_lt (cross_of a b) (pos 0)) _ _ (negative_tested _ n_down))))
-        (λ n_high. cross_none (cross_of a b) (orient_of w.a w.b q) (cross_of d a) (cross_of d b)
-            (is_none _ n_low n_high)
-            ∙ sym (ap (crossed_where d) (skip (int_lt (pos 0) (cross_of a b)) _ _ (not_positive_tested _ n_low)
-                ∙ skip (int_lt (cross_of a b) (pos 0)) _ _ (not_down _ n_high)))))
+    (λ n_up. cross_up (cross_of a b) (orient_of w.a w.b q) (cross_of d a) (cross_of d b) (cross_of a d)
+    (cross_of b d) _ n_up (cross_of_exchanged d a) (cross_of_exchanged d b) (orient_is_side w.a w.b q p) refl
+    ∙ sym (ap (crossed_where d) (pick (int_lt (pos 0) (cross_of a b)) _ _ (positive_tested _ n_up))))
+    (λ n_low. by_lt_z (cross_of a b) (pos 0)
+    (λ n_down. cross_down (cross_of a b) (orient_of w.a w.b q) (cross_of d a) (cross_of d b) (cross_of a d)
+    (cross_of b d) _ (cross_of b a) n_down (cross_of_exchanged d a) (cross_of_exchanged d b)
+    (cross_of_exchanged a b) (orient_is_side w.a w.b q p) refl
+    ∙ sym (ap (crossed_where d) (skip (int_lt (pos 0) (cross_of a b)) _ _ (not_positive_tested _ n_low)
+    ∙ pick (int_lt (cross_of a b) (pos 0)) _ _ (negative_tested _ n_down))))
+    (λ n_high. cross_none (cross_of a b) (orient_of w.a w.b q) (cross_of d a) (cross_of d b)
+    (is_none _ n_low n_high)
+    ∙ sym (ap (crossed_where d) (skip (int_lt (pos 0) (cross_of a b)) _ _ (not_positive_tested _ n_low)
+    ∙ skip (int_lt (cross_of a b) (pos 0)) _ _ (not_down _ n_high)))))

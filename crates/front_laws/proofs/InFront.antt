@@ -51,17 +51,17 @@ swapped_products sc df sf cd sd cf h = omega (arith, ints, h)
 pub sides_are : (d : Point) (v w : Seen) →
     cross_of d v.to *ℤ side_of w v.from +ℤ cross_of v.from d *ℤ side_of w v.to
     ≡ cross_of w.from w.to *ℤ (cross_of d v.to +ℤ cross_of v.from d) -ℤ cross_of v.from
-        v.to *ℤ (cross_of d w.to +ℤ cross_of w.from d)
+    v.to *ℤ (cross_of d w.to +ℤ cross_of w.from d)
 sides_are d v w =
     sides_weighted (cross_of w.from w.to) (cross_of w.to v.from) (cross_of w.from v.from) (cross_of w.to v.to)
-        (cross_of w.from v.to)
-      (cross_of v.from v.to) (cross_of w.from d) (cross_of d w.to) (cross_of v.from d) (cross_of d v.to)
-      (flipped_product (cross_of v.from d) (cross_of w.to v.to) (cross_of v.from v.to) (cross_of d w.to)
-          (cross_of v.from w.to) (cross_of d v.to) (cross_of w.to v.from)
-        (cross_of_exchanged w.to v.from) (four_of v.from d w.to v.to))
-      (swapped_products (cross_of w.from v.from) (cross_of d v.to) (cross_of w.from v.to) (cross_of v.from d)
-          (cross_of w.from d) (cross_of v.from v.to)
-        (four_of w.from v.from d v.to))
+    (cross_of w.from v.to)
+    (cross_of v.from v.to) (cross_of w.from d) (cross_of d w.to) (cross_of v.from d) (cross_of d v.to)
+    (flipped_product (cross_of v.from d) (cross_of w.to v.to) (cross_of v.from v.to) (cross_of d w.to)
+    (cross_of v.from w.to) (cross_of d v.to) (cross_of w.to v.from)
+    (cross_of_exchanged w.to v.from) (four_of v.from d w.to v.to))
+    (swapped_products (cross_of w.from v.from) (cross_of d v.to) (cross_of w.from v.to) (cross_of v.from d)
+    (cross_of w.from d) (cross_of v.from v.to)
+    (four_of w.from v.from d v.to))
 
 -- the sides of one blocker's ends differ as those of the other's do
 differ : (se ec sc ef sf cf fe ce fs cs : ℤ) → fe ≡ neg_ℤ ef → ce ≡ neg_ℤ ec → fs ≡ neg_ℤ sf → cs ≡ neg_ℤ sc →
@@ -71,10 +71,10 @@ differ se ec sc ef sf cf fe ce fs cs a b c d = omega (arith, ints, a, b, c, d)
 pub sides_differ : (v w : Seen) → side_of w v.to -ℤ side_of w v.from ≡ side_of v w.from -ℤ side_of v w.to
 sides_differ v w =
     differ (cross_of w.from w.to) (cross_of w.to v.from) (cross_of w.from v.from) (cross_of w.to v.to)
-        (cross_of w.from v.to) (cross_of v.from v.to)
-      (cross_of v.to w.to) (cross_of v.from w.to) (cross_of v.to w.from) (cross_of v.from w.from)
-      (cross_of_exchanged w.to v.to) (cross_of_exchanged w.to v.from) (cross_of_exchanged w.from v.to)
-          (cross_of_exchanged w.from v.from)
+    (cross_of w.from v.to) (cross_of v.from v.to)
+    (cross_of v.to w.to) (cross_of v.from w.to) (cross_of v.to w.from) (cross_of v.from w.from)
+    (cross_of_exchanged w.to v.to) (cross_of_exchanged w.to v.from) (cross_of_exchanged w.from v.to)
+    (cross_of_exchanged w.from v.from)
 
 -- the answer by sides, where x and y are the sides of the first's ends and z and u those of the second's
 abbrev pub by_sides : ℤ → ℤ → ℤ → ℤ → Bool
@@ -106,38 +106,38 @@ uncrossed : (x y z u a b p q : ℤ) → pos 0 <ℤ a → pos 0 <ℤ b → a *ℤ
     → are_opposite x y ≡ false → (int_eq x (pos 0) && int_eq y (pos 0)) ≡ false → by_sides x y z u ≡ int_lt q p
 uncrossed x y z u a b p q a_up b_up e apart line =
     by_lt_z (pos 0) x
-      (λ x_up. let y_up : pos 0 ≤ℤ y = grind (arith, ints) in
-          let s = weighted_up_first a b x y a_up b_up x_up y_up in
-          one_side x y z u p q (omega (arith, ints)) y_up (omega (arith, ints)) (omega (arith, ints, e, s)))
-      (λ x_down. by_lt_z (pos 0) y
-        (λ y_up. let x_is : pos 0 ≤ℤ x = grind (arith, ints) in
-            let s = weighted_up a b x y a_up b_up x_is y_up in
-            one_side x y z u p q x_is (omega (arith, ints)) (omega (arith, ints)) (omega (arith, ints, e, s)))
-        (λ y_down. by_lt_z x (pos 0)
-          (λ x_low. let s = weighted_down_first a b x y a_up b_up x_low y_down in
-              other_side x y z u p q x_down y_down (omega (arith, ints, e, s)))
-          (λ x_is. let y_low : y <ℤ pos 0 = grind (arith, ints) in
-              let s = weighted_down a b x y a_up b_up x_down y_low in
-              other_side x y z u p q x_down y_down (omega (arith, ints, e, s)))))
+    (λ x_up. let y_up : pos 0 ≤ℤ y = grind (arith, ints) in
+    let s = weighted_up_first a b x y a_up b_up x_up y_up in
+    one_side x y z u p q (omega (arith, ints)) y_up (omega (arith, ints)) (omega (arith, ints, e, s)))
+    (λ x_down. by_lt_z (pos 0) y
+    (λ y_up. let x_is : pos 0 ≤ℤ x = grind (arith, ints) in
+    let s = weighted_up a b x y a_up b_up x_is y_up in
+    one_side x y z u p q x_is (omega (arith, ints)) (omega (arith, ints)) (omega (arith, ints, e, s)))
+    (λ y_down. by_lt_z x (pos 0)
+    (λ x_low. let s = weighted_down_first a b x y a_up b_up x_low y_down in
+    other_side x y z u p q x_down y_down (omega (arith, ints, e, s)))
+    (λ x_is. let y_low : y <ℤ pos 0 = grind (arith, ints) in
+    let s = weighted_down a b x y a_up b_up x_down y_low in
+    other_side x y z u p q x_down y_down (omega (arith, ints, e, s)))))
 
 -- where they are
 crossed : (x y z u a b p q : ℤ) → pos 0 <ℤ a → pos 0 <ℤ b → a *ℤ z +ℤ b *ℤ u ≡ q -ℤ p → y -ℤ x ≡ z -ℤ u
     → are_opposite x y ≡ true → are_opposite z u ≡ false → by_sides x y z u ≡ int_lt q p
 crossed x y z u a b p q a_up b_up e f apart other =
     by_lt_z (pos 0) z
-      (λ z_up. let u_up : pos 0 ≤ℤ u = grind (arith, ints) in
-          let s = weighted_up_first a b z u a_up b_up z_up u_up in
-          crossed_down x y z u p q apart (omega (arith, ints)) (omega (arith, ints)) u_up (omega (arith, ints, e, s)))
-      (λ z_down. by_lt_z (pos 0) u
-        (λ u_up. let z_is : pos 0 ≤ℤ z = grind (arith, ints) in
-            let s = weighted_up a b z u a_up b_up z_is u_up in
-            crossed_down x y z u p q apart (omega (arith, ints)) z_is (omega (arith, ints)) (omega (arith, ints, e, s)))
-        (λ u_down. by_lt_z z (pos 0)
-          (λ z_low. let s = weighted_down_first a b z u a_up b_up z_low u_down in
-              crossed_up x y z u p q apart other z_down u_down (omega (arith, ints, e, s)))
-          (λ z_is. let u_low : u <ℤ pos 0 = unequal apart f z_is z_down u_down in
-              let s = weighted_down a b z u a_up b_up z_down u_low in
-              crossed_up x y z u p q apart other z_down u_down (omega (arith, ints, e, s)))))
+    (λ z_up. let u_up : pos 0 ≤ℤ u = grind (arith, ints) in
+    let s = weighted_up_first a b z u a_up b_up z_up u_up in
+    crossed_down x y z u p q apart (omega (arith, ints)) (omega (arith, ints)) u_up (omega (arith, ints, e, s)))
+    (λ z_down. by_lt_z (pos 0) u
+    (λ u_up. let z_is : pos 0 ≤ℤ z = grind (arith, ints) in
+    let s = weighted_up a b z u a_up b_up z_is u_up in
+    crossed_down x y z u p q apart (omega (arith, ints)) z_is (omega (arith, ints)) (omega (arith, ints, e, s)))
+    (λ u_down. by_lt_z z (pos 0)
+    (λ z_low. let s = weighted_down_first a b z u a_up b_up z_low u_down in
+    crossed_up x y z u p q apart other z_down u_down (omega (arith, ints, e, s)))
+    (λ z_is. let u_low : u <ℤ pos 0 = unequal apart f z_is z_down u_down in
+    let s = weighted_down a b z u a_up b_up z_down u_low in
+    crossed_up x y z u p q apart other z_down u_down (omega (arith, ints, e, s)))))
   where
     unequal : are_opposite x y ≡ true → y -ℤ x ≡ z -ℤ u → pos 0 ≤ℤ z → z ≤ℤ pos 0 → u ≤ℤ pos 0 → u <ℤ pos 0
     unequal h k z_is z_down u_down = grind (arith, ints)
@@ -148,13 +148,14 @@ pub sides_agree : (x y z u c f e s p q : ℤ) → pos 0 <ℤ c → pos 0 <ℤ f 
     → apart_by x y z u ≡ true → by_sides x y z u ≡ int_lt q p
 sides_agree x y z u c f e s p q c_up f_up e_up s_up first second same apart =
     by_cases (are_opposite x y)
-      (λ h. crossed x y z u e s p q e_up s_up second same h
-          (other_of (are_opposite x y) (are_opposite z u) (int_eq x (pos 0) && int_eq y (pos 0)) h apart))
-      (λ h. uncrossed x y z u f c p q f_up c_up first h
-          (line_of (are_opposite x y && are_opposite z u) (int_eq x (pos 0) && int_eq y (pos 0)) apart))
+    (λ h. crossed x y z u e s p q e_up s_up second same h
+    (other_of (are_opposite x y) (are_opposite z u) (int_eq x (pos 0) && int_eq y (pos 0)) h apart))
+    (λ h. uncrossed x y z u f c p q f_up c_up first h
+    (line_of (are_opposite x y && are_opposite z u) (int_eq x (pos 0) && int_eq y (pos 0)) apart))
   where
     other_of : (a b c : Bool) → a ≡ true → (not (a && b) && not c) ≡ true → b ≡ false
     other_of a b c h k = grind arith
+
     line_of : (a c : Bool) → (not a && not c) ≡ true → c ≡ false
     line_of a c k = grind arith
 
@@ -166,8 +167,8 @@ front_is_before d v w v_spans w_spans apart =
     let v_two = both_of (int_lt (pos 0) (cross_of v.from d)) (int_lt (pos 0) (cross_of d v.to)) v_spans in
     let w_two = both_of (int_lt (pos 0) (cross_of w.from d)) (int_lt (pos 0) (cross_of d w.to)) w_spans in
     sides_agree (side_of w v.from) (side_of w v.to) (side_of v w.from) (side_of v w.to)
-      (cross_of v.from d) (cross_of d v.to) (cross_of d w.to) (cross_of w.from d)
-      (cross_of w.from w.to *ℤ (cross_of d v.to +ℤ cross_of v.from d))
-          (cross_of v.from v.to *ℤ (cross_of d w.to +ℤ cross_of w.from d))
-      (tested_positive _ v_two.0) (tested_positive _ v_two.1) (tested_positive _ w_two.1) (tested_positive _ w_two.0)
-      (sides_are d v w) (sides_are d w v) (sides_differ v w) apart
+    (cross_of v.from d) (cross_of d v.to) (cross_of d w.to) (cross_of w.from d)
+    (cross_of w.from w.to *ℤ (cross_of d v.to +ℤ cross_of v.from d))
+    (cross_of v.from v.to *ℤ (cross_of d w.to +ℤ cross_of w.from d))
+    (tested_positive _ v_two.0) (tested_positive _ v_two.1) (tested_positive _ w_two.1) (tested_positive _ w_two.0)
+    (sides_are d v w) (sides_are d w v) (sides_differ v w) apart

@@ -14,53 +14,54 @@ pub AllPairs-insert : {X : Type 0} (R : X → X → Type 0) (xs : List X) (i : �
     → AllPairs R (insert xs i y)
 AllPairs-insert {X} R xs i y pairs inside before after a b d lt within =
     by_lt b i
-      (λ b_low. subst (λ t. R t (get_or (insert xs i y) b d))
-          (sym (get_or-insert_below xs i y d a (omega arith) inside))
-          (subst (λ t. R (get_or xs a d) t) (sym (get_or-insert_below xs i y d b b_low inside))
-              (pairs a b d lt (omega arith))))
-      (λ b_high. by_lt i b
-        (λ i_low. let n = b - 1 in let e : n + 1 ≡ b = omega arith in
-            let b_is : get_or (insert xs i y) b d
-                ≡ get_or xs n d = subst (λ t. get_or (insert xs i y) t d ≡ get_or xs n d) e
-                (get_or-insert_above xs i y d n (omega arith) inside) in
-            let n_in : n < length xs = within_is (length-insert xs i y inside) within e in
-            subst (λ t. R (get_or (insert xs i y) a d) t) (sym b_is) (rest n n_in (omega arith) (omega arith)))
-        (λ i_high. let e : b ≡ i = omega arith in
-            subst (λ t. R (get_or (insert xs i y) a d) (get_or (insert xs i y) t d)) (sym e)
-            (subst (λ t. R (get_or (insert xs i y) a d) t) (sym (get_or-insert_at xs i y d inside))
-            (subst (λ t. R t y) (sym (get_or-insert_below xs i y d a (omega arith) inside))
-                (before a d (omega arith))))))
+    (λ b_low. subst (λ t. R t (get_or (insert xs i y) b d))
+    (sym (get_or-insert_below xs i y d a (omega arith) inside))
+    (subst (λ t. R (get_or xs a d) t) (sym (get_or-insert_below xs i y d b b_low inside))
+    (pairs a b d lt (omega arith))))
+    (λ b_high. by_lt i b
+    (λ i_low. let n = b - 1 in let e : n + 1 ≡ b = omega arith in
+    let b_is : get_or (insert xs i y) b d
+    ≡ get_or xs n d = subst (λ t. get_or (insert xs i y) t d ≡ get_or xs n d) e
+    (get_or-insert_above xs i y d n (omega arith) inside) in
+    let n_in : n < length xs = within_is (length-insert xs i y inside) within e in
+    subst (λ t. R (get_or (insert xs i y) a d) t) (sym b_is) (rest n n_in (omega arith) (omega arith)))
+    (λ i_high. let e : b ≡ i = omega arith in
+    subst (λ t. R (get_or (insert xs i y) a d) (get_or (insert xs i y) t d)) (sym e)
+    (subst (λ t. R (get_or (insert xs i y) a d) t) (sym (get_or-insert_at xs i y d inside))
+    (subst (λ t. R t y) (sym (get_or-insert_below xs i y d a (omega arith) inside))
+    (before a d (omega arith))))))
   where
     within_is : {m n k l : ℕ} → m ≡ k + 1 → l < m → n + 1 ≡ l → n < k
     within_is {m} {n} {k} {l} e f g = omega arith
+
     rest : (n : ℕ) → n < length xs → i ≤ n → a < n + 1 → R (get_or (insert xs i y) a d) (get_or xs n d)
     rest n n_in low lower = by_lt a i
         (λ a_low. subst (λ t. R t (get_or xs n d)) (sym (get_or-insert_below xs i y d a a_low inside))
-            (pairs a n d (omega arith) n_in))
+        (pairs a n d (omega arith) n_in))
         (λ a_high. by_lt i a
-          (λ i_low. let m = a - 1 in let e : m + 1 ≡ a = omega arith in
-              let a_is : get_or (insert xs i y) a d
-                  ≡ get_or xs m d = subst (λ t. get_or (insert xs i y) t d ≡ get_or xs m d) e
-                  (get_or-insert_above xs i y d m (omega arith) inside) in
-              subst (λ t. R t (get_or xs n d)) (sym a_is) (pairs m n d (omega arith) n_in))
-          (λ i_high. let e : a ≡ i = omega arith in
-              subst (λ t. R (get_or (insert xs i y) t d) (get_or xs n d)) (sym e)
-                  (subst (λ t. R t (get_or xs n d)) (sym (get_or-insert_at xs i y d inside)) (after n d low n_in))))
+        (λ i_low. let m = a - 1 in let e : m + 1 ≡ a = omega arith in
+        let a_is : get_or (insert xs i y) a d
+        ≡ get_or xs m d = subst (λ t. get_or (insert xs i y) t d ≡ get_or xs m d) e
+        (get_or-insert_above xs i y d m (omega arith) inside) in
+        subst (λ t. R t (get_or xs n d)) (sym a_is) (pairs m n d (omega arith) n_in))
+        (λ i_high. let e : a ≡ i = omega arith in
+        subst (λ t. R (get_or (insert xs i y) t d) (get_or xs n d)) (sym e)
+        (subst (λ t. R t (get_or xs n d)) (sym (get_or-insert_at xs i y d inside)) (after n d low n_in))))
 
 pub AllPairs-remove : {X : Type 0} (R : X → X → Type 0) (xs : List X) (i : ℕ) → AllPairs R xs → i < length xs
     → AllPairs R (remove xs i)
 AllPairs-remove {X} R xs i pairs inside a b d lt within =
     let n_in : length (remove xs i) + 1 ≡ length xs = length-remove_is xs i inside in
     by_lt b i
-      (λ b_low. subst (λ t. R t (get_or (remove xs i) b d)) (sym (get_or-remove_below xs i d a (omega arith) inside))
-          (subst (λ t. R (get_or xs a d) t) (sym (get_or-remove_below xs i d b b_low inside))
-              (pairs a b d lt (omega arith))))
-      (λ b_high. subst (λ t. R (get_or (remove xs i) a d) t) (sym (get_or-remove_above xs i d b b_high inside))
-          (by_lt a i
-            (λ a_low. subst (λ t. R t (get_or xs (b + 1) d)) (sym (get_or-remove_below xs i d a a_low inside))
-                (pairs a (b + 1) d (omega arith) (omega arith)))
-            (λ a_high. subst (λ t. R t (get_or xs (b + 1) d)) (sym (get_or-remove_above xs i d a a_high inside))
-                (pairs (a + 1) (b + 1) d (omega arith) (omega arith)))))
+    (λ b_low. subst (λ t. R t (get_or (remove xs i) b d)) (sym (get_or-remove_below xs i d a (omega arith) inside))
+    (subst (λ t. R (get_or xs a d) t) (sym (get_or-remove_below xs i d b b_low inside))
+    (pairs a b d lt (omega arith))))
+    (λ b_high. subst (λ t. R (get_or (remove xs i) a d) t) (sym (get_or-remove_above xs i d b b_high inside))
+    (by_lt a i
+    (λ a_low. subst (λ t. R t (get_or xs (b + 1) d)) (sym (get_or-remove_below xs i d a a_low inside))
+    (pairs a (b + 1) d (omega arith) (omega arith)))
+    (λ a_high. subst (λ t. R t (get_or xs (b + 1) d)) (sym (get_or-remove_above xs i d a a_high inside))
+    (pairs (a + 1) (b + 1) d (omega arith) (omega arith)))))
   where
     length-remove_is : (xs : List X) (i : ℕ) → i < length xs → length (remove xs i) + 1 ≡ length xs
     length-remove_is xs i h = omega (arith, length-remove xs i h)
@@ -83,7 +84,7 @@ some_of test [] d h = absurd (grind arith)
 some_of {X} test (x ∷ xs) d h = by_cases (test x)
     (λ k. record { place = 0; within = omega arith; holds = k })
     (λ k. let rest = some_of test xs d (other_of_either (test x) (list_any test xs) k h) in
-        record { place = suc rest.place; within = within_suc rest.place rest.within; holds = rest.holds })
+    record { place = suc rest.place; within = within_suc rest.place rest.within; holds = rest.holds })
   where
     within_suc : (k : ℕ) → k < length xs → suc k < length (x ∷ xs)
     within_suc k h = omega arith

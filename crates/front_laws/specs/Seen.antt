@@ -46,9 +46,9 @@ are_apart v w =
 unfoldable pub seen_of : Point → Segment → Option Seen
 seen_of p w =
     if int_lt (pos 0) (cross_of (vector p w.a) (vector p w.b))
-        then Some (record { from = vector p w.a; to = vector p w.b })
+    then Some (record { from = vector p w.a; to = vector p w.b })
     else (if int_lt (cross_of (vector p w.a) (vector p w.b)) (pos 0)
-        then Some (record { from = vector p w.b; to = vector p w.a }) else None)
+    then Some (record { from = vector p w.b; to = vector p w.a }) else None)
 
 -- where the ray meets it, if it is seen and spanned
 abbrev pub hit_where : Point → Option Seen → Option Fraction
@@ -62,12 +62,12 @@ crossed_where d (Some s) = spans d s && int_lt (side_of s d) (pos 0)
 
 -- ---- two of them
 
--- neither keeps the other from being apart
+-- they are apart, asked of either
 pub record BothApart (s t : Seen) : Type 0 where
   pub first : are_apart s t ≡ true
   pub second : are_apart t s ≡ true
 
--- one direction spans both, and they are apart, asked of either
+-- one direction spans both, and they are apart
 pub record AreTogether (d : Point) (v w : Seen) : Type 0 where
   pub first : spans d v ≡ true
   pub second : spans d w ≡ true

@@ -35,13 +35,13 @@ pub put_new : (p : Point) (blockers : List Segment) (kept : ℕ → Bool) (test 
     (i n : ℕ) (t : Seen) → Holds p blockers kept test active → AreBlockers p blockers → i ≤ length active
     → n < length blockers → kept n ≡ true → seen_at p blockers n ≡ Some t
     → ((m : ℕ) (s : Seen) → m < length blockers → seen_at p blockers m ≡ Some s → test m s ≡ true → spans t.from s
-        ≡ true)
+    ≡ true)
     → ((m : ℕ) (s : Seen) → m < length blockers → seen_at p blockers m ≡ Some s → test m s ≡ true → AreApartAhead s t)
     → ((m : ℕ) (s : Seen) → m < length blockers → seen_at p blockers m ≡ Some s → test m s ≡ true
-        → int_eq (side_of s t.from) (pos 0) ≡ true → ⊥)
+    → int_eq (side_of s t.from) (pos 0) ≡ true → ⊥)
     → ((k : ℕ) (b : Numbered) → k < i → int_lt (side_of (get_or active k b).1 t.from) (pos 0) ≡ true)
     → ((k : ℕ) (b : Numbered) → i ≤ k → k < length active → int_lt (side_of (get_or active k b).1 t.from) (pos 0)
-        ≡ false)
+    ≡ false)
     → Holds p blockers kept (λ m s. test m s || (n == m)) (insert active i (n, t))
 put_new p blockers kept test active i n t h are inside within k seen spanned apart through before after =
     put_in p blockers kept test active i n t h inside within k seen
@@ -50,12 +50,12 @@ put_new p blockers kept test active i n t h are inside within k seen spanned apa
     let own = passes_at p blockers kept test active j b h j_in in
     let c_in = h.numbers j b j_in in let c_seen = h.known j b j_in in
     front_of_new c.1 t (are c.0 c.1 c_in c_seen) (are n t within seen) (spanned c.0 c.1 c_in c_seen own)
-        (apart c.0 c.1 c_in c_seen own) (before j b lt))
+    (apart c.0 c.1 c_in c_seen own) (before j b lt))
     (λ j b le lt. let c = get_or active j b in
     let own = passes_at p blockers kept test active j b h lt in
     let c_in = h.numbers j b lt in let c_seen = h.known j b lt in
     new_in_front c.1 t (are c.0 c.1 c_in c_seen) (are n t within seen) (spanned c.0 c.1 c_in c_seen own)
-        (apart c.0 c.1 c_in c_seen own)
+    (apart c.0 c.1 c_in c_seen own)
     (not_less (side_of c.1 t.from) (after j b le lt) (through c.0 c.1 c_in c_seen own)))
   where
     chain : (a b c : ℕ) → a < b → b ≤ c → a < c

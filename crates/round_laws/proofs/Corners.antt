@@ -45,9 +45,9 @@ one_up a b z u p a_up b_up e p_up = by_lt_z (pos 0) z
     none_up : (a z : ℤ) → pos 0 <ℤ a → z ≤ℤ pos 0 → (a *ℤ z) ≤ℤ pos 0
     none_up a z h k = by_lt_z z (pos 0)
         (λ lt. let r = positive_product a (pos 0 -ℤ z) h (omega (arith, ints, lt)) in let t = times_minus a (pos 0) z
-            in omega (arith, ints, r, t))
+        in omega (arith, ints, r, t))
         (λ le. let i : z ≡ pos 0 = omega (arith, ints, k, le) in let r : a *ℤ z ≡ a *ℤ pos 0 = ap (λ t. a *ℤ t) i in
-            omega (arith, ints, r))
+        omega (arith, ints, r))
 
 -- where they weigh up to less than nothing, and aren't on different sides, none does
 none_up : (a b z u p : ℤ) → pos 0 <ℤ a → pos 0 <ℤ b → a *ℤ z +ℤ b *ℤ u ≡ p → p <ℤ pos 0 → are_opposite z u ≡ false
@@ -80,7 +80,7 @@ none_up a b z u p a_up b_up e p_down apart = by_cases (int_lt (pos 0) z || int_l
     not_down a z h k = by_lt_z (pos 0) z
         (λ lt. let r = positive_product a z h lt in omega (arith, ints, r))
         (λ le. let i : z ≡ pos 0 = omega (arith, ints, k, le) in let r : a *ℤ z ≡ a *ℤ pos 0 = ap (λ t. a *ℤ t) i in
-            omega (arith, ints, r))
+        omega (arith, ints, r))
 
 -- one end is behind the line: not in front
 not_front : (x y z u : ℤ) (b : Bool) → x <ℤ pos 0 → (int_lt (pos 0) z || int_lt (pos 0) u) ≡ b → b ≡ true
@@ -103,9 +103,9 @@ front_first : (x y z u : ℤ) → pos 0 <ℤ x → (are_opposite x y ≡ true �
     → front_by x y z u ≡ true
 front_first x y z u h f = by_cases (are_opposite x y)
     (λ k. ap (λ t. cond t (not (int_lt (pos 0) z || int_lt (pos 0) u)) (int_lt (pos 0) x || int_lt (pos 0) y)) k
-        ∙ ap not (f k))
+    ∙ ap not (f k))
     (λ k. ap (λ t. cond t (not (int_lt (pos 0) z || int_lt (pos 0) u)) (int_lt (pos 0) x || int_lt (pos 0) y)) k
-        ∙ up x y h)
+    ∙ up x y h)
   where
     up : (x y : ℤ) → pos 0 <ℤ x → (int_lt (pos 0) x || int_lt (pos 0) y) ≡ true
     up x y h = grind (arith, ints)
@@ -114,9 +114,9 @@ front_last : (x y z u : ℤ) → pos 0 <ℤ y → (are_opposite x y ≡ true →
     → front_by x y z u ≡ true
 front_last x y z u h f = by_cases (are_opposite x y)
     (λ k. ap (λ t. cond t (not (int_lt (pos 0) z || int_lt (pos 0) u)) (int_lt (pos 0) x || int_lt (pos 0) y)) k
-        ∙ ap not (f k))
+    ∙ ap not (f k))
     (λ k. ap (λ t. cond t (not (int_lt (pos 0) z || int_lt (pos 0) u)) (int_lt (pos 0) x || int_lt (pos 0) y)) k
-        ∙ up x y h)
+    ∙ up x y h)
   where
     up : (x y : ℤ) → pos 0 <ℤ y → (int_lt (pos 0) x || int_lt (pos 0) y) ≡ true
     up x y h = grind (arith, ints)
@@ -181,8 +181,8 @@ begins_behind s t up spanned past =
     let two = both_of (int_lt (pos 0) (cross_of s.from t.from)) (int_lt (pos 0) (cross_of t.from s.to)) spanned in
     not_front (side_of s t.from) (side_of s t.to) (side_of t s.from) (side_of t s.to) true past
     (one_up (cross_of t.from s.to) (cross_of s.from t.from) (side_of t s.from) (side_of t s.to) _
-        (tested_positive _ two.1) (tested_positive _ two.0) (weights_first s t)
-        (flip_up (cross_of t.from t.to) (side_of s t.from) up past)) refl
+    (tested_positive _ two.1) (tested_positive _ two.0) (weights_first s t)
+    (flip_up (cross_of t.from t.to) (side_of s t.from) up past)) refl
 
 -- it begins before the line of s: it is in front
 pub begins_before : (s t : Seen) → pos 0 <ℤ cross_of t.from t.to → spans t.from s ≡ true → are_apart t s ≡ true
@@ -192,8 +192,8 @@ begins_before s t up spanned apart before =
     let two = both_of (int_lt (pos 0) (cross_of s.from t.from)) (int_lt (pos 0) (cross_of t.from s.to)) spanned in
     front_first (side_of s t.from) (side_of s t.to) (side_of t s.from) (side_of t s.to) before
     (λ o. none_up (cross_of t.from s.to) (cross_of s.from t.from) (side_of t s.from) (side_of t s.to) _
-        (tested_positive _ two.1) (tested_positive _ two.0) (weights_first s t)
-        (flip_down (cross_of t.from t.to) (side_of s t.from) up before)
+    (tested_positive _ two.1) (tested_positive _ two.0) (weights_first s t)
+    (flip_down (cross_of t.from t.to) (side_of s t.from) up before)
     (apart_of (side_of s t.from) (side_of s t.to) (side_of t s.from) (side_of t s.to) _ apart o))
 
 -- t ends behind the line of s
@@ -204,7 +204,7 @@ ends_behind s t up spanned past =
     let two = both_of (int_lt (pos 0) (cross_of s.from t.to)) (int_lt (pos 0) (cross_of t.to s.to)) spanned in
     not_front_last (side_of s t.from) (side_of s t.to) (side_of t s.from) (side_of t s.to) past
     (one_up (cross_of t.to s.to) (cross_of s.from t.to) (side_of t s.from) (side_of t s.to) _ (tested_positive _ two.1)
-        (tested_positive _ two.0) (weights_last s t) (flip_up (cross_of t.from t.to) (side_of s t.to) up past))
+    (tested_positive _ two.0) (weights_last s t) (flip_up (cross_of t.from t.to) (side_of s t.to) up past))
 
 -- t ends before the line of s
 pub ends_before : (s t : Seen) → pos 0 <ℤ cross_of t.from t.to → spans t.to s ≡ true → are_apart t s ≡ true
@@ -214,8 +214,8 @@ ends_before s t up spanned apart before =
     let two = both_of (int_lt (pos 0) (cross_of s.from t.to)) (int_lt (pos 0) (cross_of t.to s.to)) spanned in
     front_last (side_of s t.from) (side_of s t.to) (side_of t s.from) (side_of t s.to) before
     (λ o. none_up (cross_of t.to s.to) (cross_of s.from t.to) (side_of t s.from) (side_of t s.to) _
-        (tested_positive _ two.1) (tested_positive _ two.0) (weights_last s t)
-        (flip_down (cross_of t.from t.to) (side_of s t.to) up before)
+    (tested_positive _ two.1) (tested_positive _ two.0) (weights_last s t)
+    (flip_down (cross_of t.from t.to) (side_of s t.to) up before)
     (apart_of (side_of s t.from) (side_of s t.to) (side_of t s.from) (side_of t s.to) _ apart o))
 
 -- two that begin at one corner: the side of the other end decides
@@ -243,7 +243,7 @@ behind_both v s t some s_spans t_spans apart front past =
     let along = itself_along v some in
     past_of_hit v v s some along (dot_itself v some)
     (before_chain (hit_of v s) (hit_of v t) (record { num = dot_of v v; den = dot_of v v }) (den_up v s s_spans)
-        (den_up v t t_spans) (dot_itself v some)
+    (den_up v t t_spans) (dot_itself v some)
     (sym (front_is_before v s t s_spans t_spans apart) ∙ front) (hit_before v v t some along t_spans past))
 
 -- ---- the place of a wall that ends at the corner
@@ -252,7 +252,7 @@ not_front_of : (x y z u : ℤ) → pos 0 <ℤ y → (are_opposite z u ≡ false 
     → front_by z u x y ≡ false
 not_front_of x y z u up f = by_cases (are_opposite z u)
     (λ k. ap (λ t. cond t (not (int_lt (pos 0) x || int_lt (pos 0) y)) (int_lt (pos 0) z || int_lt (pos 0) u)) k
-        ∙ ap not (last x y up))
+    ∙ ap not (last x y up))
     (λ k. ap (λ t. cond t (not (int_lt (pos 0) x || int_lt (pos 0) y)) (int_lt (pos 0) z || int_lt (pos 0) u)) k ∙ f k)
   where
     last : (x y : ℤ) → pos 0 <ℤ y → (int_lt (pos 0) x || int_lt (pos 0) y) ≡ true
@@ -266,8 +266,8 @@ not_before_end s t up spanned before =
     let two = both_of (int_lt (pos 0) (cross_of s.from t.to)) (int_lt (pos 0) (cross_of t.to s.to)) spanned in
     not_front_of (side_of s t.from) (side_of s t.to) (side_of t s.from) (side_of t s.to) before
     (λ apart. none_up (cross_of t.to s.to) (cross_of s.from t.to) (side_of t s.from) (side_of t s.to) _
-        (tested_positive _ two.1) (tested_positive _ two.0) (weights_last s t)
-        (flip_down (cross_of t.from t.to) (side_of s t.to) up before) apart)
+    (tested_positive _ two.1) (tested_positive _ two.0) (weights_last s t)
+    (flip_down (cross_of t.from t.to) (side_of s t.to) up before) apart)
 
 -- so the corner is behind what stands before a wall that ends there, and it isn't behind what stands after it
 pub before_ended : (s t : Seen) → pos 0 <ℤ cross_of t.from t.to → spans t.to s ≡ true → is_in_front s t ≡ true

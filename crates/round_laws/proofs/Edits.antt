@@ -25,9 +25,9 @@ All-insert {X} P xs i y all inside own k d lt = by_lt k i
     (λ above. let n = k - 1 in let e : n + 1 ≡ k = omega (arith, above) in
     subst (λ t. P (get_or (insert xs i y) t d)) e
     (subst P (sym (get_or-insert_above xs i y d n (at_least i n k e above) inside))
-        (all n d (within_is n k (length xs) (length (insert xs i y)) (length-insert xs i y inside) lt e))))
+    (all n d (within_is n k (length xs) (length (insert xs i y)) (length-insert xs i y inside) lt e))))
     (λ same. subst (λ t. P (get_or (insert xs i y) t d)) (number_between i k high same)
-        (subst P (sym (get_or-insert_at xs i y d inside)) own)))
+    (subst P (sym (get_or-insert_at xs i y d inside)) own)))
   where
     at_least : (i n k : ℕ) → n + 1 ≡ k → i < k → i ≤ n
     at_least i n k e h = omega (arith, e, h)
@@ -39,7 +39,7 @@ All-remove : {X : Type 0} (P : X → Type 0) (xs : List X) (i : ℕ) → All P x
 All-remove {X} P xs i all inside k d lt = by_lt k i
     (λ low. subst P (sym (get_or-remove_below xs i d k low inside)) (all k d (omega (arith, low, inside))))
     (λ high. subst P (sym (get_or-remove_above xs i d k high inside))
-        (all (k + 1) d (within_is k (length xs) (length (remove xs i)) (length-remove_is xs i inside) lt)))
+    (all (k + 1) d (within_is k (length xs) (length (remove xs i)) (length-remove_is xs i inside) lt)))
   where
     length-remove_is : (xs : List X) (i : ℕ) → i < length xs → length (remove xs i) + 1 ≡ length xs
     length-remove_is xs i h = omega (arith, length-remove xs i h)
@@ -69,8 +69,12 @@ any_insert {X} test xs i y d inside = any_is test (insert xs i y) d (list_any te
     forth : HasPassing test (insert xs i y) d → (list_any test xs || test y) ≡ true
     forth s = by_lt s.place i
         (λ low. either_first (list_any test xs) (test y)
-            (any_at test xs d (record { place = s.place; within = omega (arith, low, inside); holds = subst
-            (λ t. test t ≡ true) (get_or-insert_below xs i y d s.place low inside) s.holds })))
+        (any_at test xs d (record {
+          place = s.place;
+          within = omega (arith, low, inside);
+          holds = subst
+              (λ t. test t ≡ true) (get_or-insert_below xs i y d s.place low inside) s.holds;
+        })))
         (λ high. by_lt i s.place
         (λ above. let n = s.place - 1 in let e : n + 1 ≡ s.place = omega (arith, above) in
         either_first (list_any test xs) (test y) (any_at test xs d (record {
@@ -80,18 +84,26 @@ any_insert {X} test xs i y d inside = any_is test (insert xs i y) d (list_any te
               (subst (λ k. test (get_or (insert xs i y) k d) ≡ true) (sym e) s.holds);
         })))
         (λ same. either_second (list_any test xs) (test y)
-            (subst (λ t. test t ≡ true) (get_or-insert_at xs i y d inside)
-            (subst (λ k. test (get_or (insert xs i y) k d) ≡ true) (sym (number_between i s.place high same))
-            s.holds))))
+        (subst (λ t. test t ≡ true) (get_or-insert_at xs i y d inside)
+        (subst (λ k. test (get_or (insert xs i y) k d) ≡ true) (sym (number_between i s.place high same))
+        s.holds))))
 
     from_rest : HasPassing test xs d → HasPassing test (insert xs i y) d
     from_rest s = by_lt s.place i
-        (λ low. record { place = s.place; within = longer s.place (length xs) (length (insert xs i y))
-            (length-insert xs i y inside) s.within; holds = subst (λ t. test t ≡ true)
-            (sym (get_or-insert_below xs i y d s.place low inside)) s.holds })
-        (λ high. record { place = s.place + 1; within = longer_one s.place (length xs) (length (insert xs i y))
-            (length-insert xs i y inside) s.within; holds = subst (λ t. test t ≡ true)
-            (sym (get_or-insert_above xs i y d s.place high inside)) s.holds })
+        (λ low. record {
+          place = s.place;
+          within = longer s.place (length xs) (length (insert xs i y))
+              (length-insert xs i y inside) s.within;
+          holds = subst (λ t. test t ≡ true)
+              (sym (get_or-insert_below xs i y d s.place low inside)) s.holds;
+        })
+        (λ high. record {
+          place = s.place + 1;
+          within = longer_one s.place (length xs) (length (insert xs i y))
+              (length-insert xs i y inside) s.within;
+          holds = subst (λ t. test t ≡ true)
+              (sym (get_or-insert_above xs i y d s.place high inside)) s.holds;
+        })
 
     second : (a b : Bool) → (a || b) ≡ true → a ≡ false → b ≡ true
     second a b h k = grind arith
@@ -99,9 +111,13 @@ any_insert {X} test xs i y d inside = any_is test (insert xs i y) d (list_any te
     back : (list_any test xs || test y) ≡ true → HasPassing test (insert xs i y) d
     back h = by_cases (list_any test xs)
         (λ k. from_rest (some_of test xs d k))
-        (λ k. record { place = i; within = own i (length xs) (length (insert xs i y)) (length-insert xs i y inside)
-            inside; holds = subst (λ t. test t ≡ true) (sym (get_or-insert_at xs i y d inside))
-            (second (list_any test xs) (test y) h k) })
+        (λ k. record {
+          place = i;
+          within = own i (length xs) (length (insert xs i y)) (length-insert xs i y inside)
+              inside;
+          holds = subst (λ t. test t ≡ true) (sym (get_or-insert_at xs i y d inside))
+              (second (list_any test xs) (test y) h k);
+        })
 
 -- where no other passes the test beside the one that is taken out
 any_remove : {X : Type 0} (test : X → Bool) (xs : List X) (i : ℕ) (d : X) → i < length xs
@@ -145,18 +161,22 @@ any_remove {X} test xs i d inside alone = any_is test (remove xs i) d (list_any 
     forth : HasPassing test (remove xs i) d → (list_any test xs && not (test (get_or xs i d))) ≡ true
     forth s = by_lt s.place i
         (λ low. found s.place (omega (arith, low, inside)) (λ e. never_equal s.place i low e)
-            (subst (λ t. test t ≡ true) (get_or-remove_below xs i d s.place low inside) s.holds))
+        (subst (λ t. test t ≡ true) (get_or-remove_below xs i d s.place low inside) s.holds))
         (λ high. found (s.place + 1) (one_more s.place (length xs) (length (remove xs i)) size s.within)
-            (λ e. not_same_above s.place i high e)
-            (subst (λ t. test t ≡ true) (get_or-remove_above xs i d s.place high inside) s.holds))
+        (λ e. not_same_above s.place i high e)
+        (subst (λ t. test t ≡ true) (get_or-remove_above xs i d s.place high inside) s.holds))
 
     back : (list_any test xs && not (test (get_or xs i d))) ≡ true → HasPassing test (remove xs i) d
     back h =
         let s = some_of test xs d (first (list_any test xs) (test (get_or xs i d)) h) in
         let none = second (list_any test xs) (test (get_or xs i d)) h in
         by_lt s.place i
-        (λ low. record { place = s.place; within = shorter s.place (length xs) (length (remove xs i)) i size low
-            inside; holds = subst (λ t. test t ≡ true) (sym (get_or-remove_below xs i d s.place low inside)) s.holds })
+        (λ low. record {
+          place = s.place;
+          within = shorter s.place (length xs) (length (remove xs i)) i size low
+              inside;
+          holds = subst (λ t. test t ≡ true) (sym (get_or-remove_below xs i d s.place low inside)) s.holds;
+        })
         (λ high. by_lt i s.place
         (λ above. let n = s.place - 1 in let e : n + 1 ≡ s.place = omega (arith, above) in
         record {
@@ -166,7 +186,7 @@ any_remove {X} test xs i d inside alone = any_is test (remove xs i) d (list_any 
               (subst (λ k. test (get_or xs k d) ≡ true) (sym e) s.holds);
         })
         (λ same. absurd (clash_back (test (get_or xs i d)) none
-            (subst (λ k. test (get_or xs k d) ≡ true) (sym (number_between i s.place high same)) s.holds))))
+        (subst (λ k. test (get_or xs k d) ≡ true) (sym (number_between i s.place high same)) s.holds))))
 
 -- ---- each once
 
@@ -191,7 +211,7 @@ once : (p : Point) (blockers : List Segment) (kept : ℕ → Bool) (test : ℕ �
     → (j i : ℕ) → j < i → i < length active → (get_or active j b).0 ≡ (get_or active i b).0 → ⊥
 once p blockers kept test active b h j i lt within e =
     let same = some_same (get_or active j b).1 (get_or active i b).1
-        (sym (h.known j b (omega (arith, lt, within))) ∙ ap (seen_at p blockers) e ∙ h.known i b within) in
+    (sym (h.known j b (omega (arith, lt, within))) ∙ ap (seen_at p blockers) e ∙ h.known i b within) in
     clash_back (is_in_front (get_or active i b).1 (get_or active i b).1) (never_itself (get_or active i b).1)
     (subst (λ t. is_in_front t (get_or active i b).1 ≡ true) same (h.order j i b lt within))
 
@@ -201,7 +221,7 @@ once p blockers kept test active b h j i lt within e =
 pub held_so : (p : Point) (blockers : List Segment) (kept : ℕ → Bool) (test other : ℕ → Seen → Bool)
     (active : List Numbered) → Holds p blockers kept test active
     → ((n : ℕ) (s : Seen) → n < length blockers → kept n ≡ true → seen_at p blockers n ≡ Some s → test n s ≡ other n s)
-        → Holds p blockers kept other active
+    → Holds p blockers kept other active
 held_so p blockers kept test other active h same = record {
   order = h.order;
   known = h.known;
@@ -227,7 +247,7 @@ taken_out p blockers kept test active i b h inside = record {
         ≡ false
     alone n j lt other e = by_cases ((get_or active i b).0 == n)
         (λ f. let same = tested_same_number (get_or active j b).0 n e
-            ∙ sym (tested_same_number (get_or active i b).0 n f) in
+        ∙ sym (tested_same_number (get_or active i b).0 n f) in
         by_lt j i
         (λ low. absurd (once p blockers kept test active b h j i low inside same))
         (λ high. absurd (once p blockers kept test active b h i j (above i j high other) lt (sym same))))

@@ -67,8 +67,13 @@ second_some d e up = record {
 
 blocker_by : (d e : Point) → IsDirection d → IsDirection e → pos 0 <ℤ cross_of d e
     → IsBlocker (record { from = d; to = e })
-blocker_by d e d_in e_in up = record { from_in = d_in; to_in = e_in; from_some = first_some d e up;
-    to_some = second_some d e up; up = up }
+blocker_by d e d_in e_in up = record {
+  from_in = d_in;
+  to_in = e_in;
+  from_some = first_some d e up;
+  to_some = second_some d e up;
+  up = up;
+}
 
 -- a wall between points in range, as it is seen from one
 pub blocker_of : (p : Point) (w : Segment) (s : Seen) → InRange p → InRange w.a → InRange w.b → seen_of p w ≡ Some s
@@ -78,18 +83,18 @@ blocker_of p w s p_in a_in b_in h =
     let a = vector p w.a in let b = vector p w.b in
     by_cases (int_lt (pos 0) (cross_of a b))
     (λ k. subst IsBlocker (some_same (record { from = a; to = b }) s
-        (sym (ap (λ t. cond t (Some (record { from = a; to = b }))
-        (cond (int_lt (cross_of a b) (pos 0)) (Some (record { from = b; to = a })) None)) k) ∙ h))
+    (sym (ap (λ t. cond t (Some (record { from = a; to = b }))
+    (cond (int_lt (cross_of a b) (pos 0)) (Some (record { from = b; to = a })) None)) k) ∙ h))
     (blocker_by a b (difference_in p w.a p_in a_in) (difference_in p w.b p_in b_in) (tested_positive (cross_of a b) k)))
     (λ k. by_cases (int_lt (cross_of a b) (pos 0))
     (λ l. subst IsBlocker (some_same (record { from = b; to = a }) s
-        (sym (ap (λ t. cond t (Some (record { from = a; to = b }))
-        (cond (int_lt (cross_of a b) (pos 0)) (Some (record { from = b; to = a })) None)) k
-        ∙ ap (λ t. cond t (Some (record { from = b; to = a })) None) l) ∙ h))
+    (sym (ap (λ t. cond t (Some (record { from = a; to = b }))
+    (cond (int_lt (cross_of a b) (pos 0)) (Some (record { from = b; to = a })) None)) k
+    ∙ ap (λ t. cond t (Some (record { from = b; to = a })) None) l) ∙ h))
     (blocker_by b a (difference_in p w.b p_in b_in) (difference_in p w.a p_in a_in) (turned a b l)))
     (λ l. none_some s (sym (ap (λ t. cond t (Some (record { from = a; to = b }))
-        (cond (int_lt (cross_of a b) (pos 0)) (Some (record { from = b; to = a })) None)) k
-        ∙ ap (λ t. cond t (Some (record { from = b; to = a })) None) l) ∙ h)))
+    (cond (int_lt (cross_of a b) (pos 0)) (Some (record { from = b; to = a })) None)) k
+    ∙ ap (λ t. cond t (Some (record { from = b; to = a })) None) l) ∙ h)))
   where
     turned : (a b : Point) → int_lt (cross_of a b) (pos 0) ≡ true → pos 0 <ℤ cross_of b a
     turned a b h = omega (arith, ints, h)
@@ -118,7 +123,7 @@ pub all_hidden : (scene : Scene) (p d : Point) (kept : ℕ → Bool) (first : Op
     → IsDirection d → IsDirected d
     → ((j : ℕ) → j < length scene.corners → IsDirection (vector p (get_or scene.corners j no_corner).here))
     → ((j : ℕ) → j < length scene.corners → kept j ≡ true
-        → place_of d ≢ place_of (vector p (get_or scene.corners j no_corner).here))
+    → place_of d ≢ place_of (vector p (get_or scene.corners j no_corner).here))
     → ArePast scene p d kept → AreHidden scene p d first
 all_hidden scene p d kept first is d_in d_some corners_in none past = record {
   ahead = λ j lt h. at j lt (ahead_along p d (get_or scene.corners j no_corner) h);
@@ -132,9 +137,9 @@ all_hidden scene p d kept first is d_in d_some corners_in none past = record {
         let stands = along_stands p d x along in
         by_cases (kept j)
         (λ k. absurd (none j lt k (tested_same_number (place_of d) (place_of (vector p x))
-            (sym (stands_where p d x d_in d_some (corners_in j lt) (along_some d (vector p x) along)) ∙ stands))))
+        (sym (stands_where p d x d_in d_some (corners_in j lt) (along_some d (vector p x) along)) ∙ stands))))
         (λ k. let c = past j lt k stands in
-            behind_first scene p d (vector p x) first c.number c.cover is d_some along c.within c.seen c.spanned c.past)
+        behind_first scene p d (vector p x) first c.number c.cover is d_some along c.within c.seen c.spanned c.past)
 
 -- ---- the front of the list
 

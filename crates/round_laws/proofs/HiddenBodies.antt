@@ -37,7 +37,7 @@ bin_rises m n h = omega (arith, h)
 between_ends : (from to place : ℕ) → from < to → is_spanned_at from to place ≡ true → (from < place) × (place < to)
 between_ends from to place lt h =
     let two = both_of (nat_lt from place) (nat_lt place to)
-        (sym (ap (λ t. among_by t (nat_lt from place) (nat_lt place to)) (number_less_tested from to lt)) ∙ h) in
+    (sym (ap (λ t. among_by t (nat_lt from place) (nat_lt place to)) (number_less_tested from to lt)) ∙ h) in
     (tested_number_less from place two.0, tested_number_less place to two.1)
 
 -- a wall of a hidden body is covered
@@ -47,7 +47,7 @@ pub wall_covered : (p d : Point) (blockers : List Segment) (kept : ℕ → Bool)
 wall_covered p d blockers kept j t d_in d_some are j_in t_seen h spanned =
     covered_by p d blockers kept c.number c.cover j t c.within c.is_kept c.seen
     (bin_spanned d c.cover (bin_of (place_of d)) d_in d_some (are c.number c.cover c.within c.seen) c.starts c.ends
-        refl)
+    refl)
     j_in t_seen spanned (c.behind (get_or blockers j nowhere).a h.first) (c.behind (get_or blockers j nowhere).b h.last)
   where
     ends : (from_place t < place_of d) × (place_of d < to_place t)
@@ -96,7 +96,7 @@ point_past p d x blockers kept d_in d_some are v_in h there = record {
 -- where each wall that is left out is of a hidden body, all that are left out are covered
 pub all_covered : (scene : Scene) (p : Point) (arc : Arc) (kept : ℕ → Bool) → AreBlockers p (blockers_of_scene scene)
     → ((j : ℕ) (t : Seen) → j < length (blockers_of_scene scene) → kept j ≡ false
-        → seen_at p (blockers_of_scene scene) j ≡ Some t → IsHiddenWall p (blockers_of_scene scene) kept j t)
+    → seen_at p (blockers_of_scene scene) j ≡ Some t → IsHiddenWall p (blockers_of_scene scene) kept j t)
     → AreCoveredIn scene p arc kept
 all_covered scene p arc kept are hidden d d_in d_some in_arc j t j_in out seen spanned =
     wall_covered p d (blockers_of_scene scene) kept j t d_in d_some are j_in seen (hidden j t j_in out seen) spanned
@@ -106,7 +106,7 @@ pub all_past : (scene : Scene) (p d : Point) (kept corners_kept : ℕ → Bool) 
     → AreBlockers p (blockers_of_scene scene)
     → ((j : ℕ) → j < length scene.corners → IsDirection (vector p (get_or scene.corners j no_corner).here))
     → ((j : ℕ) → j < length scene.corners → corners_kept j ≡ false
-        → IsHiddenPoint p (blockers_of_scene scene) kept (get_or scene.corners j no_corner).here)
+    → IsHiddenPoint p (blockers_of_scene scene) kept (get_or scene.corners j no_corner).here)
     → ArePast scene p d corners_kept
 all_past scene p d kept corners_kept d_in d_some are corners_in hidden j j_in out there =
     point_past p d (get_or scene.corners j no_corner).here (blockers_of_scene scene) kept d_in d_some are

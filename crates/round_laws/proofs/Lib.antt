@@ -8,3 +8,4 @@ pub mod Corners
 pub mod Begun
 pub mod Bodies
 pub mod HiddenBodies
+mod Examples

@@ -1,5 +1,6 @@
 -- Where walls that begin at a corner stand in the list, and the distance of the corner.
-use Rattle.std.proofs.Common.{◌≤◌, ◌≡◌, ◌≢◌, ℕ, ◌<◌, ℤ, neg_ℤ, ◌-ℤ◌, ◌*ℤ◌, ◌<ℤ◌, ◌∙◌, pos, arith, ap, sym, subst, nat_lt}
+use Rattle.std.proofs.Common.{◌≤◌, ◌≡◌, ◌≢◌, ℕ, ◌<◌, ℤ, neg_ℤ, ◌-ℤ◌, ◌*ℤ◌, ◌<ℤ◌, ◌∙◌, pos, arith, ap, sym, subst}
+use Rattle.std.proofs.Common.{nat_lt}
 use Rattle.std.proofs.Common.{refl, List, length, get_or}
 use Rattle.std.proofs.lemmas.Int.{ints}
 use Rattle.std.specs.Prelude.{if◌then◌else◌, ◌&&◌, ◌||◌, true, int_lt, cond, Bool, false, not, Option, Some, None}
@@ -37,7 +38,7 @@ together_from : (s t : Seen) → IsBlocker s → IsBlocker t → spans t.from s 
     → AreTogether (just_after t.from) s t
 together_from s t s_is t_is spanned apart =
     together_after t.from s t t_is.from_in s_is.from_in s_is.to_in t_is.from_in t_is.to_in (spans_on t.from s spanned)
-        (begins_at t t_is.from_some t_is.up) (λ a b. apart (just_after t.from) a b)
+    (begins_at t t_is.from_some t_is.up) (λ a b. apart (just_after t.from) a b)
 
 turned_pair : (d : Point) (s t : Seen) → AreTogether d s t → AreTogether d t s
 turned_pair d s t p = record { first = p.second; second = p.first; apart = p.back; back = p.apart }
@@ -47,7 +48,7 @@ pub front_of_new : (s t : Seen) → IsBlocker s → IsBlocker t → spans t.from
     → int_lt (side_of s t.from) (pos 0) ≡ true → is_in_front s t ≡ true
 front_of_new s t s_is t_is spanned apart past =
     behind (just_after t.from) t s (turned_pair (just_after t.from) s t (together_from s t s_is t_is spanned apart))
-        (begins_behind s t t_is.up spanned (tested_negative (side_of s t.from) past))
+    (begins_behind s t t_is.up spanned (tested_negative (side_of s t.from) past))
 
 -- what begins at the corner is in front of a wall that the corner is before
 pub new_in_front : (s t : Seen) → IsBlocker s → IsBlocker t → spans t.from s ≡ true → AreApartAhead s t
@@ -89,7 +90,7 @@ left_along : (a d v : Point) → IsDirected d → IsAlong d v → turns_left a v
 left_along a d v some along =
     let k = alike_of d v some along in
     same_sign k.times k.times_other (cross_of v a) (cross_of d a) (cross_of a v) (cross_of a d) (turn v a) (turn d a)
-        k.positive k.positive_other (scaled k.times k.times_other v.x v.y d.x d.y a.x a.y k.x k.y)
+    k.positive k.positive_other (scaled k.times k.times_other v.x v.y d.x d.y a.x a.y k.x k.y)
   where
     turn : (v a : Point) → cross_of v a ≡ neg_ℤ (cross_of a v)
     turn v a = omega (arith, ints)
@@ -99,9 +100,9 @@ left_along a d v some along =
     same_sign k m x y u w x_is y_is k_up m_up e =
         agree (int_lt (pos 0) u) (int_lt (pos 0) w)
         (λ h. positive_tested w (positive_factor w m (subst (λ t. pos 0 <ℤ t) (products ∙ product_swapped m w)
-            (positive_product k u k_up (tested_positive u h))) m_up))
+        (positive_product k u k_up (tested_positive u h))) m_up))
         (λ h. positive_tested u (positive_factor u k (subst (λ t. pos 0 <ℤ t) (sym products ∙ product_swapped k u)
-            (positive_product m w m_up (tested_positive w h))) k_up))
+        (positive_product m w m_up (tested_positive w h))) k_up))
       where
         products : k *ℤ u ≡ m *ℤ w
         products =
@@ -121,17 +122,17 @@ pub cone_along : (c : Corner) (d v : Point) → IsDirected d → IsAlong d v →
 unfolding is_in_cone
 cone_along c d v some along =
     ap
-        (λ t. cond
-        (int_lt (pos 0)
-        ((c.here.x -ℤ c.prev.x) *ℤ (c.next.y -ℤ c.prev.y) -ℤ (c.here.y -ℤ c.prev.y) *ℤ (c.next.x -ℤ c.prev.x)))
-        (t && turns_left (vector c.here c.next) v) (t || turns_left (vector c.here c.next) v))
-        (left_along (vector c.prev c.here) d v some along)
+    (λ t. cond
+    (int_lt (pos 0)
+    ((c.here.x -ℤ c.prev.x) *ℤ (c.next.y -ℤ c.prev.y) -ℤ (c.here.y -ℤ c.prev.y) *ℤ (c.next.x -ℤ c.prev.x)))
+    (t && turns_left (vector c.here c.next) v) (t || turns_left (vector c.here c.next) v))
+    (left_along (vector c.prev c.here) d v some along)
     ∙ ap
-        (λ t. cond
-        (int_lt (pos 0)
-        ((c.here.x -ℤ c.prev.x) *ℤ (c.next.y -ℤ c.prev.y) -ℤ (c.here.y -ℤ c.prev.y) *ℤ (c.next.x -ℤ c.prev.x)))
-        (turns_left (vector c.prev c.here) d && t) (turns_left (vector c.prev c.here) d || t))
-        (left_along (vector c.here c.next) d v some along)
+    (λ t. cond
+    (int_lt (pos 0)
+    ((c.here.x -ℤ c.prev.x) *ℤ (c.next.y -ℤ c.prev.y) -ℤ (c.here.y -ℤ c.prev.y) *ℤ (c.next.x -ℤ c.prev.x)))
+    (turns_left (vector c.prev c.here) d && t) (turns_left (vector c.prev c.here) d || t))
+    (left_along (vector c.here c.next) d v some along)
 
 -- ---- the distance of one corner
 
@@ -139,9 +140,9 @@ cone_along c d v some along =
 pub one_reached : (p : Point) (test : Corner → Bool) (cs : List Corner) (first : Option (ℕ × Seen)) (i : ℕ)
     → i < length cs
     → ((j : ℕ) → j < length cs → j ≢ i → test (get_or cs j no_corner) ≡ true
-        → is_past_first first (vector p (get_or cs j no_corner).here) ≡ true)
+    → is_past_first first (vector p (get_or cs j no_corner).here) ≡ true)
     → IsReached p test cs first (if test (get_or cs i no_corner)
-        then Some (length_of (vector p (get_or cs i no_corner).here)) else None)
+    then Some (length_of (vector p (get_or cs i no_corner).here)) else None)
 one_reached p test cs first i inside others = by_test (test (get_or cs i no_corner)) refl
   where
     itself : (n : ℕ) → not (nat_lt n n) ≡ true
@@ -160,10 +161,10 @@ one_reached p test cs first i inside others = by_test (test (get_or cs i no_corn
       some = record { at = i; within = inside; passes = h; far_is = refl };
       all = λ j lt k. same i j
           (λ e. subst (λ n. (not (nat_lt (length_of (vector p (get_or cs n no_corner).here))
-              (length_of (vector p (get_or cs i no_corner).here)))
-              || is_past_first first (vector p (get_or cs n no_corner).here)) ≡ true) e
+          (length_of (vector p (get_or cs i no_corner).here)))
+          || is_past_first first (vector p (get_or cs n no_corner).here)) ≡ true) e
           (either_first _ (is_past_first first (vector p (get_or cs i no_corner).here))
-              (itself (length_of (vector p (get_or cs i no_corner).here)))))
+          (itself (length_of (vector p (get_or cs i no_corner).here)))))
           (λ n. either_second _ (is_past_first first (vector p (get_or cs j no_corner).here)) (others j lt n k));
     }
     by_test false h = record {

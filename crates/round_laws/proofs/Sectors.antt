@@ -47,7 +47,7 @@ radial_after before [] place all = refl
 radial_after before (s ∷ rest) place all =
     let lt = all 0 s (omega arith) in
     ap (λ t. cond t (radial_between before) (cond (place == s.place) (radial_on s) (radial_by s.after rest place)))
-        (number_not_less place s.place (weaker s.place place lt))
+    (number_not_less place s.place (weaker s.place place lt))
     ∙ ap (λ t. cond t (radial_on s) (radial_by s.after rest place)) (unlike place s.place lt)
     ∙ radial_after s.after rest place (rest_below s rest place all)
   where
@@ -71,7 +71,7 @@ radial_last : (before : Option Front) (sectors : List Sector) (s : Sector) → A
 unfolding radial_by
 radial_last before [] s all =
     ap (λ t. cond t (radial_between before) (cond (s.place == s.place) (radial_on s) (radial_by s.after [] s.place)))
-        (number_not_less s.place s.place (own s.place))
+    (number_not_less s.place s.place (own s.place))
     ∙ ap (λ t. cond t (radial_on s) (radial_by s.after [] s.place)) (own_number s.place)
   where
     own : (n : ℕ) → n ≤ n
@@ -79,7 +79,7 @@ radial_last before [] s all =
 radial_last before (r ∷ rest) s all =
     let lt = all 0 r (omega arith) in
     ap (λ t. cond t (radial_between before) (cond (s.place == r.place) (radial_on r)
-        (radial_by r.after (rest ++ s ∷ []) s.place))) (number_not_less s.place r.place (weaker r.place s.place lt))
+    (radial_by r.after (rest ++ s ∷ []) s.place))) (number_not_less s.place r.place (weaker r.place s.place lt))
     ∙ ap (λ t. cond t (radial_on r) (radial_by r.after (rest ++ s ∷ []) s.place)) (unlike s.place r.place lt)
     ∙ radial_last r.after rest s (rest_below r rest s.place all)
   where
@@ -105,17 +105,17 @@ order_last [] s order all i j d lt within = absurd (omega arith)
 order_last (r ∷ rest) s order all zero zero d lt within = absurd (omega arith)
 order_last (r ∷ rest) s order all zero (suc j) d lt within =
     all_last (λ t. r.place < t.place) rest s (λ k e l. order 0 (suc k) e (omega arith) (omega arith))
-        (all 0 r (omega arith)) j d (omega arith)
+    (all 0 r (omega arith)) j d (omega arith)
 order_last (r ∷ rest) s order all (suc i) zero d lt within = absurd (omega arith)
 order_last (r ∷ rest) s order all (suc i) (suc j) d lt within =
     order_last rest s (λ a b e l w. order (suc a) (suc b) e (omega arith) (omega arith))
-        (λ k e l. all (suc k) e (omega arith)) i j d (omega arith) (omega arith)
+    (λ k e l. all (suc k) e (omega arith)) i j d (omega arith) (omega arith)
 
 -- ---- what is said of a direction
 
 reached_none : (p : Point) (test : Corner → Bool) (cs : List Corner) (first : Option (ℕ × Seen))
     → ((j : ℕ) → j < length cs → test (get_or cs j no_corner) ≡ true
-        → is_past_first first (vector p (get_or cs j no_corner).here) ≡ true) → IsReached p test cs first None
+    → is_past_first first (vector p (get_or cs j no_corner).here) ≡ true) → IsReached p test cs first None
 reached_none p test cs first f = record { some = refl; all = λ j lt h. f j lt h }
 
 first_reached : (scene : Scene) (p d : Point) (front : Option Front) (first : Option (ℕ × Seen))
@@ -155,7 +155,7 @@ narrower p scene kept low at high none le more n s within k seen =
 pub round_begins : (scene : Scene) (p : Point) (arc : Arc) (kept : ℕ → Bool) (before : Option Front) (place : ℕ)
     (active : List Numbered) → HoldsBefore p (blockers_of_scene scene) kept place active
     → before ≡ option_map (front_of scene p) (first_held active)
-        → ((d : Point) → is_in_arc arc d ≡ true → place ≤ place_of d) → IsRound scene p arc kept before [] place active
+    → ((d : Point) → is_in_arc arc d ≡ true → place ≤ place_of d) → IsRound scene p arc kept before [] place active
 unfolding front_after
 round_begins scene p arc kept before place active held front none = record {
   radials = record {
@@ -174,21 +174,21 @@ round_begins scene p arc kept before place active held front none = record {
 pub round_goes_on : (scene : Scene) (p : Point) (arc : Arc) (kept : ℕ → Bool) (before : Option Front)
     (sectors : List Sector) (low high : ℕ) (active : List Numbered) → AreWalls scene p → AreCoveredIn scene p arc kept
     → IsRound scene p arc kept before sectors low active → low ≤ high
-        → EndNowhere p (blockers_of_scene scene) kept low high
+    → EndNowhere p (blockers_of_scene scene) kept low high
     → ((d : Point) → IsDirection d → IsDirected d → is_in_arc arc d ≡ true → low ≤ place_of d → place_of d < high
-        → AreHidden scene p d (first_held active))
+    → AreHidden scene p d (first_held active))
     → IsRound scene p arc kept before sectors high active
 round_goes_on scene p arc kept before sectors low high active walls covered r le none hidden = record {
   radials = record {
     tells = λ d d_in d_some within lt. by_lt (place_of d) low
         (λ below. r.radials.tells d d_in d_some within below)
         (λ above. subst (IsRadial scene p d) (sym (radial_after before sectors (place_of d)
-            (all_below sectors low (place_of d) r.radials.below above)))
+        (all_below sectors low (place_of d) r.radials.below above)))
         (first_reached scene p d (front_after before sectors) (first_held active)
         (first_without scene p d kept (first_held active)
         (first_between p d (blockers_of_scene scene) kept low active d_in d_some walls.blockers (walls.apart d) r.held
-            (narrower p scene kept low (place_of d + 1) high none (one_up low (place_of d) above)
-            (one_more (place_of d) high lt)) above)
+        (narrower p scene kept low (place_of d + 1) high none (one_up low (place_of d) above)
+        (one_more (place_of d) high lt)) above)
         (covered d d_in d_some within))
         r.radials.front (hidden d d_in d_some within above lt)));
     order = r.radials.order;
@@ -226,38 +226,38 @@ pub round_with_sector : (scene : Scene) (p : Point) (arc : Arc) (kept : ℕ → 
     → AreCoveredIn scene p arc kept
     → IsRound scene p arc kept before sectors s.place active
     → HoldsAt p (blockers_of_scene scene) kept s.place at
-        → HoldsBefore p (blockers_of_scene scene) kept (s.place + 1) after
+    → HoldsBefore p (blockers_of_scene scene) kept (s.place + 1) after
     → s.on ≡ option_map (front_of scene p) (first_held at) → s.after ≡ option_map (front_of scene p) (first_held after)
     → ((d : Point) → IsDirection d → IsDirected d → is_in_arc arc d ≡ true → place_of d ≡ s.place
-        → IsReached p (is_ahead p d) scene.corners (first_held at) s.ahead)
+    → IsReached p (is_ahead p d) scene.corners (first_held at) s.ahead)
     → ((d : Point) → IsDirection d → IsDirected d → is_in_arc arc d ≡ true → place_of d ≡ s.place
-        → IsReached p (is_behind p d) scene.corners (first_held at) s.behind)
+    → IsReached p (is_behind p d) scene.corners (first_held at) s.behind)
     → IsRound scene p arc kept before (sectors ++ s ∷ []) (s.place + 1) after
 round_with_sector scene p arc kept before sectors s active at after walls covered r held_at held_after on_is after_is
     ahead behind = record {
-  radials = record {
-    tells = λ d d_in d_some within lt. at_place (place_of d) s.place lt
-        (λ below. subst (IsRadial scene p d) (sym (radial_below_last before sectors s (place_of d) below))
+      radials = record {
+        tells = λ d d_in d_some within lt. at_place (place_of d) s.place lt
+            (λ below. subst (IsRadial scene p d) (sym (radial_below_last before sectors s (place_of d) below))
             (r.radials.tells d d_in d_some within below))
-        (λ e. subst (IsRadial scene p d) (sym (radial_last before sectors s r.radials.below)
+            (λ e. subst (IsRadial scene p d) (sym (radial_last before sectors s r.radials.below)
             ∙ ap (radial_by before (sectors ++ s ∷ [])) (sym e))
-        (record {
-          first = first_held at;
-          is_first = first_without scene p d kept (first_held at)
-              (first_at p d (blockers_of_scene scene) kept at d_in d_some walls.blockers (walls.apart d)
+            (record {
+              first = first_held at;
+              is_first = first_without scene p d kept (first_held at)
+                  (first_at p d (blockers_of_scene scene) kept at d_in d_some walls.blockers (walls.apart d)
                   (subst (λ n. HoldsAt p (blockers_of_scene scene) kept n at) (sym e) held_at))
-              (covered d d_in d_some within);
-          front = on_is;
-          ahead = ahead d d_in d_some within e;
-          behind = behind d d_in d_some within e;
-        }));
-    order = order_last sectors s r.radials.order r.radials.below;
-    below = all_last (λ t. t.place < s.place + 1) sectors s (weaker_below sectors s.place r.radials.below)
-        (own s.place);
-    front = front_last before sectors s ∙ after_is;
-  };
-  held = held_after;
-}
+                  (covered d d_in d_some within);
+              front = on_is;
+              ahead = ahead d d_in d_some within e;
+              behind = behind d d_in d_some within e;
+            }));
+        order = order_last sectors s r.radials.order r.radials.below;
+        below = all_last (λ t. t.place < s.place + 1) sectors s (weaker_below sectors s.place r.radials.below)
+            (own s.place);
+        front = front_last before sectors s ∙ after_is;
+      };
+      held = held_after;
+    }
   where
     own : (n : ℕ) → n < n + 1
     own n = omega arith
@@ -270,24 +270,24 @@ pub round_without_sector : (scene : Scene) (p : Point) (arc : Arc) (kept : ℕ �
     → HoldsAt p (blockers_of_scene scene) kept place at → HoldsBefore p (blockers_of_scene scene) kept (place + 1) after
     → first_held at ≡ first_held active → first_held after ≡ first_held active
     → ((d : Point) → IsDirection d → IsDirected d → is_in_arc arc d ≡ true → place_of d ≡ place
-        → AreHidden scene p d (first_held at))
+    → AreHidden scene p d (first_held at))
     → IsRound scene p arc kept before sectors (place + 1) after
 round_without_sector scene p arc kept before sectors place active at after walls covered r held_at held_after at_is
     after_is hidden = record {
-  radials = record {
-    tells = λ d d_in d_some within lt. at_place (place_of d) place lt
-        (λ below. r.radials.tells d d_in d_some within below)
-        (λ e. subst (IsRadial scene p d) (sym (radial_after before sectors place r.radials.below)
+      radials = record {
+        tells = λ d d_in d_some within lt. at_place (place_of d) place lt
+            (λ below. r.radials.tells d d_in d_some within below)
+            (λ e. subst (IsRadial scene p d) (sym (radial_after before sectors place r.radials.below)
             ∙ ap (radial_by before sectors) (sym e))
-        (first_reached scene p d (front_after before sectors) (first_held at)
-        (first_without scene p d kept (first_held at)
-        (first_at p d (blockers_of_scene scene) kept at d_in d_some walls.blockers (walls.apart d)
+            (first_reached scene p d (front_after before sectors) (first_held at)
+            (first_without scene p d kept (first_held at)
+            (first_at p d (blockers_of_scene scene) kept at d_in d_some walls.blockers (walls.apart d)
             (subst (λ n. HoldsAt p (blockers_of_scene scene) kept n at) (sym e) held_at))
-        (covered d d_in d_some within))
-        (r.radials.front ∙ ap (option_map (front_of scene p)) (sym at_is)) (hidden d d_in d_some within e)));
-    order = r.radials.order;
-    below = weaker_below sectors place r.radials.below;
-    front = r.radials.front ∙ ap (option_map (front_of scene p)) (sym after_is);
-  };
-  held = held_after;
-}
+            (covered d d_in d_some within))
+            (r.radials.front ∙ ap (option_map (front_of scene p)) (sym at_is)) (hidden d d_in d_some within e)));
+        order = r.radials.order;
+        below = weaker_below sectors place r.radials.below;
+        front = r.radials.front ∙ ap (option_map (front_of scene p)) (sym after_is);
+      };
+      held = held_after;
+    }

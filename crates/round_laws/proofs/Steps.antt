@@ -39,11 +39,11 @@ pub spans_at : (d : Point) (s : Seen) → IsDirection d → IsDirected d → IsB
 spans_at d s d_in d_some b =
     spans_is_among d s b.from_some d_some b.to_some b.up
     ∙ ap (λ t. among_by t (turns_before s.from d) (turns_before d s.to))
-        (place_tells s.from s.to b.from_in b.from_some b.to_in b.to_some)
+    (place_tells s.from s.to b.from_in b.from_some b.to_in b.to_some)
     ∙ ap (λ t. among_by (nat_lt (place_of s.from) (place_of s.to)) t (turns_before d s.to))
-        (place_tells s.from d b.from_in b.from_some d_in d_some)
+    (place_tells s.from d b.from_in b.from_some d_in d_some)
     ∙ ap (λ t. among_by (nat_lt (place_of s.from) (place_of s.to)) (nat_lt (place_of s.from) (place_of d)) t)
-        (place_tells d s.to d_in d_some b.to_in b.to_some)
+    (place_tells d s.to d_in d_some b.to_in b.to_some)
 
 -- where no end is, the same are open
 pub open_on : (from to low high : ℕ) → HasNoEnd from to low high → is_open_at from to low ≡ is_open_at from to high
@@ -56,9 +56,9 @@ pub spanned_of_open : (from to place : ℕ) → from ≢ to → is_spanned_at fr
     ≡ (is_open_at from to place && not (to == place))
 spanned_of_open from to place other = by_cases (nat_lt from to)
     (λ h. ap (λ t. among_by t (nat_lt from place) (nat_lt place to)) h ∙ in_turn (tested_number_less from to h)
-        ∙ sym (ap (λ t. among_by t (nat_lt from place) (not (nat_lt to place)) && not (to == place)) h))
+    ∙ sym (ap (λ t. among_by t (nat_lt from place) (not (nat_lt to place)) && not (to == place)) h))
     (λ h. ap (λ t. among_by t (nat_lt from place) (nat_lt place to)) h ∙ round (tested_number_not_less from to h)
-        ∙ sym (ap (λ t. among_by t (nat_lt from place) (not (nat_lt to place)) && not (to == place)) h))
+    ∙ sym (ap (λ t. among_by t (nat_lt from place) (not (nat_lt to place)) && not (to == place)) h))
   where
     in_turn : from < to → (nat_lt from place && nat_lt place to)
         ≡ ((nat_lt from place && not (nat_lt to place)) && not (to == place))
@@ -73,11 +73,11 @@ pub open_of_spanned : (from to place : ℕ) → from ≢ to → is_open_at from 
     ≡ (is_spanned_at from to place || (from == place))
 open_of_spanned from to place other = by_cases (nat_lt from to)
     (λ h. ap (λ t. among_by t (nat_lt from (place + 1)) (not (nat_lt to (place + 1)))) h
-        ∙ in_turn (tested_number_less from to h)
-        ∙ sym (ap (λ t. among_by t (nat_lt from place) (nat_lt place to) || (from == place)) h))
+    ∙ in_turn (tested_number_less from to h)
+    ∙ sym (ap (λ t. among_by t (nat_lt from place) (nat_lt place to) || (from == place)) h))
     (λ h. ap (λ t. among_by t (nat_lt from (place + 1)) (not (nat_lt to (place + 1)))) h
-        ∙ round (tested_number_not_less from to h)
-        ∙ sym (ap (λ t. among_by t (nat_lt from place) (nat_lt place to) || (from == place)) h))
+    ∙ round (tested_number_not_less from to h)
+    ∙ sym (ap (λ t. among_by t (nat_lt from place) (nat_lt place to) || (from == place)) h))
   where
     in_turn : from < to → (nat_lt from (place + 1) && not (nat_lt to (place + 1)))
         ≡ ((nat_lt from place && nat_lt place to) || (from == place))
@@ -94,7 +94,7 @@ later : (p d : Point) (blockers : List Segment) (kept : ℕ → Bool) (test : �
     (rest : List Numbered) (k j : ℕ) (t : Seen) → Holds p blockers kept test (b ∷ rest) → AreAllApart p d blockers
     → spans d b.1 ≡ true → k < length (b ∷ rest) → is_number j (get_or (b ∷ rest) k b) ≡ true
     → j < length blockers → j ≢ b.0 → seen_at p blockers j ≡ Some t → spans d t ≡ true
-        → is_before (hit_of d b.1) (hit_of d t) ≡ true
+    → is_before (hit_of d b.1) (hit_of d t) ≡ true
 later p d blockers kept test b rest zero j t a apart spanned lt h j_in other t_is t_spans = absurd
     (other (sym (tested_same_number b.0 j h)))
 later p d blockers kept test b rest (suc k) j t a apart spanned lt h j_in other t_is t_spans =
@@ -102,9 +102,9 @@ later p d blockers kept test b rest (suc k) j t a apart spanned lt h j_in other 
     let number : c.0 ≡ j = tested_same_number c.0 j h in
     let same : c.1 ≡ t = some_same c.1 t (sym (a.known (suc k) b lt) ∙ ap (seen_at p blockers) number ∙ t_is) in
     let front : is_in_front b.1 t ≡ true = subst (λ w. is_in_front b.1 w ≡ true) same
-        (a.order 0 (suc k) b (omega arith) lt) in
+    (a.order 0 (suc k) b (omega arith) lt) in
     sym (front_is_before d b.1 t spanned t_spans (apart b.0 j b.1 t (λ e. other (sym e)) (a.numbers 0 b (omega arith))
-        j_in (a.known 0 b (omega arith)) t_is spanned t_spans)) ∙ front
+    j_in (a.known 0 b (omega arith)) t_is spanned t_spans)) ∙ front
 
 -- where the list holds what a direction spans, its first is the first of the kept ones
 pub first_kept : (p d : Point) (blockers : List Segment) (kept : ℕ → Bool) (active : List Numbered)
@@ -115,7 +115,7 @@ first_kept p d blockers kept (b ∷ rest) a apart =
     let seen = a.known 0 b (omega arith) in
     let within = a.numbers 0 b (omega arith) in
     let spanned : spans d b.1 ≡ true = sym (a.exactly b.0 b.1 within (a.are_kept 0 b (omega arith)) seen)
-        ∙ own_number_or b.0 (list_any (is_number b.0) rest) in
+    ∙ own_number_or b.0 (list_any (is_number b.0) rest) in
     record {
       within = within;
       seen = seen;
@@ -123,7 +123,7 @@ first_kept p d blockers kept (b ∷ rest) a apart =
       nearest = λ j t j_in j_kept other t_is t_spans.
           let s = some_of (is_number j) (b ∷ rest) b (a.exactly j t j_in j_kept t_is ∙ t_spans) in
           later p d blockers kept (λ n s. spans d s) b rest s.place j t a apart spanned s.within s.holds j_in other
-              t_is t_spans;
+          t_is t_spans;
     }
 
 -- ---- the list, from place to place
@@ -134,7 +134,7 @@ pub held_on : (p : Point) (blockers : List Segment) (kept : ℕ → Bool) (low h
     → HoldsBefore p blockers kept high active
 held_on p blockers kept low high active h none =
     held_so p blockers kept (λ n s. is_open_at (from_place s) (to_place s) low)
-        (λ n s. is_open_at (from_place s) (to_place s) high) active h
+    (λ n s. is_open_at (from_place s) (to_place s) high) active h
     (λ n s within k seen. open_on (from_place s) (to_place s) low high (none n s within k seen))
 
 -- no blocker begins and ends in one direction
@@ -163,7 +163,7 @@ differ s b e = never (turns_before s.from s.to) (turns_before s.to s.from) (side
 pub first_between : (p d : Point) (blockers : List Segment) (kept : ℕ → Bool) (place : ℕ) (active : List Numbered)
     → IsDirection d → IsDirected d → AreBlockers p blockers → AreAllApart p d blockers
     → HoldsBefore p blockers kept place active → EndNowhere p blockers kept place (place_of d + 1) → place ≤ place_of d
-        → IsKeptFirst p d blockers kept (first_held active)
+    → IsKeptFirst p d blockers kept (first_held active)
 first_between p d blockers kept place active d_in d_some are apart h none le =
     first_kept p d blockers kept active
     (held_so p blockers kept (λ n s. is_open_at (from_place s) (to_place s) place) (λ n s. spans d s) active h
@@ -179,7 +179,7 @@ first_between p d blockers kept place active d_in d_some are apart h none le =
         let to_is = tests to low at none.no_to le in
         let from_is = tests from low at none.no_from le in
         ap (λ t. among_by (nat_lt from to) t (not (nat_lt to low))) from_is
-            ∙ ap (λ t. among_by (nat_lt from to) (nat_lt from at) t) (turn to low at none.no_to)
+        ∙ ap (λ t. among_by (nat_lt from to) (nat_lt from at) t) (turn to low at none.no_to)
       where
         tests : (x low at : ℕ) → nat_lt x low ≡ nat_lt x (at + 1) → low ≤ at → nat_lt x low ≡ nat_lt x at
         tests x low at h le = by_lt x low (λ lt. number_less_tested x low lt
@@ -188,6 +188,7 @@ first_between p d blockers kept place active d_in d_some are apart h none le =
           where
             high : (x at : ℕ) → nat_lt x (at + 1) ≡ false → at ≤ x
             high x at h = let r = tested_number_not_less x (at + 1) h in omega (arith, r)
+
         turn : (to low at : ℕ) → nat_lt to low ≡ nat_lt to (at + 1) → not (nat_lt to low) ≡ nat_lt at to
         turn to low at h = ap not h ∙ flip to at
           where
@@ -211,13 +212,13 @@ pub all_out : (p : Point) (blockers : List Segment) (kept : ℕ → Bool) (place
     (active : List Numbered) → AreBlockers p blockers
     → Holds p blockers kept (λ n s. is_open_at (from_place s) (to_place s) place && not (out n)) active
     → ((n : ℕ) (s : Seen) → n < length blockers → kept n ≡ true → seen_at p blockers n ≡ Some s
-        → is_open_at (from_place s) (to_place s) place ≡ true → out n ≡ (to_place s == place))
+    → is_open_at (from_place s) (to_place s) place ≡ true → out n ≡ (to_place s == place))
     → HoldsAt p blockers kept place active
 all_out p blockers kept place out active are h ends =
     held_so p blockers kept (λ n s. is_open_at (from_place s) (to_place s) place && not (out n))
-        (λ n s. is_spanned_at (from_place s) (to_place s) place) active h
+    (λ n s. is_spanned_at (from_place s) (to_place s) place) active h
     (λ n s within k seen. guarded (is_open_at (from_place s) (to_place s) place) (not (out n))
-        (not (to_place s == place)) (λ o. ap not (ends n s within k seen o))
+    (not (to_place s == place)) (λ o. ap not (ends n s within k seen o))
     ∙ sym (spanned_of_open (from_place s) (to_place s) place (differ s (are n s within seen))))
 
 -- once those are in that begin there, it holds what is open just after it
@@ -225,10 +226,10 @@ pub all_in : (p : Point) (blockers : List Segment) (kept : ℕ → Bool) (place 
     (active : List Numbered) → AreBlockers p blockers
     → Holds p blockers kept (λ n s. is_spanned_at (from_place s) (to_place s) place || new n) active
     → ((n : ℕ) (s : Seen) → n < length blockers → kept n ≡ true → seen_at p blockers n ≡ Some s → new n
-        ≡ (from_place s == place))
+    ≡ (from_place s == place))
     → HoldsBefore p blockers kept (place + 1) active
 all_in p blockers kept place new active are h begins =
     held_so p blockers kept (λ n s. is_spanned_at (from_place s) (to_place s) place || new n)
-        (λ n s. is_open_at (from_place s) (to_place s) (place + 1)) active h
+    (λ n s. is_open_at (from_place s) (to_place s) (place + 1)) active h
     (λ n s within k seen. ap (λ t. is_spanned_at (from_place s) (to_place s) place || t) (begins n s within k seen)
     ∙ sym (open_of_spanned (from_place s) (to_place s) place (differ s (are n s within seen))))

@@ -37,9 +37,9 @@ cover_before d cover w spanned from_past to_past =
     let two = both_of (int_lt (pos 0) (cross_of w.from d)) (int_lt (pos 0) (cross_of d w.to)) spanned in
     falls (cross_of d w.to) (cross_of w.from d) (side_of cover w.from) (side_of cover w.to)
     (cross_of cover.from cover.to *ℤ (cross_of d w.to +ℤ cross_of w.from d))
-        (cross_of w.from w.to *ℤ (cross_of d cover.to +ℤ cross_of cover.from d))
+    (cross_of w.from w.to *ℤ (cross_of d cover.to +ℤ cross_of cover.from d))
     (tested_positive _ two.1) (tested_positive _ two.0) (tested_less _ _ from_past) (tested_less _ _ to_past)
-        (sides_are d w cover)
+    (sides_are d w cover)
   where
     falls : (a b x y p q : ℤ) → pos 0 <ℤ a → pos 0 <ℤ b → x <ℤ pos 0 → y <ℤ pos 0 → a *ℤ x +ℤ b *ℤ y ≡ p -ℤ q
         → int_lt p q ≡ true
@@ -59,7 +59,7 @@ first_without scene p d kept None bare covered = record {
       (λ k. bare.none j t within k seen)
       (λ k. by_cases (spans d t)
       (λ s. let c = covered j t within k seen s in
-          clash_to (spans d c.cover) c.spanned (bare.none c.number c.cover c.within c.is_kept c.seen))
+      clash_to (spans d c.cover) c.spanned (bare.none c.number c.cover c.within c.is_kept c.seen))
       (λ s. s));
 }
 first_without scene p d kept (Some f) front covered = record {
@@ -71,10 +71,10 @@ first_without scene p d kept (Some f) front covered = record {
       (λ k. let c = covered j t within k seen s in
       by_same c.number f.0
       (λ e. let same : c.cover ≡ f.1 = some_same c.cover f.1
-          (sym c.seen ∙ ap (seen_at p (blockers_of_scene scene)) e ∙ front.seen) in
+      (sym c.seen ∙ ap (seen_at p (blockers_of_scene scene)) e ∙ front.seen) in
       subst (λ u. is_before (hit_of d u) (hit_of d t) ≡ true) same c.before)
       (λ n. before_chain (hit_of d f.1) (hit_of d c.cover) (hit_of d t) (den_up d f.1 front.spanned)
-          (den_up d c.cover c.spanned) (den_up d t s)
+      (den_up d c.cover c.spanned) (den_up d t s)
       (front.nearest c.number c.cover c.within c.is_kept n c.seen c.spanned) c.before));
 }
 
@@ -82,18 +82,18 @@ first_without scene p d kept (Some f) front covered = record {
 pub behind_first : (scene : Scene) (p d v : Point) (first : Option (ℕ × Seen)) (k : ℕ) (cover : Seen)
     → IsFirst scene p d first → IsDirected d → IsAlong d v
     → k < length (blockers_of_scene scene) → seen_at p (blockers_of_scene scene) k ≡ Some cover → spans d cover ≡ true
-        → int_lt (side_of cover v) (pos 0) ≡ true → is_past_first first v ≡ true
+    → int_lt (side_of cover v) (pos 0) ≡ true → is_past_first first v ≡ true
 behind_first scene p d v None k cover bare some along within seen spanned behind = clash_to (spans d cover) spanned
     (bare.none k cover within seen)
 behind_first scene p d v (Some f) k cover front some along within seen spanned behind =
     by_same k f.0
     (λ e. let same : cover ≡ f.1 = some_same cover f.1
-        (sym seen ∙ ap (seen_at p (blockers_of_scene scene)) e ∙ front.seen) in
+    (sym seen ∙ ap (seen_at p (blockers_of_scene scene)) e ∙ front.seen) in
     subst (λ u. int_lt (side_of u v) (pos 0) ≡ true) same behind)
     (λ n. past_of_hit d v f.1 some along (dot_itself d some)
-        (before_chain (hit_of d f.1) (hit_of d cover) (record { num = dot_of d v; den = dot_of d d })
+    (before_chain (hit_of d f.1) (hit_of d cover) (record { num = dot_of d v; den = dot_of d d })
     (den_up d f.1 front.spanned) (den_up d cover spanned) (dot_itself d some)
-        (front.nearest k cover within n seen spanned) (hit_before d v cover some along spanned behind)))
+    (front.nearest k cover within n seen spanned) (hit_before d v cover some along spanned behind)))
 
 -- ---- bodies outside the arc
 
@@ -103,8 +103,8 @@ pub right_of_arc : (a d : Point) (w : Seen) → pos 0 <ℤ cross_of w.from w.to 
 right_of_arc a d w up left from_right to_right = by_cases (spans d w)
     (λ h. let two = both_of (int_lt (pos 0) (cross_of w.from d)) (int_lt (pos 0) (cross_of d w.to)) h in
     absurd (against (cross_of a w.from) (cross_of d w.to) (cross_of a w.to) (cross_of w.from d) (cross_of a d)
-        (cross_of w.from w.to) from_right (tested_positive _ two.1) to_right (tested_positive _ two.0) left up
-        (four_of a w.from d w.to)))
+    (cross_of w.from w.to) from_right (tested_positive _ two.1) to_right (tested_positive _ two.0) left up
+    (four_of a w.from d w.to)))
     (λ h. h)
   where
     against : (x m y n l o : ℤ) → x <ℤ pos 0 → pos 0 <ℤ m → y <ℤ pos 0 → pos 0 <ℤ n → pos 0 ≤ℤ l → pos 0 <ℤ o
@@ -121,7 +121,7 @@ right_of_arc a d w up left from_right to_right = by_cases (spans d w)
         none_down o l h k = by_lt_z (pos 0) l
             (λ lt. let r = positive_product l o lt h in omega (arith, ints, r))
             (λ le. let z : l ≡ pos 0 = omega (arith, ints, k, le) in let r : l *ℤ o ≡ pos 0 *ℤ o = ap (λ t. t *ℤ o) z
-                in omega (arith, ints, r))
+            in omega (arith, ints, r))
 
 -- the direction isn't left of a, and both ends are strictly left of it: then it isn't spanned
 pub left_of_arc : (a d : Point) (w : Seen) → pos 0 <ℤ cross_of w.from w.to → cross_of a d ≤ℤ pos 0
@@ -129,8 +129,8 @@ pub left_of_arc : (a d : Point) (w : Seen) → pos 0 <ℤ cross_of w.from w.to �
 left_of_arc a d w up right from_left to_left = by_cases (spans d w)
     (λ h. let two = both_of (int_lt (pos 0) (cross_of w.from d)) (int_lt (pos 0) (cross_of d w.to)) h in
     absurd (against (cross_of a w.from) (cross_of d w.to) (cross_of a w.to) (cross_of w.from d) (cross_of a d)
-        (cross_of w.from w.to) from_left (tested_positive _ two.1) to_left (tested_positive _ two.0) right up
-        (four_of a w.from d w.to)))
+    (cross_of w.from w.to) from_left (tested_positive _ two.1) to_left (tested_positive _ two.0) right up
+    (four_of a w.from d w.to)))
     (λ h. h)
   where
     against : (x m y n l o : ℤ) → pos 0 <ℤ x → pos 0 <ℤ m → pos 0 <ℤ y → pos 0 <ℤ n → l ≤ℤ pos 0 → pos 0 <ℤ o
@@ -144,16 +144,16 @@ left_of_arc a d w up right from_left to_left = by_cases (spans d w)
         none_up : (o l : ℤ) → pos 0 <ℤ o → l ≤ℤ pos 0 → (l *ℤ o) ≤ℤ pos 0
         none_up o l h k = by_lt_z l (pos 0)
             (λ lt. let r = positive_product o (pos 0 -ℤ l) h (omega (arith, ints, lt)) in
-                let t = times_minus o (pos 0) l in omega (arith, ints, r, t))
+            let t = times_minus o (pos 0) l in omega (arith, ints, r, t))
             (λ le. let z : l ≡ pos 0 = omega (arith, ints, k, le) in let r : l *ℤ o ≡ pos 0 *ℤ o = ap (λ t. t *ℤ o) z
-                in omega (arith, ints, r))
+            in omega (arith, ints, r))
 
 -- nor is a corner there in the direction
 pub none_right : (a d v : Point) → IsDirected d → pos 0 ≤ℤ cross_of a d → cross_of a v <ℤ pos 0 → IsAlong d v → ⊥
 none_right a d v some left right along =
     let k = alike_of d v some along in
     by_sides k.times k.times_other (cross_of v a) (cross_of d a) (cross_of a v) (cross_of a d) (turn v a) (turn d a)
-        k.positive k.positive_other (scaled k.times k.times_other v.x v.y d.x d.y a.x a.y k.x k.y) left right
+    k.positive k.positive_other (scaled k.times k.times_other v.x v.y d.x d.y a.x a.y k.x k.y) left right
   where
     turn : (v a : Point) → cross_of v a ≡ neg_ℤ (cross_of a v)
     turn v a = omega (arith, ints)
@@ -168,9 +168,9 @@ none_right a d v some left right along =
         not_up : (m y : ℤ) → pos 0 <ℤ m → y ≤ℤ pos 0 → (m *ℤ y) ≤ℤ pos 0
         not_up m y h k = by_lt_z y (pos 0)
             (λ lt. let r = positive_product m (pos 0 -ℤ y) h (omega (arith, ints, lt)) in
-                let t = times_minus m (pos 0) y in omega (arith, ints, r, t))
+            let t = times_minus m (pos 0) y in omega (arith, ints, r, t))
             (λ le. let z : y ≡ pos 0 = omega (arith, ints, k, le) in let r : m *ℤ y ≡ m *ℤ pos 0 = ap (λ t. m *ℤ t) z
-                in omega (arith, ints, r))
+            in omega (arith, ints, r))
 
 pub none_left : (a d v : Point) → IsDirected d → cross_of a d ≤ℤ pos 0 → pos 0 <ℤ cross_of a v → IsAlong d v → ⊥
 none_left a d v some right left along = none_right (record { x = neg_ℤ a.x; y = neg_ℤ a.y }) d v some

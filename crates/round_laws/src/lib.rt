@@ -70,7 +70,7 @@ pub fn the_round_goes_on_to_the_next_corner()
         → AreCoveredIn scene p arc kept → IsRound scene p arc kept before sectors low active → low ≤ high
         → EndNowhere p (blockers_of_scene scene) kept low high
         → ((d : Point) → IsDirection d → IsDirected d → is_in_arc arc d ≡ true → low ≤ place_of d
-            → place_of d < high → AreHidden scene p d (first_held active))
+        → place_of d < high → AreHidden scene p d (first_held active))
         → IsRound scene p arc kept before sectors high active }
 {}
 
@@ -85,9 +85,9 @@ pub fn a_corner_with_a_sector()
         → s.on ≡ option_map (front_of scene p) (first_held at)
         → s.after ≡ option_map (front_of scene p) (first_held after)
         → ((d : Point) → IsDirection d → IsDirected d → is_in_arc arc d ≡ true → place_of d ≡ s.place
-            → IsReached p (is_ahead p d) scene.corners (first_held at) s.ahead)
+        → IsReached p (is_ahead p d) scene.corners (first_held at) s.ahead)
         → ((d : Point) → IsDirection d → IsDirected d → is_in_arc arc d ≡ true → place_of d ≡ s.place
-            → IsReached p (is_behind p d) scene.corners (first_held at) s.behind)
+        → IsReached p (is_behind p d) scene.corners (first_held at) s.behind)
         → IsRound scene p arc kept before (sectors ++ s ∷ []) (s.place + 1) after }
 {}
 
@@ -101,7 +101,7 @@ pub fn a_corner_without_a_sector()
         → HoldsBefore p (blockers_of_scene scene) kept (place + 1) after
         → first_held at ≡ first_held active → first_held after ≡ first_held active
         → ((d : Point) → IsDirection d → IsDirected d → is_in_arc arc d ≡ true → place_of d ≡ place
-            → AreHidden scene p d (first_held at))
+        → AreHidden scene p d (first_held at))
         → IsRound scene p arc kept before sectors (place + 1) after }
 {}
 
@@ -136,12 +136,12 @@ pub fn a_corner_behind_a_blocker_is_behind_the_first()
 pub fn a_hidden_body_may_be_left_out()
     ensures walls { (scene : Scene) (p : Point) (arc : Arc) (kept : ℕ → Bool) → AreBlockers p (blockers_of_scene scene)
         → ((j : ℕ) (t : Seen) → j < length (blockers_of_scene scene) → kept j ≡ false
-            → seen_at p (blockers_of_scene scene) j ≡ Some t → IsHiddenWall p (blockers_of_scene scene) kept j t)
+        → seen_at p (blockers_of_scene scene) j ≡ Some t → IsHiddenWall p (blockers_of_scene scene) kept j t)
         → AreCoveredIn scene p arc kept }
     ensures corners { (scene : Scene) (p d : Point) (kept corners_kept : ℕ → Bool) → IsDirection d → IsDirected d
         → AreBlockers p (blockers_of_scene scene)
         → ((j : ℕ) → j < length scene.corners → IsDirection (vector p (get_or scene.corners j no_corner).here))
         → ((j : ℕ) → j < length scene.corners → corners_kept j ≡ false
-            → IsHiddenPoint p (blockers_of_scene scene) kept (get_or scene.corners j no_corner).here)
+        → IsHiddenPoint p (blockers_of_scene scene) kept (get_or scene.corners j no_corner).here)
         → ArePast scene p d corners_kept }
 {}

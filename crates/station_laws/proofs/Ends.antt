@@ -21,7 +21,8 @@ use Rattle.plane_spec.specs.Vectors.{same_point}
 use Rattle.plane_spec.specs.Polygons.{edges_of, edges_to}
 use Rattle.plan_spec.specs.declared.item.Screen.{Screen}
 use Rattle.plan_spec.specs.Plan.{Obstacle, Plan}
-use Rattle.sight_spec.specs.Scene.{last_edge, scene_of, blockers_of_scene, oriented_walls, oriented_corners, corners_along}
+use Rattle.sight_spec.specs.Scene.{last_edge, scene_of, blockers_of_scene, oriented_walls, oriented_corners}
+use Rattle.sight_spec.specs.Scene.{corners_along}
 use Rattle.sight_spec.specs.Scene.{corners_after, corners_of_obstacle, walls_of_obstacle, ends_of_screen, turned_corner}
 use Rattle.sight_spec.specs.Scene.{turned_edge, has_orientation, segment_of_screen}
 use Rattle.list_laws.proofs.Tests.{list_all_weaker}
@@ -122,7 +123,7 @@ first_of_two x (y ∷ xs) ys h =
     by_cases (same_point x y)
     (λ e. either_first (same_point x y) (is_one_of (xs ++ ys) x) e)
     (λ n. either_second (same_point x y) (is_one_of (xs ++ ys) x)
-        (first_of_two x xs ys (other_of_either (same_point x y) (is_one_of xs x) n h)))
+    (first_of_two x xs ys (other_of_either (same_point x y) (is_one_of xs x) n h)))
 
 second_of_two : (x : Point) (xs ys : List Point) → is_one_of ys x ≡ true → is_one_of (xs ++ ys) x ≡ true
 second_of_two x [] ys h = h
@@ -276,7 +277,7 @@ corners_at_ends plan p n s within seen =
     let w = get_or (blockers_of_scene (scene_of plan)) n nowhere in
     let all = map here_of (scene_of plan).corners in
     let two = and_parts (is_one_of all w.a) (is_one_of all w.b)
-        (each_at (has_ends_in all) (blockers_of_scene (scene_of plan)) n nowhere (all_ends plan) within) in
+    (each_at (has_ends_in all) (blockers_of_scene (scene_of plan)) n nowhere (all_ends plan) within) in
     by_ends (HasCornerAt p (scene_of plan).corners) p w s
     (corner_of_point p w.a (scene_of plan).corners two.0) (corner_of_point p w.b (scene_of plan).corners two.1)
     (seen_of_number p (blockers_of_scene (scene_of plan)) n s within seen)

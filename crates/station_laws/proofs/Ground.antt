@@ -52,14 +52,14 @@ shared_ray : (v u y p : Point) → IsBetween p v u → IsBetween p v y → same_
 shared_ray v u y p pu py differ =
     by_cases (int_eq p.x v.x)
     (λ same. let n = other_of_both (int_eq p.x v.x) (int_eq p.y v.y) same differ in
-        elim (ray_first p.y v.y u.y y.y pu.y py.y n) [
-          | inl h ↦ inl (on_line_y u v y line (ends_differ p.y v.y y.y py.y n) h)
-          | inr h ↦ inr (on_line_y y v u line_back (ends_differ p.y v.y u.y pu.y n) h)
-        ])
+    elim (ray_first p.y v.y u.y y.y pu.y py.y n) [
+      | inl h ↦ inl (on_line_y u v y line (ends_differ p.y v.y y.y py.y n) h)
+      | inr h ↦ inr (on_line_y y v u line_back (ends_differ p.y v.y u.y pu.y n) h)
+    ])
     (λ n. elim (ray_first p.x v.x u.x y.x pu.x py.x n) [
-          | inl h ↦ inl (on_line_x u v y line (ends_differ p.x v.x y.x py.x n) h)
-          | inr h ↦ inr (on_line_x y v u line_back (ends_differ p.x v.x u.x pu.x n) h)
-        ])
+      | inl h ↦ inl (on_line_x u v y line (ends_differ p.x v.x y.x py.x n) h)
+      | inr h ↦ inr (on_line_x y v u line_back (ends_differ p.x v.x u.x pu.x n) h)
+    ])
   where
     some : pos 0 <ℤ dot_of (vector v p) (vector v p)
     some = some_square v p (other_way p v differ)
@@ -83,7 +83,7 @@ from_corner : (u v y p : Point) → is_on_segment u v y ≡ false → is_on_segm
     → IsWithinOne p v y → ⊥
 from_corner u v y p u_off y_off first second =
     elim (shared_ray v u y p (between p v u (segment_turned p u v ∙ first.on)) (between p v y second.on)
-        second.not_first) [
+    second.not_first) [
       | inl h ↦ clash (is_on_segment u v y) h u_off
       | inr h ↦ clash (is_on_segment y u v) (sym (segment_turned y u v) ∙ h) y_off
     ]

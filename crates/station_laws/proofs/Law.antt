@@ -14,7 +14,8 @@ use Rattle.plane_spec.specs.Cones.{is_in_cone}
 use Rattle.plan_spec.specs.Plan.{Plan}
 use Rattle.plan_spec.specs.Accepted.{is_sound}
 use Rattle.plane_spec.specs.declared.Orientation.TheVariants.{Clockwise}
-use Rattle.sight_spec.specs.Scene.{oriented_corners, corners_of_obstacle, scene_of, walls_of, corners_of, ends_of_screen}
+use Rattle.sight_spec.specs.Scene.{oriented_corners, corners_of_obstacle, scene_of, walls_of, corners_of}
+use Rattle.sight_spec.specs.Scene.{ends_of_screen}
 use Rattle.sight_spec.specs.Sight.{is_in_interior}
 use Rattle.front_laws.specs.Seen.{nowhere}
 use Rattle.front_laws.proofs.Tests.{by_cases, by_lt, clash, clash_to, mapped_at}
@@ -65,14 +66,14 @@ kind_at : (plan : Plan) (k : ℕ) → is_sound plan ≡ true → k < length (cor
 kind_at plan k sound within =
     by_lt k (length polygons)
     (λ lt. of_polygon (subst (λ n. k < n) (polygon_many plan) lt)
-        (ap (λ t. (get_or t k no_corner).here) (corner_list plan)
-        ∙ ap (λ c. c.here) (get_or_append_left polygons screens no_corner k lt) ∙ polygon_at plan k lt))
+    (ap (λ t. (get_or t k no_corner).here) (corner_list plan)
+    ∙ ap (λ c. c.here) (get_or_append_left polygons screens no_corner k lt) ∙ polygon_at plan k lt))
     (λ le. of_a_screen (subst (λ n. n ≤ k) (polygon_many plan) le)
-        (subst (IsScreenCorner plan) (sym (ap (λ t. get_or t k no_corner) (corner_list plan)
-        ∙ get_or-append_right polygons screens (length polygons) k no_corner refl le))
-        (of_screens plan plan.screens (screens_clear plan sound) (k - length polygons) no_corner
-        (rest (length (corners_of plan)) (length polygons) (length screens)
-        (ap length (corner_list plan) ∙ length-append polygons screens) within le))))
+    (subst (IsScreenCorner plan) (sym (ap (λ t. get_or t k no_corner) (corner_list plan)
+    ∙ get_or-append_right polygons screens (length polygons) k no_corner refl le))
+    (of_screens plan plan.screens (screens_clear plan sound) (k - length polygons) no_corner
+    (rest (length (corners_of plan)) (length polygons) (length screens)
+    (ap length (corner_list plan) ∙ length-append polygons screens) within le))))
   where
     polygons : List Corner
     polygons = polygon_corners plan
@@ -95,12 +96,12 @@ no_wall_through plan p k j sound (of_a_screen low s) here within w =
 no_wall_through plan p k j sound (of_polygon k_in starts) here within w =
     by_lt j k
     (λ lt. (ends_off (edge_at plan j).a (edge_at plan j).b (edge_at plan k).a (edge_at plan k).b
-        (may_stand_at plan j k sound lt k_in)).1.0 moved)
+    (may_stand_at plan j k sound lt k_in)).1.0 moved)
     (λ le. by_lt k j
     (λ lt. (ends_off (edge_at plan k).a (edge_at plan k).b (edge_at plan j).a (edge_at plan j).b
-        (may_stand_at plan k j sound lt within)).0.0 moved)
+    (may_stand_at plan k j sound lt within)).0.0 moved)
     (λ ge. at_first (edge_at plan k).a (edge_at plan j).a (edge_at plan j).b
-        (ap (λ t. (edge_at plan t).a) (equal k j le ge)) moved))
+    (ap (λ t. (edge_at plan t).a) (equal k j le ge)) moved))
   where
     moved : IsWithinOne (edge_at plan k).a (edge_at plan j).a (edge_at plan j).b
     moved = subst (λ t. IsWithinOne t (edge_at plan j).a (edge_at plan j).b) (sym here ∙ starts) w
@@ -153,11 +154,11 @@ own_is plan p d c sound f =
         (λ lt. clash_to (is_at p (corner s.place)) two.0 (f.first s.place lt))
         (λ le. by_lt f.number s.place
         (λ lt. absurd (apart f.number s.place lt s.within
-            (points_same (corner f.number).here p (ap (is_at p) f.corner ∙ f.here))
-            (points_same (corner s.place).here p two.0)
-            (kind_at plan f.number sound f.within) (kind_at plan s.place sound s.within) two.1))
+        (points_same (corner f.number).here p (ap (is_at p) f.corner ∙ f.here))
+        (points_same (corner s.place).here p two.0)
+        (kind_at plan f.number sound f.within) (kind_at plan s.place sound s.within) two.1))
         (λ ge. subst (λ t. is_in_cone t d ≡ true)
-            (ap corner (equal s.place f.number le ge) ∙ f.corner) two.1))
+        (ap corner (equal s.place f.number le ge) ∙ f.corner) two.1))
       where
         equal : (m n : ℕ) → n ≤ m → m ≤ n → m ≡ n
         equal m n h g = omega (arith, h, g)
@@ -169,11 +170,11 @@ none_weaker : {X : Type 0} (f g : X → Bool) (d : X) (xs : List X) → ((x : X)
 none_weaker f g d xs weaker h =
     by_cases (list_any g xs)
     (λ k. let s = some_of g xs d k in
-        clash_to (list_any f xs) (any_at f xs d (record {
-          place = s.place;
-          within = s.within;
-          holds = weaker (get_or xs s.place d) s.holds;
-        })) h)
+    clash_to (list_any f xs) (any_at f xs d (record {
+      place = s.place;
+      within = s.within;
+      holds = weaker (get_or xs s.place d) s.holds;
+    })) h)
     (λ k. k)
 
 none_own : (p d : Point) (corners : List Corner) → IsAtNoCorner p corners → list_any (is_own p d) corners ≡ false
@@ -195,7 +196,7 @@ leaves_is plan p d w sound f =
         let v = get_or (walls_of plan) s.place nowhere in
         let two = and_parts (is_in_interior p v) (turns_left (vector v.a v.b) d) s.holds in
         let same = one_wall plan p s.place f.number sound s.within f.within two.0
-            (ap (is_in_interior p) f.wall ∙ f.on) in
+        (ap (is_in_interior p) f.wall ∙ f.on) in
         subst (λ t. turns_left (vector t.a t.b) d ≡ true)
         (ap (λ n. get_or (walls_of plan) n nowhere) same ∙ f.wall) two.1
 

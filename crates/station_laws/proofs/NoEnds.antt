@@ -19,10 +19,10 @@ none_at : (plan : Plan) (p v : Point) (low high : ℕ) → low ≤ high
 none_at plan p v low high le free c some =
     by_lt (place_of v) low
     (λ lt. number_less_tested (place_of v) low lt
-        ∙ sym (number_less_tested (place_of v) high (chain (place_of v) low high lt le)))
+    ∙ sym (number_less_tested (place_of v) high (chain (place_of v) low high lt le)))
     (λ ge. by_lt (place_of v) high
     (λ lt. absurd (free c.number c.within (subst IsDirected (sym c.there) some)
-        (subst (λ t. low ≤ place_of t) (sym c.there) ge) (subst (λ t. place_of t < high) (sym c.there) lt)))
+    (subst (λ t. low ≤ place_of t) (sym c.there) ge) (subst (λ t. place_of t < high) (sym c.there) lt)))
     (λ more. number_not_less (place_of v) low ge ∙ sym (number_not_less (place_of v) high more)))
   where
     chain : (a b c : ℕ) → a < b → b ≤ c → a < c

@@ -80,12 +80,12 @@ screens_clear plan sound =
     (λ s. not (list_any (λ o. segment_meets_polygon s.from s.to o.points) plan.obstacles))
     (λ s. list_all (is_clear s) (polygon_edges plan)) plan.screens
     (λ s lines clear.
-        list_all-append (is_clear s) (edges_of plan.outer) (flat_map edges_of_obstacle plan.obstacles)
-        ∙ and_from (list_all (is_clear s) (edges_of plan.outer))
-        (list_all (is_clear s) (flat_map edges_of_obstacle plan.obstacles))
-        (clear_of_outer plan.outer s (and_parts (is_proper_segment s.from s.to)
-            (segment_lies_within plan.outer s.from s.to) lines).1)
-        (clear_of_all s plan.obstacles (tested_not _ clear)))
+    list_all-append (is_clear s) (edges_of plan.outer) (flat_map edges_of_obstacle plan.obstacles)
+    ∙ and_from (list_all (is_clear s) (edges_of plan.outer))
+    (list_all (is_clear s) (flat_map edges_of_obstacle plan.obstacles))
+    (clear_of_outer plan.outer s (and_parts (is_proper_segment s.from s.to)
+    (segment_lies_within plan.outer s.from s.to) lines).1)
+    (clear_of_all s plan.obstacles (tested_not _ clear)))
     parts.lines parts.clear
 
 all_at : {X : Type 0} (test : X → Bool) (xs : List X) (k : ℕ) (d : X) → list_all test xs ≡ true → k < length xs
@@ -99,6 +99,7 @@ ends_free c a b z u h = (one c a b z u h, two c a b z u h)
   where
     one : (c a b z u : Bool) → (c || ((a || b) || (z || u))) ≡ false → a ≡ false
     one c a b z u h = grind arith
+
     two : (c a b z u : Bool) → (c || ((a || b) || (z || u))) ≡ false → b ≡ false
     two c a b z u h = grind arith
 
@@ -126,11 +127,13 @@ no_left v d = none v.x v.y d.x d.y
       where
         self : (z : ℤ) → z -ℤ z ≡ pos 0
         self z = omega (arith, ints)
+
         times : (z w : ℤ) → z ≡ pos 0 → z *ℤ w ≡ pos 0
         times z w h = ap (λ t. t *ℤ w) h ∙ by_zero w
           where
             by_zero : (w : ℤ) → pos 0 *ℤ w ≡ pos 0
             by_zero w = omega (arith, ints)
+
         zero : (z : ℤ) → z ≡ pos 0 → int_lt (pos 0) z ≡ false
         zero z h = grind (arith, ints)
 

@@ -45,9 +45,9 @@ each_two_first : (xs ys : List Segment) → each_two stands (xs ++ ys) ≡ true 
 each_two_first [] ys h = refl
 each_two_first (e ∷ xs) ys h =
     let parts = and_parts (list_all (stands e) (xs ++ ys)) (each_two stands (xs ++ ys))
-        (sym (each_two_cons stands e (xs ++ ys)) ∙ h) in
+    (sym (each_two_cons stands e (xs ++ ys)) ∙ h) in
     let all = and_parts (list_all (stands e) xs) (list_all (stands e) ys)
-        (sym (list_all-append (stands e) xs ys) ∙ parts.0) in
+    (sym (list_all-append (stands e) xs ys) ∙ parts.0) in
     each_two_cons stands e xs
     ∙ and_from (list_all (stands e) xs) (each_two stands xs) all.0 (each_two_first xs ys parts.1)
 
@@ -117,8 +117,12 @@ within_of : (p : Point) (e : Segment) → is_in_interior p e ≡ true → IsWith
 within_of p e h =
     let one = and_parts (is_on_edge p e) (not (same_point p e.a) && not (same_point p e.b)) h in
     let two = and_parts (not (same_point p e.a)) (not (same_point p e.b)) one.1 in
-    record { on = one.0; not_first = tested_not (same_point p e.a) two.0; not_last = tested_not (same_point p e.b)
-        two.1 }
+    record {
+      on = one.0;
+      not_first = tested_not (same_point p e.a) two.0;
+      not_last = tested_not (same_point p e.b)
+          two.1;
+    }
 
 -- the wall of the number has p in its interior: so has the edge
 pub wall_within : (p : Point) (plan : Plan) (j : ℕ) → j < length (walls_of plan)
@@ -127,7 +131,7 @@ pub wall_within : (p : Point) (plan : Plan) (j : ℕ) → j < length (walls_of p
 wall_within p plan j within h =
     within_of p (get_or (polygon_edges plan) j nowhere)
     (sym (mapped_at (is_in_interior p) (polygon_edges plan) j nowhere false
-        (subst (λ n. j < n) (walls_many p plan) within))
+    (subst (λ n. j < n) (walls_many p plan) within))
     ∙ ap (λ t. get_or t j false) (sym (walls_interior p plan))
     ∙ mapped_at (is_in_interior p) (walls_of plan) j nowhere false within ∙ h)
 
@@ -159,6 +163,7 @@ start_on a b =
   where
     zero : (z : ℤ) → z ≡ pos 0 → int_eq z (pos 0) ≡ true
     zero z h = grind (arith, ints)
+
     own : (x y : ℤ) → is_between x x y ≡ true
     own x y = grind (arith, ints)
 
@@ -171,7 +176,7 @@ unfolding do_touch
 never_one_start u v x y (clear h) same =
     clash (do_touch u v x y)
     (touch_at (cross_properly u v x y) (is_on_segment u x y) (is_on_segment v x y) (is_on_segment x u v)
-        (is_on_segment y u v) (subst (λ t. is_on_segment u t y ≡ true) same (start_on u y))) h
+    (is_on_segment y u v) (subst (λ t. is_on_segment u t y ≡ true) same (start_on u y))) h
 never_one_start u v x y (next e u_off y_off) same =
     clash (is_on_segment u x y) (subst (λ t. is_on_segment u t y ≡ true) same (start_on u y)) u_off
 never_one_start u v x y (prev e x_off v_off) same =

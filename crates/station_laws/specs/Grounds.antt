@@ -53,6 +53,7 @@ pub record HasCornerAt (p : Point) (corners : List Corner) (v : Point) : Type 0 
 
 -- no corner has a place from low up to high, which isn't with them
 abbrev pub IsFreeOfCorners : Point → List Corner → ℕ → ℕ → Type 0
-IsFreeOfCorners p corners low high = (k : ℕ) → k < length corners → IsDirected (vector p (get_or corners k no_corner).here)
+IsFreeOfCorners p corners low high = (k : ℕ) → k < length corners
+    → IsDirected (vector p (get_or corners k no_corner).here)
     → low ≤ place_of (vector p (get_or corners k no_corner).here)
     → place_of (vector p (get_or corners k no_corner).here) < high → ⊥

@@ -74,13 +74,13 @@ in_direction p q x on other =
     let d = vector p q in
     let v = vector p x in
     let line : cross_of v d ≡ pos 0 = sym (cross_backs v d)
-        ∙ ap (λ t. cross_of t (back_of d)) (sym (vector_turned p x))
-        ∙ ap (λ t. cross_of (vector x p) t) (sym (vector_turned p q)) ∙ way.line in
+    ∙ ap (λ t. cross_of t (back_of d)) (sym (vector_turned p x))
+    ∙ ap (λ t. cross_of (vector x p) t) (sym (vector_turned p q)) ∙ way.line in
     let dots : dot_of d v ≡ dot_of (vector x p) (vector q p) = dot_swapped d v ∙ sym (dot_backs v d)
-        ∙ ap (λ t. dot_of t (back_of d)) (sym (vector_turned p x))
-        ∙ ap (λ t. dot_of (vector x p) t) (sym (vector_turned p q)) in
+    ∙ ap (λ t. dot_of t (back_of d)) (sym (vector_turned p x))
+    ∙ ap (λ t. dot_of (vector x p) t) (sym (vector_turned p q)) in
     both_true (int_eq (cross_of d v) (pos 0)) (int_lt (pos 0) (dot_of d v)) (zero_tested _ (cross_swapped v d line))
-        (less_tested (pos 0) (dot_of d v) (subst (λ t. pos 0 <ℤ t) (sym dots) way.forward))
+    (less_tested (pos 0) (dot_of d v) (subst (λ t. pos 0 <ℤ t) (sym dots) way.forward))
 
 -- and nearer than the end, where it isn't the end
 before_end : (p q x : Point) → is_on_segment x p q ≡ true → same_point x q ≡ false
@@ -102,12 +102,14 @@ on_by p q x h near =
     let forward = tested_less (pos 0) (dot_of d v) two.1 in
     let same = dot_swapped d v in
     reaches x p q d (cross_swapped d v line) line (some (dot_of d v) (dot_of d d) forward near)
-        (from_zero (dot_of v d) (dot_of d v) same forward) (moved (dot_of v d) (dot_of d v) (dot_of d d) same near)
+    (from_zero (dot_of v d) (dot_of d v) same forward) (moved (dot_of v d) (dot_of d v) (dot_of d d) same near)
   where
     some : (a b : ℤ) → pos 0 <ℤ a → a ≤ℤ b → pos 0 <ℤ b
     some a b h k = omega (arith, ints, h, k)
+
     from_zero : (a b : ℤ) → b ≡ a → pos 0 <ℤ b → pos 0 ≤ℤ a
     from_zero a b e h = omega (arith, ints, e, h)
+
     moved : (a b c : ℤ) → b ≡ a → b ≤ℤ c → a ≤ℤ c
     moved a b c e h = omega (arith, ints, e, h)
 
@@ -126,9 +128,9 @@ never_less z h = absurd (omega (arith, ints, h))
 not_at_start : (p d x : Point) → stands_in p d x ≡ true → same_point x p ≡ false
 not_at_start p d x h = by_cases (same_point x p)
     (λ e. let two = both_of (int_eq (cross_of d (vector p x)) (pos 0)) (int_lt (pos 0) (dot_of d (vector p x))) h in
-        absurd (none d.x d.y (x.x -ℤ p.x) (x.y -ℤ p.y) (no_difference x.x p.x (ap (λ t. t.x) (points_same x p e)))
-            (no_difference x.y p.y (ap (λ t. t.y) (points_same x p e)))
-            (tested_less (pos 0) (dot_of d (vector p x)) two.1)))
+    absurd (none d.x d.y (x.x -ℤ p.x) (x.y -ℤ p.y) (no_difference x.x p.x (ap (λ t. t.x) (points_same x p e)))
+    (no_difference x.y p.y (ap (λ t. t.y) (points_same x p e)))
+    (tested_less (pos 0) (dot_of d (vector p x)) two.1)))
     (λ e. e)
   where
     none : (x y u v : ℤ) → u ≡ pos 0 → v ≡ pos 0 → pos 0 <ℤ (x *ℤ u +ℤ y *ℤ v) → ⊥
@@ -141,7 +143,7 @@ not_at_end : (p q x : Point) → dot_of (vector p q) (vector p x) <ℤ dot_of (v
     ≡ false
 not_at_end p q x h = by_cases (same_point x q)
     (λ e. never_less (dot_of (vector p q) (vector p q))
-        (subst (λ t. dot_of (vector p q) (vector p t) <ℤ dot_of (vector p q) (vector p q)) (points_same x q e) h))
+    (subst (λ t. dot_of (vector p q) (vector p t) <ℤ dot_of (vector p q) (vector p q)) (points_same x q e) h))
     (λ e. e)
 
 -- ---- one corner
@@ -149,25 +151,25 @@ not_at_end p q x h = by_cases (same_point x q)
 -- where a point lies on the segment before its end
 before_where : (p q x : Point) → same_point p q ≡ false
     → (not (same_point x q) && is_on_segment x p q)
-        ≡ (same_point x p || (stands_in p (vector p q) x && int_lt (dot_of (vector p q) (vector p x))
-        (dot_of (vector p q) (vector p q))))
+    ≡ (same_point x p || (stands_in p (vector p q) x && int_lt (dot_of (vector p q) (vector p x))
+    (dot_of (vector p q) (vector p q))))
 before_where p q x differ =
     let d = vector p q in
     let v = vector p x in
     agree _ _
-      (λ h. let two = both_of (not (same_point x q)) (is_on_segment x p q) h in
-          or_by (same_point x p) _ (λ other. both_true (stands_in p d x) (int_lt (dot_of d v) (dot_of d d))
-              (in_direction p q x two.1 other)
-            (less_tested (dot_of d v) (dot_of d d) (before_end p q x two.1 (tested_not _ two.0)))))
-      (λ h. by_cases (same_point x p)
-          (λ e. let same = points_same x p e in
-              subst (λ t. (not (same_point t q) && is_on_segment t p q) ≡ true) (sym same)
-                  (both_true (not (same_point p q)) (is_on_segment p p q) (of_not _ differ) (at_start p q)))
-          (λ other. let two = both_of (stands_in p d x) (int_lt (dot_of d v) (dot_of d d))
-              (other_of_either (same_point x p) _ other h) in
-              let less = tested_less (dot_of d v) (dot_of d d) two.1 in
-              both_true (not (same_point x q)) (is_on_segment x p q) (of_not _ (not_at_end p q x less))
-                  (on_by p q x two.0 (at_most_of_less (dot_of d v) (dot_of d d) less))))
+    (λ h. let two = both_of (not (same_point x q)) (is_on_segment x p q) h in
+    or_by (same_point x p) _ (λ other. both_true (stands_in p d x) (int_lt (dot_of d v) (dot_of d d))
+    (in_direction p q x two.1 other)
+    (less_tested (dot_of d v) (dot_of d d) (before_end p q x two.1 (tested_not _ two.0)))))
+    (λ h. by_cases (same_point x p)
+    (λ e. let same = points_same x p e in
+    subst (λ t. (not (same_point t q) && is_on_segment t p q) ≡ true) (sym same)
+    (both_true (not (same_point p q)) (is_on_segment p p q) (of_not _ differ) (at_start p q)))
+    (λ other. let two = both_of (stands_in p d x) (int_lt (dot_of d v) (dot_of d d))
+    (other_of_either (same_point x p) _ other h) in
+    let less = tested_less (dot_of d v) (dot_of d d) two.1 in
+    both_true (not (same_point x q)) (is_on_segment x p q) (of_not _ (not_at_end p q x less))
+    (on_by p q x two.0 (at_most_of_less (dot_of d v) (dot_of d d) less))))
   where
     or_by : (a b : Bool) → (a ≡ false → b ≡ true) → (a || b) ≡ true
     or_by true b f = refl
@@ -176,21 +178,21 @@ before_where p q x differ =
 -- where a point lies on the segment after its start
 after_where : (p q x : Point)
     → (not (same_point x p) && is_on_segment x q p)
-        ≡ (stands_in p (vector p q) x && int_le (dot_of (vector p q) (vector p x)) (dot_of (vector p q) (vector p q)))
+    ≡ (stands_in p (vector p q) x && int_le (dot_of (vector p q) (vector p x)) (dot_of (vector p q) (vector p q)))
 after_where p q x =
     let d = vector p q in
     let v = vector p x in
     agree _ _
-      (λ h. let two = both_of (not (same_point x p)) (is_on_segment x q p) h in
-          let on = on_turned x q p two.1 in
-          both_true (stands_in p d x) (int_le (dot_of d v) (dot_of d d)) (in_direction p q x on (tested_not _ two.0))
-            (at_most_tested (dot_of d v) (dot_of d d) (by_cases (same_point x q)
-              (λ e. subst (λ t. dot_of d (vector p t) ≤ℤ dot_of d d) (sym (points_same x q e))
-                  (at_most_itself (dot_of d d)))
-              (λ other. at_most_of_less (dot_of d v) (dot_of d d) (before_end p q x on other)))))
-      (λ h. let two = both_of (stands_in p d x) (int_le (dot_of d v) (dot_of d d)) h in
-          both_true (not (same_point x p)) (is_on_segment x q p) (of_not _ (not_at_start p d x two.0))
-              (on_turned x p q (on_by p q x two.0 (tested_at_most (dot_of d v) (dot_of d d) two.1))))
+    (λ h. let two = both_of (not (same_point x p)) (is_on_segment x q p) h in
+    let on = on_turned x q p two.1 in
+    both_true (stands_in p d x) (int_le (dot_of d v) (dot_of d d)) (in_direction p q x on (tested_not _ two.0))
+    (at_most_tested (dot_of d v) (dot_of d d) (by_cases (same_point x q)
+    (λ e. subst (λ t. dot_of d (vector p t) ≤ℤ dot_of d d) (sym (points_same x q e))
+    (at_most_itself (dot_of d d)))
+    (λ other. at_most_of_less (dot_of d v) (dot_of d d) (before_end p q x on other)))))
+    (λ h. let two = both_of (stands_in p d x) (int_le (dot_of d v) (dot_of d d)) h in
+    both_true (not (same_point x p)) (is_on_segment x q p) (of_not _ (not_at_start p d x two.0))
+    (on_turned x p q (on_by p q x two.0 (tested_at_most (dot_of d v) (dot_of d d) two.1))))
 
 abbrev pub is_before_end : Point → Point → Corner → Bool
 is_before_end p d c = is_ahead p d c && int_lt (dot_of d (vector p c.here)) (dot_of d d)
@@ -204,7 +206,7 @@ stops_where p q c differ =
     let d = vector p q in
     stops_along p q c
     ∙ spread (not (same_point c.here q)) (is_on_segment c.here p q) (same_point c.here p) (stands_in p d c.here)
-        (int_lt (dot_of d (vector p c.here)) (dot_of d d)) (is_in_cone c d) (before_where p q c.here differ)
+    (int_lt (dot_of d (vector p c.here)) (dot_of d d)) (is_in_cone c d) (before_where p q c.here differ)
   where
     spread : (a b s t l k : Bool) → (a && b) ≡ (s || (t && l)) → (a && (b && k)) ≡ ((s && k) || ((t && k) && l))
     spread a b s t l k h = grind arith
@@ -215,7 +217,7 @@ stops_back_where p q c =
     stops_along q p c
     ∙ ap (λ t. not (same_point c.here p) && (is_on_segment c.here q p && is_in_cone c t)) (vector_turned p q)
     ∙ spread (not (same_point c.here p)) (is_on_segment c.here q p) (stands_in p d c.here)
-        (int_le (dot_of d (vector p c.here)) (dot_of d d)) (is_in_cone c (back_of d)) (after_where p q c.here)
+    (int_le (dot_of d (vector p c.here)) (dot_of d d)) (is_in_cone c (back_of d)) (after_where p q c.here)
   where
     spread : (a b t l k : Bool) → (a && b) ≡ (t && l) → (a && (b && k)) ≡ ((t && k) && l)
     spread a b t l k h = grind arith
@@ -226,34 +228,44 @@ pub none_before : (p d : Point) (corners : List Corner) → list_any (is_ahead p
     → list_any (is_before_end p d) corners ≡ false
 none_before p d corners h =
     any_is (is_before_end p d) corners no_corner false
-      (λ some. let c = get_or corners some.place no_corner in
-          sym h ∙ any_is (is_ahead p d) corners no_corner true (λ t. refl)
-            (λ t. record { place = some.place; within = some.within;
-                holds = (both_of (is_ahead p d c) (int_lt (dot_of d (vector p c.here)) (dot_of d d)) some.holds).0 }))
-      (λ k. absurd (grind arith))
+    (λ some. let c = get_or corners some.place no_corner in
+    sym h ∙ any_is (is_ahead p d) corners no_corner true (λ t. refl)
+    (λ t. record {
+      place = some.place;
+      within = some.within;
+      holds = (both_of (is_ahead p d c) (int_lt (dot_of d (vector p c.here)) (dot_of d d)) some.holds).0;
+    }))
+    (λ k. absurd (grind arith))
 
 pub none_up_to : (p d : Point) (corners : List Corner) → list_any (is_behind p d) corners ≡ false
     → list_any (is_up_to_end p d) corners ≡ false
 none_up_to p d corners h =
     any_is (is_up_to_end p d) corners no_corner false
-      (λ some. let c = get_or corners some.place no_corner in
-          sym h ∙ any_is (is_behind p d) corners no_corner true (λ t. refl)
-            (λ t. record { place = some.place; within = some.within;
-                holds = (both_of (is_behind p d c) (int_le (dot_of d (vector p c.here)) (dot_of d d)) some.holds).0 }))
-      (λ k. absurd (grind arith))
+    (λ some. let c = get_or corners some.place no_corner in
+    sym h ∙ any_is (is_behind p d) corners no_corner true (λ t. refl)
+    (λ t. record {
+      place = some.place;
+      within = some.within;
+      holds = (both_of (is_behind p d c) (int_le (dot_of d (vector p c.here)) (dot_of d d)) some.holds).0;
+    }))
+    (λ k. absurd (grind arith))
 
 pub before_by_nearest : (p d v : Point) (corners : List Corner) → IsNearest p d (is_ahead p d) corners v
     → list_any (is_before_end p d) corners ≡ int_lt (dot_of d v) (dot_of d d)
 before_by_nearest p d v corners n =
     any_is (is_before_end p d) corners no_corner (int_lt (dot_of d v) (dot_of d d))
-      (λ some. let c = get_or corners some.place no_corner in
-          let two = both_of (is_ahead p d c) (int_lt (dot_of d (vector p c.here)) (dot_of d d)) some.holds in
-          less_tested (dot_of d v) (dot_of d d) (chain (dot_of d v) (dot_of d (vector p c.here)) (dot_of d d)
-              (n.nearest some.place some.within two.0) (tested_less (dot_of d (vector p c.here)) (dot_of d d) two.1)))
-      (λ h. let c = get_or corners n.place no_corner in
-          record { place = n.place; within = n.within; holds = both_true (is_ahead p d c)
-              (int_lt (dot_of d (vector p c.here)) (dot_of d d)) n.passes
-              (subst (λ t. int_lt (dot_of d t) (dot_of d d) ≡ true) (sym n.at) h) })
+    (λ some. let c = get_or corners some.place no_corner in
+    let two = both_of (is_ahead p d c) (int_lt (dot_of d (vector p c.here)) (dot_of d d)) some.holds in
+    less_tested (dot_of d v) (dot_of d d) (chain (dot_of d v) (dot_of d (vector p c.here)) (dot_of d d)
+    (n.nearest some.place some.within two.0) (tested_less (dot_of d (vector p c.here)) (dot_of d d) two.1)))
+    (λ h. let c = get_or corners n.place no_corner in
+    record {
+      place = n.place;
+      within = n.within;
+      holds = both_true (is_ahead p d c)
+          (int_lt (dot_of d (vector p c.here)) (dot_of d d)) n.passes
+          (subst (λ t. int_lt (dot_of d t) (dot_of d d) ≡ true) (sym n.at) h);
+    })
   where
     chain : (x y z : ℤ) → x ≤ℤ y → y <ℤ z → x <ℤ z
     chain x y z h k = omega (arith, ints, h, k)
@@ -262,15 +274,19 @@ pub up_to_by_nearest : (p d v : Point) (corners : List Corner) → IsNearest p d
     → list_any (is_up_to_end p d) corners ≡ int_le (dot_of d v) (dot_of d d)
 up_to_by_nearest p d v corners n =
     any_is (is_up_to_end p d) corners no_corner (int_le (dot_of d v) (dot_of d d))
-      (λ some. let c = get_or corners some.place no_corner in
-          let two = both_of (is_behind p d c) (int_le (dot_of d (vector p c.here)) (dot_of d d)) some.holds in
-          at_most_tested (dot_of d v) (dot_of d d)
-              (chain (dot_of d v) (dot_of d (vector p c.here)) (dot_of d d) (n.nearest some.place some.within two.0)
-              (tested_at_most (dot_of d (vector p c.here)) (dot_of d d) two.1)))
-      (λ h. let c = get_or corners n.place no_corner in
-          record { place = n.place; within = n.within; holds = both_true (is_behind p d c)
-              (int_le (dot_of d (vector p c.here)) (dot_of d d)) n.passes
-              (subst (λ t. int_le (dot_of d t) (dot_of d d) ≡ true) (sym n.at) h) })
+    (λ some. let c = get_or corners some.place no_corner in
+    let two = both_of (is_behind p d c) (int_le (dot_of d (vector p c.here)) (dot_of d d)) some.holds in
+    at_most_tested (dot_of d v) (dot_of d d)
+    (chain (dot_of d v) (dot_of d (vector p c.here)) (dot_of d d) (n.nearest some.place some.within two.0)
+    (tested_at_most (dot_of d (vector p c.here)) (dot_of d d) two.1)))
+    (λ h. let c = get_or corners n.place no_corner in
+    record {
+      place = n.place;
+      within = n.within;
+      holds = both_true (is_behind p d c)
+          (int_le (dot_of d (vector p c.here)) (dot_of d d)) n.passes
+          (subst (λ t. int_le (dot_of d t) (dot_of d d) ≡ true) (sym n.at) h);
+    })
   where
     chain : (x y z : ℤ) → x ≤ℤ y → y ≤ℤ z → x ≤ℤ z
     chain x y z h k = omega (arith, ints, h, k)
@@ -278,13 +294,13 @@ up_to_by_nearest p d v corners n =
 -- the corners that block a segment: one at its start, one ahead before its end, one that is in the way back
 pub corners_where : (p q : Point) (corners : List Corner) → same_point p q ≡ false
     → list_any (corner_blocks p q) corners
-        ≡ ((list_any (is_own p (vector p q)) corners || list_any (is_before_end p (vector p q)) corners)
-        || list_any (is_up_to_end p (vector p q)) corners)
+    ≡ ((list_any (is_own p (vector p q)) corners || list_any (is_before_end p (vector p q)) corners)
+    || list_any (is_up_to_end p (vector p q)) corners)
 corners_where p q corners differ =
     let d = vector p q in
     list_any_or (corner_stops p q) (corner_stops q p) corners
     ∙ ap (λ t. t || list_any (corner_stops q p) corners)
-        (list_any_agree (corner_stops p q) (λ c. is_own p d c || is_before_end p d c) (λ c. stops_where p q c differ)
-            corners ∙ list_any_or (is_own p d) (is_before_end p d) corners)
+    (list_any_agree (corner_stops p q) (λ c. is_own p d c || is_before_end p d c) (λ c. stops_where p q c differ)
+    corners ∙ list_any_or (is_own p d) (is_before_end p d) corners)
     ∙ ap (λ t. (list_any (is_own p d) corners || list_any (is_before_end p d) corners) || t)
-        (list_any_agree (corner_stops q p) (is_up_to_end p d) (λ c. stops_back_where p q c) corners)
+    (list_any_agree (corner_stops q p) (is_up_to_end p d) (λ c. stops_back_where p q c) corners)

@@ -51,8 +51,8 @@ pub front_is_behind : (d : Point) (s t : Seen) → spans d s ≡ true → spans 
     → is_before (hit_of d s) (hit_of d t) ≡ true → side_of t d ≤ℤ pos 0 → side_of s d <ℤ pos 0
 front_is_behind d s t s_spans t_spans before behind =
     subst (λ z. z <ℤ pos 0) (sym (side_by_hit s d))
-      (before_one (hit_of d s).num (hit_of d s).den (hit_of d t).num (hit_of d t).den (den_up d s s_spans)
-          (den_up d t t_spans) before (subst (λ z. z ≤ℤ pos 0) (side_by_hit t d) behind))
+    (before_one (hit_of d s).num (hit_of d s).den (hit_of d t).num (hit_of d t).den (den_up d s s_spans)
+    (den_up d t t_spans) before (subst (λ z. z ≤ℤ pos 0) (side_by_hit t d) behind))
 
 -- ---- proper crossings
 
@@ -78,22 +78,26 @@ pub crossed_by_front : (p q : Point) (blockers : List Segment) (k : ℕ) (s : Se
     → list_any (crosses p q) blockers ≡ int_lt (side_of s (vector p q)) (pos 0)
 crossed_by_front p q blockers k s front =
     any_is (crosses p q) blockers nowhere (int_lt (side_of s (vector p q)) (pos 0))
-      (λ some. let d = vector p q in
-          let c = crossed_of d (seen_at p blockers some.place)
-              (sym (crosses_at p q blockers some.place some.within) ∙ some.holds) in
-          negative_tested _ (by_same some.place k
-            (λ e. subst (λ t. side_of t d <ℤ pos 0)
-                (some_same c.seen s (sym c.is ∙ ap (seen_at p blockers) e ∙ front.seen)) c.behind)
-            (λ n. front_is_behind d s c.seen front.spanned c.spanned
-                (front.nearest some.place c.seen some.within n c.is c.spanned) (not_above _ c.behind))))
-      (λ h. record { place = k; within = front.within; holds = crosses_at p q blockers k front.within
-          ∙ ap (crossed_where (vector p q)) front.seen ∙ both_true (spans (vector p q) s) _ front.spanned h })
+    (λ some. let d = vector p q in
+    let c = crossed_of d (seen_at p blockers some.place)
+    (sym (crosses_at p q blockers some.place some.within) ∙ some.holds) in
+    negative_tested _ (by_same some.place k
+    (λ e. subst (λ t. side_of t d <ℤ pos 0)
+    (some_same c.seen s (sym c.is ∙ ap (seen_at p blockers) e ∙ front.seen)) c.behind)
+    (λ n. front_is_behind d s c.seen front.spanned c.spanned
+    (front.nearest some.place c.seen some.within n c.is c.spanned) (not_above _ c.behind))))
+    (λ h. record {
+      place = k;
+      within = front.within;
+      holds = crosses_at p q blockers k front.within
+          ∙ ap (crossed_where (vector p q)) front.seen ∙ both_true (spans (vector p q) s) _ front.spanned h;
+    })
 
 pub crossed_by_none : (p q : Point) (blockers : List Segment) → IsBare p (vector p q) blockers
     → list_any (crosses p q) blockers ≡ false
 crossed_by_none p q blockers bare =
     any_is (crosses p q) blockers nowhere false
-      (λ some. let c = crossed_of (vector p q) (seen_at p blockers some.place)
-          (sym (crosses_at p q blockers some.place some.within) ∙ some.holds) in
-          absurd (clash (spans (vector p q) c.seen) c.spanned (bare.none some.place c.seen some.within c.is)))
-      (λ h. absurd (grind arith))
+    (λ some. let c = crossed_of (vector p q) (seen_at p blockers some.place)
+    (sym (crosses_at p q blockers some.place some.within) ∙ some.holds) in
+    absurd (clash (spans (vector p q) c.seen) c.spanned (bare.none some.place c.seen some.within c.is)))
+    (λ h. absurd (grind arith))

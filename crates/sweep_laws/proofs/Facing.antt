@@ -52,9 +52,9 @@ faces_of : (p q : Point) (w : Segment) → starts_into_wall q p w ≡ true → F
 unfolding faces_where
 faces_of p q w h =
     let one = both_of (has_on_left p w) (spans (vector p q) (ahead_of p w)
-        && int_eq (side_of (ahead_of p w) (vector p q)) (pos 0)) (sym (leaves_where p q w) ∙ h) in
+    && int_eq (side_of (ahead_of p w) (vector p q)) (pos 0)) (sym (leaves_where p q w) ∙ h) in
     let two = both_of (spans (vector p q) (ahead_of p w)) (int_eq (side_of (ahead_of p w) (vector p q)) (pos 0)) one.1
-        in
+    in
     record { left = one.0; spanned = two.0; on = tested_zero (side_of (ahead_of p w) (vector p q)) two.1 }
 
 leaves_of : (p q : Point) (w : Segment) → Faces p q w → starts_into_wall q p w ≡ true
@@ -62,9 +62,9 @@ unfolding faces_where
 leaves_of p q w f =
     leaves_where p q w
     ∙ both_true (has_on_left p w) (spans (vector p q) (ahead_of p w)
-        && int_eq (side_of (ahead_of p w) (vector p q)) (pos 0)) f.left
-        (both_true (spans (vector p q) (ahead_of p w)) (int_eq (side_of (ahead_of p w) (vector p q)) (pos 0)) f.spanned
-            (zero_tested (side_of (ahead_of p w) (vector p q)) f.on))
+    && int_eq (side_of (ahead_of p w) (vector p q)) (pos 0)) f.left
+    (both_true (spans (vector p q) (ahead_of p w)) (int_eq (side_of (ahead_of p w) (vector p q)) (pos 0)) f.spanned
+    (zero_tested (side_of (ahead_of p w) (vector p q)) f.on))
 
 not_negative : (z : ℤ) → int_lt z (pos 0) ≡ false → z <ℤ pos 0 → ⊥
 not_negative z h k = omega (arith, ints, h, k)
@@ -78,56 +78,60 @@ faced_by_front : (p q : Point) (walls screens : List Segment) (k : ℕ) (s : See
 faced_by_front p q walls screens k s front uncrossed =
     let d = vector p q in
     any_is (λ w. starts_into_wall q p w) walls nowhere (int_eq (side_of s d) (pos 0) && hides_itself p walls k)
-      (λ some. let w = get_or walls some.place nowhere in
-          let f = faces_of p q w some.holds in
-          let seen : seen_at p (walls ++ screens) some.place
-              ≡ Some (ahead_of p w) = wall_at p walls screens some.place some.within ∙ seen_ahead p w f.left in
-          by_same some.place k
-            (λ e. let same : ahead_of p w ≡ s = some_same (ahead_of p w) s
-                (sym seen ∙ ap (seen_at p (walls ++ screens)) e ∙ front.seen) in
-                both_true (int_eq (side_of s d) (pos 0)) (hides_itself p walls k)
-                  (zero_tested (side_of s d) (subst (λ t. side_of t d ≡ pos 0) same f.on))
-                  (both_true (nat_lt k (length walls)) (has_on_left p (get_or walls k nowhere))
-                      (number_less_tested k (length walls) (subst (λ t. t < length walls) e some.within))
-                      (subst (λ t. has_on_left p (get_or walls t nowhere) ≡ true) e f.left)))
-            (λ n. absurd (not_negative (side_of s d) uncrossed
-                (front_is_behind d s (ahead_of p w) front.spanned f.spanned
-                    (front.nearest some.place (ahead_of p w) (append_within walls screens some.place some.within) n
-                    seen f.spanned) (at_most_zero _ f.on)))))
-      (λ h. let one = both_of (int_eq (side_of s d) (pos 0)) (hides_itself p walls k) h in
-          let two = both_of (nat_lt k (length walls)) (has_on_left p (get_or walls k nowhere)) one.1 in
-          let w = get_or walls k nowhere in
-          let within = tested_number_less k (length walls) two.0 in
-          let same : ahead_of p w ≡ s = some_same (ahead_of p w) s
-              (sym (wall_at p walls screens k within ∙ seen_ahead p w two.1) ∙ front.seen) in
-          record { place = k; within = within; holds = leaves_of p q w (record {
-            left = two.1;
-            spanned = subst (λ t. spans d t ≡ true) (sym same) front.spanned;
-            on = subst (λ t. side_of t d ≡ pos 0) (sym same) (tested_zero (side_of s d) one.0);
-          }) })
+    (λ some. let w = get_or walls some.place nowhere in
+    let f = faces_of p q w some.holds in
+    let seen : seen_at p (walls ++ screens) some.place
+    ≡ Some (ahead_of p w) = wall_at p walls screens some.place some.within ∙ seen_ahead p w f.left in
+    by_same some.place k
+    (λ e. let same : ahead_of p w ≡ s = some_same (ahead_of p w) s
+    (sym seen ∙ ap (seen_at p (walls ++ screens)) e ∙ front.seen) in
+    both_true (int_eq (side_of s d) (pos 0)) (hides_itself p walls k)
+    (zero_tested (side_of s d) (subst (λ t. side_of t d ≡ pos 0) same f.on))
+    (both_true (nat_lt k (length walls)) (has_on_left p (get_or walls k nowhere))
+    (number_less_tested k (length walls) (subst (λ t. t < length walls) e some.within))
+    (subst (λ t. has_on_left p (get_or walls t nowhere) ≡ true) e f.left)))
+    (λ n. absurd (not_negative (side_of s d) uncrossed
+    (front_is_behind d s (ahead_of p w) front.spanned f.spanned
+    (front.nearest some.place (ahead_of p w) (append_within walls screens some.place some.within) n
+    seen f.spanned) (at_most_zero _ f.on)))))
+    (λ h. let one = both_of (int_eq (side_of s d) (pos 0)) (hides_itself p walls k) h in
+    let two = both_of (nat_lt k (length walls)) (has_on_left p (get_or walls k nowhere)) one.1 in
+    let w = get_or walls k nowhere in
+    let within = tested_number_less k (length walls) two.0 in
+    let same : ahead_of p w ≡ s = some_same (ahead_of p w) s
+    (sym (wall_at p walls screens k within ∙ seen_ahead p w two.1) ∙ front.seen) in
+    record {
+      place = k;
+      within = within;
+      holds = leaves_of p q w (record {
+        left = two.1;
+        spanned = subst (λ t. spans d t ≡ true) (sym same) front.spanned;
+        on = subst (λ t. side_of t d ≡ pos 0) (sym same) (tested_zero (side_of s d) one.0);
+      });
+    })
 
 -- a point is hidden by walls and screens exactly where it is behind the first one that is spanned, or on it and that
 -- hides itself
 pub hidden_by_front : (p q : Point) (walls screens : List Segment) (k : ℕ) (s : Seen)
     → IsFront p (vector p q) (walls ++ screens) k s
     → (list_any (crosses p q) (walls ++ screens) || list_any (λ w. starts_into_wall q p w) walls)
-      ≡ (int_lt (side_of s (vector p q)) (pos 0) || (int_eq (side_of s (vector p q)) (pos 0) && hides_itself p walls k))
+    ≡ (int_lt (side_of s (vector p q)) (pos 0) || (int_eq (side_of s (vector p q)) (pos 0) && hides_itself p walls k))
 hidden_by_front p q walls screens k s front =
     let d = vector p q in
     ap (λ t. t || list_any (λ w. starts_into_wall q p w) walls) (crossed_by_front p q (walls ++ screens) k s front)
     ∙ by_cases (int_lt (side_of s d) (pos 0))
-        (λ h. ap (λ t. t || list_any (λ w. starts_into_wall q p w) walls) h
-            ∙ sym (ap (λ t. t || (int_eq (side_of s d) (pos 0) && hides_itself p walls k)) h))
-        (λ h. ap (λ t. int_lt (side_of s d) (pos 0) || t) (faced_by_front p q walls screens k s front h))
+    (λ h. ap (λ t. t || list_any (λ w. starts_into_wall q p w) walls) h
+    ∙ sym (ap (λ t. t || (int_eq (side_of s d) (pos 0) && hides_itself p walls k)) h))
+    (λ h. ap (λ t. int_lt (side_of s d) (pos 0) || t) (faced_by_front p q walls screens k s front h))
 
 pub hidden_by_none : (p q : Point) (walls screens : List Segment) → IsBare p (vector p q) (walls ++ screens)
     → (list_any (crosses p q) (walls ++ screens) || list_any (λ w. starts_into_wall q p w) walls) ≡ false
 hidden_by_none p q walls screens bare =
     ap (λ t. t || list_any (λ w. starts_into_wall q p w) walls) (crossed_by_none p q (walls ++ screens) bare)
     ∙ any_is (λ w. starts_into_wall q p w) walls nowhere false
-        (λ some. let w = get_or walls some.place nowhere in
-            let f = faces_of p q w some.holds in
-            absurd (clash (spans (vector p q) (ahead_of p w)) f.spanned
-              (bare.none some.place (ahead_of p w) (append_within walls screens some.place some.within)
-                  (wall_at p walls screens some.place some.within ∙ seen_ahead p w f.left))))
-        (λ h. absurd (grind arith))
+    (λ some. let w = get_or walls some.place nowhere in
+    let f = faces_of p q w some.holds in
+    absurd (clash (spans (vector p q) (ahead_of p w)) f.spanned
+    (bare.none some.place (ahead_of p w) (append_within walls screens some.place some.within)
+    (wall_at p walls screens some.place some.within ∙ seen_ahead p w f.left))))
+    (λ h. absurd (grind arith))

@@ -13,8 +13,8 @@ use Rattle.sweep_laws.specs.First.{AreAllApart}
 pub all_apart : (plan : Plan) (p d : Point) → is_sound plan ≡ true → AreAllApart p d (blockers_of_scene (scene_of plan))
 all_apart plan p d sound i j s t other i_in j_in s_is t_is s_spans t_spans =
     by_lt i j
-      (λ lt. (blockers_apart plan p d i j s t sound lt j_in s_is t_is s_spans t_spans).first)
-      (λ le. (blockers_apart plan p d j i t s sound (below i j le other) i_in t_is s_is t_spans s_spans).second)
+    (λ lt. (blockers_apart plan p d i j s t sound lt j_in s_is t_is s_spans t_spans).first)
+    (λ le. (blockers_apart plan p d j i t s sound (below i j le other) i_in t_is s_is t_spans s_spans).second)
   where
     below : (i j : ℕ) → j ≤ i → i ≢ j → j < i
     below i j h k = by_lt j i (λ lt. lt) (λ ge. absurd (k (omega (arith, h, ge))))

@@ -39,14 +39,14 @@ place_is test [] k d lt h f = absurd (omega arith)
 place_is test (x ∷ xs) zero d lt h f = step_first test x xs h
 place_is test (x ∷ xs) (suc k) d lt h f =
     step_next test x xs (f 0 (omega arith))
-        ∙ ap suc (place_is test xs k d (omega arith) h (λ j l. f (suc j) (omega arith)))
+    ∙ ap suc (place_is test xs k d (omega arith) h (λ j l. f (suc j) (omega arith)))
 
 position_is : {X : Type 0} (test : X → Bool) (xs : List X) (k : ℕ) (d : X) → k < length xs → test (get_or xs k d)
     ≡ true → ((j : ℕ) → j < k → test (get_or xs j d) ≡ false) → position test xs ≡ Some k
 position_is test xs k d lt h f =
     let e = place_is test xs k d lt h f in
     ap (λ t. cond (nat_lt t (length xs)) (Some t) None) e
-        ∙ ap (λ t. cond t (Some k) None) (number_less_tested k (length xs) lt)
+    ∙ ap (λ t. cond t (Some k) None) (number_less_tested k (length xs) lt)
 
 no_place : {X : Type 0} (test : X → Bool) (xs : List X) (d : X)
     → ((j : ℕ) → j < length xs → test (get_or xs j d) ≡ false) → position_or_len test xs ≡ length xs
@@ -115,7 +115,7 @@ pub others_later : (p d : Point) (blockers : List Segment) (k j : ℕ) (s : Seen
     → j < length blockers → j ≢ k → Later d s (blocker_hit p d (get_or blockers j nowhere))
 others_later p d blockers k j s front within other =
     subst (Later d s) (sym (hit_at p d blockers j within))
-        (later_seen d s (seen_at p blockers j) (λ t e h. front.nearest j t within other e h))
+    (later_seen d s (seen_at p blockers j) (λ t e h. front.nearest j t within other e h))
 
 -- nothing is hit before the first
 not_before : (d : Point) (s : Seen) (o : Option Fraction) → Later d s o → passes_hit (λ h. is_before h (hit_of d s)) o
@@ -128,12 +128,12 @@ pub none_before_front : (p d : Point) (blockers : List Segment) (k : ℕ) (s : S
 none_before_front p d blockers k s front =
     any_found (λ o. is_before o (hit_of d s)) (blocker_hit p d) blockers
     ∙ any_is (λ w. passes_hit (λ o. is_before o (hit_of d s)) (blocker_hit p d w)) blockers nowhere false
-        (λ some. sym (by_same some.place k
-            (λ e. ap (λ t. passes_hit (λ o. is_before o (hit_of d s)) (blocker_hit p d (get_or blockers t nowhere))) e
-                ∙ ap (passes_hit (λ o. is_before o (hit_of d s))) (front_hit p d blockers k s front)
-                ∙ never_self (hit_of d s))
-            (λ n. not_before d s _ (others_later p d blockers k some.place s front some.within n))) ∙ some.holds)
-        (λ h. absurd (grind arith))
+    (λ some. sym (by_same some.place k
+    (λ e. ap (λ t. passes_hit (λ o. is_before o (hit_of d s)) (blocker_hit p d (get_or blockers t nowhere))) e
+    ∙ ap (passes_hit (λ o. is_before o (hit_of d s))) (front_hit p d blockers k s front)
+    ∙ never_self (hit_of d s))
+    (λ n. not_before d s _ (others_later p d blockers k some.place s front some.within n))) ∙ some.holds)
+    (λ h. absurd (grind arith))
 
 front_nearest : (p d : Point) (blockers : List Segment) (k : ℕ) (s : Seen) → IsFront p d blockers k s
     → is_nearest p d blockers (get_or blockers k nowhere) ≡ true
@@ -147,9 +147,13 @@ other_not p d blockers k j s front (missed e) = none_nearest p d blockers (get_o
 other_not p d blockers k j s front (later h e before) =
     hit_nearest p d blockers (get_or blockers j nowhere) h e
     ∙ ap not (any_found (λ o. is_before o h) (blocker_hit p d) blockers
-        ∙ any_at (λ w. passes_hit (λ o. is_before o h) (blocker_hit p d w)) blockers nowhere
-            (record { place = k; within = front.within; holds = ap (passes_hit (λ o. is_before o h))
-                (front_hit p d blockers k s front) ∙ before }))
+    ∙ any_at (λ w. passes_hit (λ o. is_before o h) (blocker_hit p d w)) blockers nowhere
+    (record {
+      place = k;
+      within = front.within;
+      holds = ap (passes_hit (λ o. is_before o h))
+          (front_hit p d blockers k s front) ∙ before;
+    }))
 
 pub bare_hit : (p d : Point) (blockers : List Segment) (j : ℕ) → IsBare p d blockers → j < length blockers
     → blocker_hit p d (get_or blockers j nowhere) ≡ None
@@ -167,14 +171,14 @@ unfolding near_wall_of
 near_wall_is scene p d None bare =
     let blockers = blockers_of_scene scene in
     no_position (is_nearest p d blockers) blockers nowhere
-      (λ j within. none_nearest p d blockers (get_or blockers j nowhere) (bare_hit p d blockers j bare within))
+    (λ j within. none_nearest p d blockers (get_or blockers j nowhere) (bare_hit p d blockers j bare within))
 near_wall_is scene p d (Some first) front =
     let blockers = blockers_of_scene scene in
     position_is (is_nearest p d blockers) blockers first.0 nowhere front.within
-        (front_nearest p d blockers first.0 first.1 front)
-      (λ j lt. other_not p d blockers first.0 j first.1 front
-          (others_later p d blockers first.0 j first.1 front (below j first.0 (length blockers) lt front.within)
-          (λ e. never_equal j first.0 lt e)))
+    (front_nearest p d blockers first.0 first.1 front)
+    (λ j lt. other_not p d blockers first.0 j first.1 front
+    (others_later p d blockers first.0 j first.1 front (below j first.0 (length blockers) lt front.within)
+    (λ e. never_equal j first.0 lt e)))
   where
     below : (j k n : ℕ) → j < k → k < n → j < n
     below j k n h l = omega (arith, h, l)

@@ -20,33 +20,37 @@ use Rattle.turn_laws.specs.Turns.{AreOneWay}
 onward : (m s e : ℤ) → is_between m s e ≡ true → pos 0 ≤ℤ ((e -ℤ m) *ℤ (e -ℤ s))
 onward m s e h = by_lt_z e m
     (λ back. let p = not_negative_product (neg_ℤ (e -ℤ m)) (neg_ℤ (e -ℤ s)) (omega (arith, ints, back))
-        (back_from m s e h back) in
-        let f = neg_times (e -ℤ m) (neg_ℤ (e -ℤ s)) in let g = times_neg (e -ℤ m) (e -ℤ s) in
-            omega (arith, ints, p, f, g))
+    (back_from m s e h back) in
+    let f = neg_times (e -ℤ m) (neg_ℤ (e -ℤ s)) in let g = times_neg (e -ℤ m) (e -ℤ s) in
+    omega (arith, ints, p, f, g))
     (λ ahead. by_lt_z m e
-      (λ more. not_negative_product (e -ℤ m) (e -ℤ s) (omega (arith, ints, ahead)) (ahead_from m s e h more))
-      (λ end. none (e -ℤ m) (e -ℤ s) (omega (arith, ints, ahead, end))))
+    (λ more. not_negative_product (e -ℤ m) (e -ℤ s) (omega (arith, ints, ahead)) (ahead_from m s e h more))
+    (λ end. none (e -ℤ m) (e -ℤ s) (omega (arith, ints, ahead, end))))
   where
     none : (x y : ℤ) → x ≡ pos 0 → pos 0 ≤ℤ (x *ℤ y)
     none x y h = let k : x *ℤ y ≡ pos 0 *ℤ y = ap (λ t. t *ℤ y) h in omega (arith, ints, k)
+
     back_from : (m s e : ℤ) → is_between m s e ≡ true → e <ℤ m → pos 0 ≤ℤ neg_ℤ (e -ℤ s)
     back_from m s e h k = grind (arith, ints)
+
     ahead_from : (m s e : ℤ) → is_between m s e ≡ true → m <ℤ e → pos 0 ≤ℤ (e -ℤ s)
     ahead_from m s e h k = grind (arith, ints)
 
 onward_strictly : (m s e : ℤ) → is_between m s e ≡ true → int_eq m e ≡ false → pos 0 <ℤ ((e -ℤ m) *ℤ (e -ℤ s))
 onward_strictly m s e h other = by_lt_z e m
     (λ back. let p = positive_product (neg_ℤ (e -ℤ m)) (neg_ℤ (e -ℤ s)) (omega (arith, ints, back))
-        (back_from m s e h back) in
-        let f = neg_times (e -ℤ m) (neg_ℤ (e -ℤ s)) in let g = times_neg (e -ℤ m) (e -ℤ s) in
-            omega (arith, ints, p, f, g))
+    (back_from m s e h back) in
+    let f = neg_times (e -ℤ m) (neg_ℤ (e -ℤ s)) in let g = times_neg (e -ℤ m) (e -ℤ s) in
+    omega (arith, ints, p, f, g))
     (λ ahead. let more = apart m e ahead other in
-        positive_product (e -ℤ m) (e -ℤ s) (omega (arith, ints, more)) (ahead_from m s e h more))
+    positive_product (e -ℤ m) (e -ℤ s) (omega (arith, ints, more)) (ahead_from m s e h more))
   where
     apart : (m e : ℤ) → m ≤ℤ e → int_eq m e ≡ false → m <ℤ e
     apart m e h k = grind (arith, ints)
+
     back_from : (m s e : ℤ) → is_between m s e ≡ true → e <ℤ m → pos 0 <ℤ neg_ℤ (e -ℤ s)
     back_from m s e h k = grind (arith, ints)
+
     ahead_from : (m s e : ℤ) → is_between m s e ≡ true → m <ℤ e → pos 0 <ℤ (e -ℤ s)
     ahead_from m s e h k = grind (arith, ints)
 
@@ -62,9 +66,9 @@ sum_second a b h k = omega (arith, ints, h, k)
 square_of_first : (x y : ℤ) → pos 0 <ℤ (x *ℤ y) → pos 0 <ℤ (x *ℤ x)
 square_of_first x y h = by_lt_z x (pos 0)
     (λ low. let p = positive_product (neg_ℤ x) (neg_ℤ x) (omega (arith, ints, low)) (omega (arith, ints, low)) in
-        let f = neg_times x (neg_ℤ x) in let g = times_neg x x in omega (arith, ints, p, f, g))
+    let f = neg_times x (neg_ℤ x) in let g = times_neg x x in omega (arith, ints, p, f, g))
     (λ high. by_lt_z (pos 0) x (λ up. positive_product x x up up)
-        (λ none. absurd (zero x y (omega (arith, ints, high, none)) h)))
+    (λ none. absurd (zero x y (omega (arith, ints, high, none)) h)))
   where
     zero : (x y : ℤ) → x ≡ pos 0 → pos 0 <ℤ (x *ℤ y) → ⊥
     zero x y e h = let k : x *ℤ y ≡ pos 0 *ℤ y = ap (λ t. t *ℤ y) e in omega (arith, ints, k, h)
@@ -94,12 +98,12 @@ rest_diff px py qx qy vx vy h =
     let a = times_minus (qx -ℤ px) vy py in
     let b = times_minus (qy -ℤ py) vx px in
     let c : (qx -ℤ vx) *ℤ (qy -ℤ py) ≡ (qy -ℤ py) *ℤ qx -ℤ (qy -ℤ py) *ℤ vx = product_swapped (qx -ℤ vx) (qy -ℤ py)
-        ∙ times_minus (qy -ℤ py) qx vx in
+    ∙ times_minus (qy -ℤ py) qx vx in
     let d : (qy -ℤ vy) *ℤ (qx -ℤ px) ≡ (qx -ℤ px) *ℤ qy -ℤ (qx -ℤ px) *ℤ vy = product_swapped (qy -ℤ vy) (qx -ℤ px)
-        ∙ times_minus (qx -ℤ px) qy vy in
+    ∙ times_minus (qx -ℤ px) qy vy in
     let e = times_minus (qx -ℤ px) qy py in
     let f : (qx -ℤ px) *ℤ (qy -ℤ py) ≡ (qy -ℤ py) *ℤ qx -ℤ (qy -ℤ py) *ℤ px = product_swapped (qx -ℤ px) (qy -ℤ py)
-        ∙ times_minus (qy -ℤ py) qx px in
+    ∙ times_minus (qy -ℤ py) qx px in
     omega (arith, ints, a, b, c, d, e, f, h)
 
 -- from a point of the segment that isn't its end, the way on is the segment's own
@@ -110,9 +114,9 @@ onward_of v p q h other =
     let two = both_of (is_between v.x p.x q.x) (is_between v.y p.y q.y) one.1 in
     let line = rest_diff p.x p.y q.x q.y v.x v.y (tested_zero (orient_of p q v) one.0) in
     onward_by v p q line (onward v.x p.x q.x two.0) (onward v.y p.y q.y two.1)
-      (by_cases (int_eq v.x q.x)
-        (λ e. inr (onward_strictly v.y p.y q.y two.1 (other_of_both (int_eq v.x q.x) (int_eq v.y q.y) e other)))
-        (λ e. inl (onward_strictly v.x p.x q.x two.0 e)))
+    (by_cases (int_eq v.x q.x)
+    (λ e. inr (onward_strictly v.y p.y q.y two.1 (other_of_both (int_eq v.x q.x) (int_eq v.y q.y) e other)))
+    (λ e. inl (onward_strictly v.x p.x q.x two.0 e)))
 
 -- a corner stops a segment exactly where it stands on it, before its end, with the segment's own direction in its cone
 pub stops_along : (p q : Point) (c : Corner) → corner_stops p q c
@@ -120,9 +124,9 @@ pub stops_along : (p q : Point) (c : Corner) → corner_stops p q c
 unfolding corner_stops
 stops_along p q c =
     guarded (same_point c.here q) (is_on_segment c.here p q) (is_in_cone c (vector c.here q))
-        (is_in_cone c (vector p q))
-      (λ other on. let w = onward_of c.here p q on other in
-          same_cone c (vector c.here q) (vector p q) w.way w.rest w.whole)
+    (is_in_cone c (vector p q))
+    (λ other on. let w = onward_of c.here p q on other in
+    same_cone c (vector c.here q) (vector p q) w.way w.rest w.whole)
   where
     guarded : (s o a b : Bool) → (s ≡ false → o ≡ true → a ≡ b) → (not s && (o && a)) ≡ (not s && (o && b))
     guarded true o a b f = refl

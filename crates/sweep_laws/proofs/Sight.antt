@@ -34,7 +34,7 @@ use Rattle.sweep_laws.specs.First.{seen_first}
 
 hidden_is : (scene : Scene) (p q : Point) (first : Option (ℕ × Seen)) → IsFirst scene p (vector p q) first
     → (list_any (crosses p q) (blockers_of_scene scene) || list_any (λ w. starts_into_wall q p w) scene.walls)
-        ≡ is_hidden (first_hides scene p first) (vector p q) (seen_first first)
+    ≡ is_hidden (first_hides scene p first) (vector p q) (seen_first first)
 hidden_is scene p q None h = hidden_by_none p q scene.walls scene.screens h
 hidden_is scene p q (Some first) h = hidden_by_front p q scene.walls scene.screens first.0 first.1 h
 
@@ -61,9 +61,9 @@ left_is : (p q : Point) (w : Segment) → starts_into_wall p q w ≡ leaves_left
 unfolding starts_into_wall
 left_is p q w =
     guarded (is_in_interior p w) (is_left_of_line w.a w.b q) (turns_left (vector w.a w.b) (vector p q))
-      (λ on. ap (int_lt (pos 0)) (from_line (w.b.x -ℤ w.a.x) (w.b.y -ℤ w.a.y) p.x p.y q.x q.y w.a.x w.a.y
-        (line_of_segment p w.a w.b (both_of (is_on_segment p w.a w.b)
-            (not (same_point p w.a) && not (same_point p w.b)) on).0)))
+    (λ on. ap (int_lt (pos 0)) (from_line (w.b.x -ℤ w.a.x) (w.b.y -ℤ w.a.y) p.x p.y q.x q.y w.a.x w.a.y
+    (line_of_segment p w.a w.b (both_of (is_on_segment p w.a w.b)
+    (not (same_point p w.a) && not (same_point p w.b)) on).0)))
 
 reorder : (c l f o b u : Bool) → (c || ((l || f) || ((o || b) || u))) ≡ ((l || o) || ((c || f) || (b || u)))
 reorder c l f o b u = grind arith
@@ -75,8 +75,8 @@ pub blocked_is : (scene : Scene) (p q : Point) (first : Option (ℕ × Seen)) (a
     → IsNearestOrNone p (vector p q) (is_ahead p (vector p q)) scene.corners ahead
     → IsNearestOrNone p (vector p q) (is_behind p (vector p q)) scene.corners behind
     → is_blocked scene p q ≡ (begins_blocked scene p (vector p q)
-        || (is_hidden (first_hides scene p first) (vector p q) (seen_first first)
-        || (is_nearer (vector p q) ahead || is_up_to (vector p q) behind)))
+    || (is_hidden (first_hides scene p first) (vector p q) (seen_first first)
+    || (is_nearer (vector p q) ahead || is_up_to (vector p q) behind)))
 unfolding is_blocked
 blocked_is scene p q first ahead behind differ front near back =
     let d = vector p q in
@@ -87,15 +87,15 @@ blocked_is scene p q first ahead behind differ front near back =
     let b = list_any (is_before_end p d) scene.corners in
     let u = list_any (is_up_to_end p d) scene.corners in
     ap (λ t. c || (t || list_any (corner_blocks p q) scene.corners))
-      (list_any_or (starts_into_wall p q) (λ w. starts_into_wall q p w) scene.walls
-          ∙ ap (λ t. t || f) (list_any_agree (starts_into_wall p q) (leaves_left p d) (λ w. left_is p q w) scene.walls))
+    (list_any_or (starts_into_wall p q) (λ w. starts_into_wall q p w) scene.walls
+    ∙ ap (λ t. t || f) (list_any_agree (starts_into_wall p q) (leaves_left p d) (λ w. left_is p q w) scene.walls))
     ∙ ap (λ t. c || ((l || f) || t)) (corners_where p q scene.corners differ)
     ∙ reorder c l f o b u
     ∙ ap (λ t. (l || o) || (t || (b || u))) (hidden_is scene p q first front)
     ∙ ap (λ t. (l || o) || (is_hidden (first_hides scene p first) d (seen_first first) || (t || u)))
-        (nearer_is p d scene.corners ahead near)
+    (nearer_is p d scene.corners ahead near)
     ∙ ap (λ t. (l || o) || (is_hidden (first_hides scene p first) d (seen_first first) || (is_nearer d ahead || t)))
-        (up_to_is p d scene.corners behind back)
+    (up_to_is p d scene.corners behind back)
 
 -- the answer to a point
 pub sight_is : (scene : Scene) (p q : Point) (first : Option (ℕ × Seen)) (ahead behind : Option Point) → same_point p q
@@ -104,9 +104,9 @@ pub sight_is : (scene : Scene) (p q : Point) (first : Option (ℕ × Seen)) (ahe
     → IsNearestOrNone p (vector p q) (is_ahead p (vector p q)) scene.corners ahead
     → IsNearestOrNone p (vector p q) (is_behind p (vector p q)) scene.corners behind
     → are_in_sight scene p q ≡ not (begins_blocked scene p (vector p q)
-        || (is_hidden (first_hides scene p first) (vector p q) (seen_first first)
-        || (is_nearer (vector p q) ahead || is_up_to (vector p q) behind)))
+    || (is_hidden (first_hides scene p first) (vector p q) (seen_first first)
+    || (is_nearer (vector p q) ahead || is_up_to (vector p q) behind)))
 unfolding are_in_sight
 sight_is scene p q first ahead behind differ front near back =
     ap (λ t. not t && not (is_blocked scene p q)) differ
-        ∙ ap not (blocked_is scene p q first ahead behind differ front near back)
+    ∙ ap not (blocked_is scene p q first ahead behind differ front near back)

@@ -61,7 +61,6 @@ none_at : {X : Type 0} (test : X → Bool) (xs : List X) (k : ℕ) (d : X) → l
     → test (get_or xs k d) ≡ false
 none_at test [] k d h lt = absurd (omega arith)
 none_at test (x ∷ xs) zero d h lt = neither_first (test x) (list_any test xs) h
-
 none_at test (x ∷ xs) (suc k) d h lt = none_at test xs k d (neither_second (test x) (list_any test xs) h) (omega arith)
 
 none_of : {X : Type 0} (test : X → Bool) (xs : List X) (d : X)
@@ -93,12 +92,12 @@ best_value a xs h all l =
     let rest : All IsUp xs = λ k d lt. all (suc k) d (omega arith) in
     let best_up : IsUp best = up_best IsUp a xs a_up rest in
     let first : is_before best h ≡ false = up_best (λ k. is_before k h ≡ false) a xs
-        (none_at (λ k. is_before k h) (a ∷ xs) 0 a l.none (omega arith))
-        (λ k d lt. none_at (λ t. is_before t h) (a ∷ xs) (suc k) d l.none (omega arith)) in
+    (none_at (λ k. is_before k h) (a ∷ xs) 0 a l.none (omega arith))
+    (λ k d lt. none_at (λ t. is_before t h) (a ∷ xs) (suc k) d l.none (omega arith)) in
     let some = some_of (reaches_back h) (a ∷ xs) a l.reached in
     let k = get_or (a ∷ xs) some.place a in
     let second : is_before h best ≡ false = none_chain h k best l.up (all some.place a some.within) best_up
-        (tested_not (is_before h k) some.holds) (best_is_least a xs a_up rest some.place a some.within) in
+    (tested_not (is_before h k) some.holds) (best_is_least a xs a_up rest some.place a some.within) in
     equal (best.num *ℤ h.den) (h.num *ℤ best.den) first second
   where
     equal : (x y : ℤ) → int_lt x y ≡ false → int_lt y x ≡ false → int_eq x y ≡ true
@@ -112,11 +111,10 @@ pub reduced_least : (hits : List Fraction) (o : Option Fraction) → All IsUp hi
     → option_map reduced (min_by is_before hits) ≡ option_map reduced o
 reduced_least hits None all h = ap (λ t. option_map reduced (min_by is_before t)) h
 reduced_least [] (Some h) all l = absurd (never l.reached)
-
 reduced_least (a ∷ xs) (Some h) all l =
     ap Some (same_reduced (best_of is_before a xs) h
-      (least_up (best_of is_before a xs) (up_best IsUp a xs (all 0 a (omega arith))
-          (λ k d lt. all (suc k) d (omega arith)))) (least_up h l.up) (best_value a xs h all l))
+    (least_up (best_of is_before a xs) (up_best IsUp a xs (all 0 a (omega arith))
+    (λ k d lt. all (suc k) d (omega arith)))) (least_up h l.up) (best_value a xs h all l))
 
 -- ---- two lists
 
@@ -130,7 +128,7 @@ none_earlier : (hits : List Fraction) (h l : Fraction) → All IsUp hits → IsU
     → list_any (λ k. is_before k h) hits ≡ false → is_before h l ≡ false → list_any (λ k. is_before k l) hits ≡ false
 none_earlier hits h l all h_up l_up none before =
     none_of (λ k. is_before k l) hits l (λ k lt. none_chain (get_or hits k l) h l (all k l lt) h_up l_up
-        (none_at (λ t. is_before t h) hits k l none lt) before)
+    (none_at (λ t. is_before t h) hits k l none lt) before)
 
 pub least_append : (xs ys : List Fraction) (a b : Option Fraction) → All IsUp xs → All IsUp ys → HasLeast xs a
     → HasLeast ys b → HasLeast (xs ++ ys) (nearer_hit a b)
@@ -139,22 +137,22 @@ least_append xs ys (Some a) None x_up y_up h k =
     subst (λ t. IsLeastOf (xs ++ t) a) (sym k) (subst (λ t. IsLeastOf t a) (sym (append-nil xs)) h)
 least_append xs ys (Some a) (Some b) x_up y_up h k =
     chosen (is_before b a) b a (xs ++ ys)
-      (λ before. record {
-        up = k.up;
-        reached = any_append (reaches_back b) xs ys
-            ∙ either_second (list_any (reaches_back b) xs) (list_any (reaches_back b) ys) k.reached;
-        none = any_append (λ t. is_before t b) xs ys
-            ∙ neither (list_any (λ t. is_before t b) xs) (list_any (λ t. is_before t b) ys)
-            (none_earlier xs a b x_up h.up k.up h.none (one_way b a before)) k.none;
-      })
-      (λ after. record {
-        up = h.up;
-        reached = any_append (reaches_back a) xs ys
-            ∙ either_first (list_any (reaches_back a) xs) (list_any (reaches_back a) ys) h.reached;
-        none = any_append (λ t. is_before t a) xs ys
-            ∙ neither (list_any (λ t. is_before t a) xs) (list_any (λ t. is_before t a) ys) h.none
-            (none_earlier ys b a y_up k.up h.up k.none after);
-      })
+    (λ before. record {
+      up = k.up;
+      reached = any_append (reaches_back b) xs ys
+          ∙ either_second (list_any (reaches_back b) xs) (list_any (reaches_back b) ys) k.reached;
+      none = any_append (λ t. is_before t b) xs ys
+          ∙ neither (list_any (λ t. is_before t b) xs) (list_any (λ t. is_before t b) ys)
+          (none_earlier xs a b x_up h.up k.up h.none (one_way b a before)) k.none;
+    })
+    (λ after. record {
+      up = h.up;
+      reached = any_append (reaches_back a) xs ys
+          ∙ either_first (list_any (reaches_back a) xs) (list_any (reaches_back a) ys) h.reached;
+      none = any_append (λ t. is_before t a) xs ys
+          ∙ neither (list_any (λ t. is_before t a) xs) (list_any (λ t. is_before t a) ys) h.none
+          (none_earlier ys b a y_up k.up h.up k.none after);
+    })
 
 -- ---- lists of what is found
 
@@ -193,6 +191,7 @@ line_up p d w = subst UpHit (sym (hit_is_where p d w)) (up_where d (seen_of p w)
     by_span : (d : Point) (s : Seen) (b : Bool) → spans d s ≡ b → UpHit (cond b (Some (hit_of d s)) None)
     by_span d s true h = den_up d s h
     by_span d s false h = tt
+
     up_where : (d : Point) (o : Option Seen) → UpHit (hit_where d o)
     up_where d None = tt
     up_where d (Some s) = by_span d s (spans d s) refl
@@ -201,16 +200,20 @@ pub blocker_least : (scene : Scene) (p d : Point) (first : Option (ℕ × Seen))
     → HasLeast (filter_map (blocker_hit p d) (blockers_of_scene scene)) (blocker_stop d (seen_first first))
 blocker_least scene p d None bare =
     nothing_found (blocker_hit p d) (blockers_of_scene scene) nowhere
-        (λ k lt. bare_hit p d (blockers_of_scene scene) k bare lt)
+    (λ k lt. bare_hit p d (blockers_of_scene scene) k bare lt)
 blocker_least scene p d (Some first) front =
     let blockers = blockers_of_scene scene in
     record {
       up = den_up d first.1 front.spanned;
       reached = any_found (reaches_back (hit_of d first.1)) (blocker_hit p d) blockers
           ∙ any_at (λ w. passes_hit (reaches_back (hit_of d first.1)) (blocker_hit p d w)) blockers nowhere
-              (record { place = first.0; within = front.within; holds = ap
-                  (passes_hit (reaches_back (hit_of d first.1))) (front_hit p d blockers first.0 first.1 front)
-                  ∙ ap not (never_self (hit_of d first.1)) });
+          (record {
+            place = first.0;
+            within = front.within;
+            holds = ap
+                (passes_hit (reaches_back (hit_of d first.1))) (front_hit p d blockers first.0 first.1 front)
+                ∙ ap not (never_self (hit_of d first.1));
+          });
       none = none_before_front p d blockers first.0 first.1 front;
     }
 
@@ -230,18 +233,23 @@ at_station d v some across along = (zero_factor v.x (dot_of d d) x some, zero_fa
         let f : k *ℤ a ≡ pos 0 *ℤ a = ap (λ t. t *ℤ a) h in
         let g : b *ℤ l ≡ b *ℤ pos 0 = ap (λ t. b *ℤ t) j in
         omega (arith, ints, e, f, g)
+
     vanish_across : (z c dd a b k l : ℤ) → k ≡ pos 0 → l ≡ pos 0 → k *ℤ a ≡ z *ℤ dd -ℤ b *ℤ l → z *ℤ dd ≡ pos 0
     vanish_across z c dd a b k l h j e =
         let f : k *ℤ a ≡ pos 0 *ℤ a = ap (λ t. t *ℤ a) h in
         let g : b *ℤ l ≡ b *ℤ pos 0 = ap (λ t. b *ℤ t) j in
         omega (arith, ints, e, f, g)
+
     dot_back : dot_of v d ≡ pos 0
     dot_back = omega (arith, ints, along)
+
     cross_back : cross_of v d ≡ pos 0
     cross_back = omega (arith, ints, across)
+
     y : v.y *ℤ dot_of d d ≡ pos 0
     y = vanish v.y (pos 0) (dot_of d d) d.y d.x (dot_of v d) (cross_of v d) dot_back cross_back
         (dot_times v.x v.y d.x d.y)
+
     x : v.x *ℤ dot_of d d ≡ pos 0
     x = vanish_across v.x (pos 0) (dot_of d d) d.x d.y (dot_of v d) (cross_of v d) dot_back cross_back
         (dot_times_across v.x v.y d.x d.y)
@@ -254,6 +262,7 @@ own_zero p d c h = products d.x d.y (c.here.x -ℤ p.x) (c.here.y -ℤ p.y)
   where
     same : c.here ≡ p
     same = points_same c.here p h
+
     products : (x y u v : ℤ) → u ≡ pos 0 → v ≡ pos 0 → (x *ℤ v -ℤ y *ℤ u ≡ pos 0) × (x *ℤ u +ℤ y *ℤ v ≡ pos 0)
     products x y u v a b =
         let e : x *ℤ v ≡ x *ℤ pos 0 = ap (λ t. x *ℤ t) b in
@@ -268,37 +277,40 @@ unfolding corner_hit
 corner_hit_is p d c some =
     let v = vector p c.here in
     ap (λ t. cond t (Some (corner_time p d c)) None)
-      (agree (int_eq (cross_of d v) (pos 0) && (int_le (pos 0) (dot_of d v) && is_in_cone c d))
-          (is_own p d c || is_ahead p d c)
-        (λ h. let one = both_of (int_eq (cross_of d v) (pos 0)) (int_le (pos 0) (dot_of d v) && is_in_cone c d) h in
-            let two = both_of (int_le (pos 0) (dot_of d v)) (is_in_cone c d) one.1 in
-            by_cases (int_lt (pos 0) (dot_of d v))
-              (λ k. either_second (is_own p d c) (is_ahead p d c)
-                  (both_true (stands_in p d c.here) (is_in_cone c d)
-                  (both_true (int_eq (cross_of d v) (pos 0)) (int_lt (pos 0) (dot_of d v)) one.0 k) two.1))
-              (λ k. let zero = at_station d v some (tested_zero (cross_of d v) one.0)
-                  (between_zero (dot_of d v) two.0 k) in
-                  either_first (is_own p d c) (is_ahead p d c) (both_true (same_point c.here p) (is_in_cone c d)
-                    (both_true (int_eq c.here.x p.x) (int_eq c.here.y p.y) (equal_is c.here.x p.x zero.0)
-                        (equal_is c.here.y p.y zero.1)) two.1)))
-        (λ h. by_cases (is_own p d c)
-          (λ k. let two = both_of (same_point c.here p) (is_in_cone c d) k in
-              let zero = own_zero p d c two.0 in
-              both_true (int_eq (cross_of d v) (pos 0)) (int_le (pos 0) (dot_of d v) && is_in_cone c d)
-                  (zero_tested (cross_of d v) zero.0) (both_true (int_le (pos 0) (dot_of d v)) (is_in_cone c d)
-                  (least_is (dot_of d v) zero.1) two.1))
-          (λ k. let two = both_of (stands_in p d c.here) (is_in_cone c d)
-              (other_of_either (is_own p d c) (is_ahead p d c) k h) in
-              let one = both_of (int_eq (cross_of d v) (pos 0)) (int_lt (pos 0) (dot_of d v)) two.0 in
-              both_true (int_eq (cross_of d v) (pos 0)) (int_le (pos 0) (dot_of d v) && is_in_cone c d) one.0
-                  (both_true (int_le (pos 0) (dot_of d v)) (is_in_cone c d) (weaker (dot_of d v) one.1) two.1))))
+    (agree (int_eq (cross_of d v) (pos 0) && (int_le (pos 0) (dot_of d v) && is_in_cone c d))
+    (is_own p d c || is_ahead p d c)
+    (λ h. let one = both_of (int_eq (cross_of d v) (pos 0)) (int_le (pos 0) (dot_of d v) && is_in_cone c d) h in
+    let two = both_of (int_le (pos 0) (dot_of d v)) (is_in_cone c d) one.1 in
+    by_cases (int_lt (pos 0) (dot_of d v))
+    (λ k. either_second (is_own p d c) (is_ahead p d c)
+    (both_true (stands_in p d c.here) (is_in_cone c d)
+    (both_true (int_eq (cross_of d v) (pos 0)) (int_lt (pos 0) (dot_of d v)) one.0 k) two.1))
+    (λ k. let zero = at_station d v some (tested_zero (cross_of d v) one.0)
+    (between_zero (dot_of d v) two.0 k) in
+    either_first (is_own p d c) (is_ahead p d c) (both_true (same_point c.here p) (is_in_cone c d)
+    (both_true (int_eq c.here.x p.x) (int_eq c.here.y p.y) (equal_is c.here.x p.x zero.0)
+    (equal_is c.here.y p.y zero.1)) two.1)))
+    (λ h. by_cases (is_own p d c)
+    (λ k. let two = both_of (same_point c.here p) (is_in_cone c d) k in
+    let zero = own_zero p d c two.0 in
+    both_true (int_eq (cross_of d v) (pos 0)) (int_le (pos 0) (dot_of d v) && is_in_cone c d)
+    (zero_tested (cross_of d v) zero.0) (both_true (int_le (pos 0) (dot_of d v)) (is_in_cone c d)
+    (least_is (dot_of d v) zero.1) two.1))
+    (λ k. let two = both_of (stands_in p d c.here) (is_in_cone c d)
+    (other_of_either (is_own p d c) (is_ahead p d c) k h) in
+    let one = both_of (int_eq (cross_of d v) (pos 0)) (int_lt (pos 0) (dot_of d v)) two.0 in
+    both_true (int_eq (cross_of d v) (pos 0)) (int_le (pos 0) (dot_of d v) && is_in_cone c d) one.0
+    (both_true (int_le (pos 0) (dot_of d v)) (is_in_cone c d) (weaker (dot_of d v) one.1) two.1))))
   where
     between_zero : (z : ℤ) → int_le (pos 0) z ≡ true → int_lt (pos 0) z ≡ false → z ≡ pos 0
     between_zero z h k = omega (arith, ints, h, k)
+
     equal_is : (x y : ℤ) → x -ℤ y ≡ pos 0 → int_eq x y ≡ true
     equal_is x y h = grind (arith, ints)
+
     least_is : (z : ℤ) → z ≡ pos 0 → int_le (pos 0) z ≡ true
     least_is z h = grind (arith, ints)
+
     weaker : (z : ℤ) → int_lt (pos 0) z ≡ true → int_le (pos 0) z ≡ true
     weaker z h = grind (arith, ints)
 
@@ -311,7 +323,7 @@ ahead_up p d corners v n =
     let c = get_or corners n.place no_corner in
     let one = both_of (stands_in p d c.here) (is_in_cone c d) n.passes in
     let two = both_of (int_eq (cross_of d (vector p c.here)) (pos 0)) (int_lt (pos 0) (dot_of d (vector p c.here)))
-        one.0 in
+    one.0 in
     subst (λ t. pos 0 <ℤ dot_of d t) n.at (tested_positive (dot_of d (vector p c.here)) two.1)
 
 -- each hit of a corner is at 0 or later
@@ -323,14 +335,15 @@ corner_later p d c some = by_test (int_eq (cross_of d (vector p c.here)) (pos 0)
   where
     not_early : (k n : ℤ) → int_le (pos 0) k ≡ true → int_lt (k *ℤ pos 1) (pos 0 *ℤ n) ≡ false
     not_early k n h = not_less (k *ℤ pos 1) (pos 0 *ℤ n) (omega (arith, ints, h))
+
     by_test : (b : Bool) → (int_eq (cross_of d (vector p c.here)) (pos 0)
         && (int_le (pos 0) (dot_of d (vector p c.here)) && is_in_cone c d)) ≡ b
         → passes_hit (λ k. is_before k (whole (pos 0))) (cond b (Some (corner_time p d c)) None) ≡ false
     by_test true h =
         let one = both_of (int_eq (cross_of d (vector p c.here)) (pos 0))
-            (int_le (pos 0) (dot_of d (vector p c.here)) && is_in_cone c d) h in
+        (int_le (pos 0) (dot_of d (vector p c.here)) && is_in_cone c d) h in
         not_early (dot_of d (vector p c.here)) (dot_of d d)
-            (both_of (int_le (pos 0) (dot_of d (vector p c.here))) (is_in_cone c d) one.1).0
+        (both_of (int_le (pos 0) (dot_of d (vector p c.here))) (is_in_cone c d) one.1).0
     by_test false h = refl
 
 -- with a corner at the station that is led into, the least is 0
@@ -343,12 +356,15 @@ own_least p d corners some own =
       up = omega (arith, ints);
       reached = any_found (reaches_back (whole (pos 0))) (corner_hit p d) corners
           ∙ any_at (λ c. passes_hit (reaches_back (whole (pos 0))) (corner_hit p d c)) corners no_corner
-              (record { place = s.place; within = s.within;
-              holds = ap (passes_hit (reaches_back (whole (pos 0))))
-                  (corner_hit_is p d c some ∙ ap (λ t. cond t (Some (corner_time p d c)) None)
-                  (either_first (is_own p d c) (is_ahead p d c) s.holds))
-                  ∙ ap not (never_after (dot_of d (vector p c.here)) (dot_of d d)
-                      (own_zero p d c (both_of (same_point c.here p) (is_in_cone c d) s.holds).0).1) });
+          (record {
+            place = s.place;
+            within = s.within;
+            holds = ap (passes_hit (reaches_back (whole (pos 0))))
+                (corner_hit_is p d c some ∙ ap (λ t. cond t (Some (corner_time p d c)) None)
+                (either_first (is_own p d c) (is_ahead p d c) s.holds))
+                ∙ ap not (never_after (dot_of d (vector p c.here)) (dot_of d d)
+                (own_zero p d c (both_of (same_point c.here p) (is_in_cone c d) s.holds).0).1);
+          });
       none = any_found (λ k. is_before k (whole (pos 0))) (corner_hit p d) corners
           ∙ none_of (λ c. passes_hit (λ k. is_before k (whole (pos 0))) (corner_hit p d c)) corners no_corner
           (λ k lt. corner_later p d (get_or corners k no_corner) some);
@@ -368,19 +384,22 @@ ahead_least p d corners v some own n =
       up = some;
       reached = any_found (reaches_back h) (corner_hit p d) corners
           ∙ any_at (λ c. passes_hit (reaches_back h) (corner_hit p d c)) corners no_corner
-              (record { place = n.place; within = n.within;
-              holds = ap (passes_hit (reaches_back h))
-                  (corner_hit_is p d c some ∙ ap (λ t. cond t (Some (corner_time p d c)) None)
-                  (either_second (is_own p d c) (is_ahead p d c) n.passes))
-                  ∙ ap (λ t. not (is_before h (record { num = dot_of d t; den = dot_of d d }))) n.at
-                      ∙ ap not (never_self h) });
+          (record {
+            place = n.place;
+            within = n.within;
+            holds = ap (passes_hit (reaches_back h))
+                (corner_hit_is p d c some ∙ ap (λ t. cond t (Some (corner_time p d c)) None)
+                (either_second (is_own p d c) (is_ahead p d c) n.passes))
+                ∙ ap (λ t. not (is_before h (record { num = dot_of d t; den = dot_of d d }))) n.at
+                ∙ ap not (never_self h);
+          });
       none = any_found (λ k. is_before k h) (corner_hit p d) corners
           ∙ none_of (λ c. passes_hit (λ k. is_before k h) (corner_hit p d c)) corners no_corner
-              (λ k lt. let e = get_or corners k no_corner in
-                  ap (passes_hit (λ k. is_before k h))
-                      (corner_hit_is p d e some ∙ ap (λ t. cond (t || is_ahead p d e) (Some (corner_time p d e)) None)
-                      (none_at (is_own p d) corners k no_corner own lt))
-                  ∙ by_ahead (is_ahead p d e) (dot_of d (vector p e.here)) (λ t. n.nearest k lt t));
+          (λ k lt. let e = get_or corners k no_corner in
+          ap (passes_hit (λ k. is_before k h))
+          (corner_hit_is p d e some ∙ ap (λ t. cond (t || is_ahead p d e) (Some (corner_time p d e)) None)
+          (none_at (is_own p d) corners k no_corner own lt))
+          ∙ by_ahead (is_ahead p d e) (dot_of d (vector p e.here)) (λ t. n.nearest k lt t));
     }
   where
     by_ahead : (b : Bool) (k : ℤ) → (b ≡ true → dot_of d v ≤ℤ k)
@@ -399,7 +418,7 @@ ahead_least p d corners v some own n =
 pub corner_least : (p d : Point) (corners : List Corner) (ahead : Option Point) → pos 0 <ℤ dot_of d d
     → IsNearestOrNone p d (is_ahead p d) corners ahead
     → HasLeast (filter_map (corner_hit p d) corners)
-        (nearer_hit (corner_stop d ahead) (start_stop (list_any (is_own p d) corners)))
+    (nearer_hit (corner_stop d ahead) (start_stop (list_any (is_own p d) corners)))
 corner_least p d corners ahead some h = by_own (list_any (is_own p d) corners) refl ahead h
   where
     by_own : (b : Bool) → list_any (is_own p d) corners ≡ b → (a : Option Point)
@@ -415,9 +434,9 @@ corner_least p d corners ahead some h = by_own (list_any (is_own p d) corners) r
         at_once k n h = ap (λ t. cond t (Some (whole (pos 0))) (Some (record { num = k; den = n }))) (zero_before k n h)
     by_own false own None n = nothing_found (corner_hit p d) corners no_corner
         (λ k lt. corner_hit_is p d (get_or corners k no_corner) some
-            ∙ ap (λ t. cond t (Some (corner_time p d (get_or corners k no_corner))) None)
-          (neither (is_own p d (get_or corners k no_corner)) (is_ahead p d (get_or corners k no_corner))
-              (none_at (is_own p d) corners k no_corner own lt) (none_at (is_ahead p d) corners k no_corner n lt)))
+        ∙ ap (λ t. cond t (Some (corner_time p d (get_or corners k no_corner))) None)
+        (neither (is_own p d (get_or corners k no_corner)) (is_ahead p d (get_or corners k no_corner))
+        (none_at (is_own p d) corners k no_corner own lt) (none_at (is_ahead p d) corners k no_corner n lt)))
     by_own false own (Some v) n = ahead_least p d corners v some own n
 
 -- ---- the walls on which the station stands
@@ -440,6 +459,7 @@ start_least p d walls = by_any (list_any (leaves_left p d) walls) refl
   where
     zero_self : is_before (whole (pos 0)) (whole (pos 0)) ≡ false
     zero_self = never_self (whole (pos 0))
+
     by_any : (b : Bool) → list_any (leaves_left p d) walls ≡ b
         → HasLeast (filter_map (start_hit p d) walls) (start_stop b)
     by_any false h = nothing_found (start_hit p d) walls nowhere
@@ -449,15 +469,18 @@ start_least p d walls = by_any (list_any (leaves_left p d) walls) refl
       up = omega (arith, ints);
       reached = any_found (reaches_back (whole (pos 0))) (start_hit p d) walls
           ∙ (let s = some_of (leaves_left p d) walls nowhere h in
-              any_at (λ w. passes_hit (reaches_back (whole (pos 0))) (start_hit p d w)) walls nowhere
-                  (record { place = s.place; within = s.within;
-                holds = ap (passes_hit (reaches_back (whole (pos 0))))
-                    (start_hit_is p d (get_or walls s.place nowhere)
-                    ∙ ap (λ t. cond t (Some (whole (pos 0))) None) s.holds) ∙ ap not zero_self }));
+          any_at (λ w. passes_hit (reaches_back (whole (pos 0))) (start_hit p d w)) walls nowhere
+          (record {
+            place = s.place;
+            within = s.within;
+            holds = ap (passes_hit (reaches_back (whole (pos 0))))
+                (start_hit_is p d (get_or walls s.place nowhere)
+                ∙ ap (λ t. cond t (Some (whole (pos 0))) None) s.holds) ∙ ap not zero_self;
+          }));
       none = any_found (λ k. is_before k (whole (pos 0))) (start_hit p d) walls
           ∙ none_of (λ w. passes_hit (λ k. is_before k (whole (pos 0))) (start_hit p d w)) walls nowhere
-              (λ k lt. ap (passes_hit (λ k. is_before k (whole (pos 0)))) (start_hit_is p d (get_or walls k nowhere))
-                  ∙ either (leaves_left p d (get_or walls k nowhere)));
+          (λ k lt. ap (passes_hit (λ k. is_before k (whole (pos 0)))) (start_hit_is p d (get_or walls k nowhere))
+          ∙ either (leaves_left p d (get_or walls k nowhere)));
     }
       where
         either : (b : Bool) → passes_hit (λ k. is_before k (whole (pos 0))) (cond b (Some (whole (pos 0))) None) ≡ false
@@ -475,7 +498,7 @@ corner_up p d c some = subst UpHit (sym (corner_hit_is p d c some)) (by_test (is
 pub stop_is : (scene : Scene) (p d : Point) (first : Option (ℕ × Seen)) (ahead : Option Point) → pos 0 <ℤ dot_of d d
     → IsFirst scene p d first → IsNearestOrNone p d (is_ahead p d) scene.corners ahead
     → stop_of scene p d ≡ option_map reduced (first_stop d (seen_first first) ahead
-        (list_any (is_own p d) scene.corners) (list_any (leaves_left p d) scene.walls))
+    (list_any (is_own p d) scene.corners) (list_any (leaves_left p d) scene.walls))
 unfolding stop_of
 stop_is scene p d first ahead some front near =
     let blockers = filter_map (blocker_hit p d) (blockers_of_scene scene) in
@@ -485,12 +508,12 @@ stop_is scene p d first ahead some front near =
     let corners_up : All IsUp corners = up_found (corner_hit p d) scene.corners (λ c. corner_up p d c some) in
     let starts_up : All IsUp starts = up_found (start_hit p d) scene.walls (start_up p d) in
     reduced_least (hits_of scene p d) (first_stop d (seen_first first) ahead (list_any (is_own p d) scene.corners)
-        (list_any (leaves_left p d) scene.walls))
-        (up_append blockers (corners ++ starts) lines_up (up_append corners starts corners_up starts_up))
-      (least_append blockers (corners ++ starts) (blocker_stop d (seen_first first))
-          (nearer_hit (nearer_hit (corner_stop d ahead) (start_stop (list_any (is_own p d) scene.corners)))
-          (start_stop (list_any (leaves_left p d) scene.walls))) lines_up
-          (up_append corners starts corners_up starts_up) (blocker_least scene p d first front)
-        (least_append corners starts (nearer_hit (corner_stop d ahead)
-            (start_stop (list_any (is_own p d) scene.corners))) (start_stop (list_any (leaves_left p d) scene.walls))
-            corners_up starts_up (corner_least p d scene.corners ahead some near) (start_least p d scene.walls)))
+    (list_any (leaves_left p d) scene.walls))
+    (up_append blockers (corners ++ starts) lines_up (up_append corners starts corners_up starts_up))
+    (least_append blockers (corners ++ starts) (blocker_stop d (seen_first first))
+    (nearer_hit (nearer_hit (corner_stop d ahead) (start_stop (list_any (is_own p d) scene.corners)))
+    (start_stop (list_any (leaves_left p d) scene.walls))) lines_up
+    (up_append corners starts corners_up starts_up) (blocker_least scene p d first front)
+    (least_append corners starts (nearer_hit (corner_stop d ahead)
+    (start_stop (list_any (is_own p d) scene.corners))) (start_stop (list_any (leaves_left p d) scene.walls))
+    corners_up starts_up (corner_least p d scene.corners ahead some near) (start_least p d scene.walls)))

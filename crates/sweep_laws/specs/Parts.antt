@@ -87,4 +87,4 @@ start_stop begins = if begins then Some (whole (pos 0)) else None
 abbrev pub first_stop : Point → Option Seen → Option Point → Bool → Bool → Option Fraction
 first_stop d first ahead from_corner from_wall =
     nearer_hit (blocker_stop d first) (nearer_hit (nearer_hit (corner_stop d ahead) (start_stop from_corner))
-        (start_stop from_wall))
+    (start_stop from_wall))

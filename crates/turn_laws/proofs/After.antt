@@ -72,12 +72,13 @@ pub spans_after : (n : ℤ) (s : Point) (w : Seen) → ReachesFrom w.from s → 
     → spans (after n s) w ≡ true
 spans_after n s w reach h a b c d =
     both_are (positive_tested _ (reaches_after n w.from s reach a b))
-      (positive_tested _ (positive_as _ _ (right_of_after n s w.to)
-          (minus_is (n *ℤ cross_of s w.to) (dot_of s w.to)
-          (outweighs n (cross_of s w.to) (neg_ℤ (dot_of s w.to)) h (omega (arith, ints, d)) (omega (arith, ints, c))))))
+    (positive_tested _ (positive_as _ _ (right_of_after n s w.to)
+    (minus_is (n *ℤ cross_of s w.to) (dot_of s w.to)
+    (outweighs n (cross_of s w.to) (neg_ℤ (dot_of s w.to)) h (omega (arith, ints, d)) (omega (arith, ints, c))))))
   where
     both_are : {a b : Bool} → a ≡ true → b ≡ true → (a && b) ≡ true
     both_are {a} {b} h k = grind arith
+
     minus_is : (x y : ℤ) → pos 0 <ℤ (x +ℤ neg_ℤ y) → pos 0 <ℤ (x -ℤ y)
     minus_is x y h = omega (arith, ints, h)
 
@@ -87,27 +88,27 @@ dot_upper : (ax ay bx by : ℤ) → IsUpper ax ay → IsUpper bx by → ax *ℤ 
 dot_upper ax ay bx by (above a_up) (above b_up) e =
     let y = positive_product ay by a_up b_up in
     by_lt_z ax (pos 0)
-      (λ a_left. let b_left : bx <ℤ pos 0 = by_lt_z bx (pos 0) (λ h. h)
-            (λ h. let g = not_negative_product ay bx (omega (arith, ints, a_up)) h in
-                let f = positive_product (neg_ℤ ax) by (omega (arith, ints, a_left)) b_up in
-                let m = neg_times ax by in absurd (omega (arith, ints, g, f, m, e))) in
-          let x = positive_product (neg_ℤ ax) (neg_ℤ bx) (omega (arith, ints, a_left)) (omega (arith, ints, b_left)) in
-          let m = neg_times ax (neg_ℤ bx) in
-          let k = times_neg ax bx in
-          omega (arith, ints, x, y, m, k))
-      (λ a_right. let b_right : pos 0 ≤ℤ bx = by_lt_z bx (pos 0)
-            (λ h. let g = not_negative_product ax by a_right (omega (arith, ints, b_up)) in
-                let f = positive_product ay (neg_ℤ bx) a_up (omega (arith, ints, h)) in
-                let m = times_neg ay bx in absurd (omega (arith, ints, g, f, m, e)))
-            (λ h. h) in
-          let x = not_negative_product ax bx a_right b_right in
-          omega (arith, ints, x, y))
+    (λ a_left. let b_left : bx <ℤ pos 0 = by_lt_z bx (pos 0) (λ h. h)
+    (λ h. let g = not_negative_product ay bx (omega (arith, ints, a_up)) h in
+    let f = positive_product (neg_ℤ ax) by (omega (arith, ints, a_left)) b_up in
+    let m = neg_times ax by in absurd (omega (arith, ints, g, f, m, e))) in
+    let x = positive_product (neg_ℤ ax) (neg_ℤ bx) (omega (arith, ints, a_left)) (omega (arith, ints, b_left)) in
+    let m = neg_times ax (neg_ℤ bx) in
+    let k = times_neg ax bx in
+    omega (arith, ints, x, y, m, k))
+    (λ a_right. let b_right : pos 0 ≤ℤ bx = by_lt_z bx (pos 0)
+    (λ h. let g = not_negative_product ax by a_right (omega (arith, ints, b_up)) in
+    let f = positive_product ay (neg_ℤ bx) a_up (omega (arith, ints, h)) in
+    let m = times_neg ay bx in absurd (omega (arith, ints, g, f, m, e)))
+    (λ h. h) in
+    let x = not_negative_product ax bx a_right b_right in
+    omega (arith, ints, x, y))
 dot_upper ax ay bx by (above a_up) (along b_is b_right) e =
     let z = zero_times ax by b_is in let f = positive_product ay bx a_up b_right in
-        absurd (omega (arith, ints, z, f, e))
+    absurd (omega (arith, ints, z, f, e))
 dot_upper ax ay bx by (along a_is a_right) (above b_up) e =
     let z = zero_times bx ay a_is in let f = positive_product ax by a_right b_up in
-        absurd (omega (arith, ints, z, f, e))
+    absurd (omega (arith, ints, z, f, e))
 dot_upper ax ay bx by (along a_is a_right) (along b_is b_right) e =
     let z = zero_times ay by b_is in let f = positive_product ax bx a_right b_right in omega (arith, ints, z, f)
 
@@ -130,7 +131,7 @@ equal_products a b h = omega (arith, ints, h)
 
 one_way_of : (u v : Bool) (a b : Point) → IsDirected a → IsDirected b → is_upper a ≡ u → is_upper b ≡ v
     → turns_by u v (int_lt (pos 0) (cross_of a b)) ≡ false → turns_by v u (int_lt (pos 0) (cross_of b a)) ≡ false
-        → AreOneWay a b
+    → AreOneWay a b
 one_way_of true true a b a_some b_some ha hb h k =
     let e = no_cross a b h k in
     record { line = e; forward = dot_upper a.x a.y b.x b.y (upper_is a ha) (upper_is b hb) (equal_products a b e) }
@@ -138,9 +139,12 @@ one_way_of true false a b a_some b_some ha hb h k = absurd (grind arith)
 one_way_of false true a b a_some b_some ha hb h k = absurd (grind arith)
 one_way_of false false a b a_some b_some ha hb h k =
     let e = no_cross a b h k in
-    record { line = e; forward = positive_as _ _ (sym (dot_back a b))
-        (dot_upper (neg_ℤ a.x) (neg_ℤ a.y) (neg_ℤ b.x) (neg_ℤ b.y) (lower_is a a_some ha) (lower_is b b_some hb)
-        (equal_products (back a) (back b) (both_back a b ∙ e))) }
+    record {
+      line = e;
+      forward = positive_as _ _ (sym (dot_back a b))
+          (dot_upper (neg_ℤ a.x) (neg_ℤ a.y) (neg_ℤ b.x) (neg_ℤ b.y) (lower_is a a_some ha) (lower_is b b_some hb)
+          (equal_products (back a) (back b) (both_back a b ∙ e)));
+    }
 
 pub neither_before : (a b : Point) → IsDirected a → IsDirected b → turns_before a b ≡ false → turns_before b a ≡ false
     → AreOneWay a b
@@ -162,8 +166,8 @@ pub goes_on : (f s t : Point) → AreOneWay f s → AreOneWay s s → pos 0 <ℤ
 goes_on f s t way self left =
     let r : Point = record { x = neg_ℤ s.y; y = s.x } in
     from_four (cross_of f t) (cross_of s r) (cross_of f r) (cross_of t s) (cross_of s t) (cross_of f s) (cross_of t r)
-      (four_of f t s r) way.line (positive_as _ _ (square s) self.forward) (positive_as _ _ (along_is f s) way.forward)
-          (cross_of_exchanged s t) left
+    (four_of f t s r) way.line (positive_as _ _ (square s) self.forward) (positive_as _ _ (along_is f s) way.forward)
+    (cross_of_exchanged s t) left
   where
     from_four : (ft sr fr ts st fs tq : ℤ) → ft *ℤ sr +ℤ fr *ℤ ts ≡ fs *ℤ tq → fs ≡ pos 0 → pos 0 <ℤ sr → pos 0 <ℤ fr
         → ts ≡ neg_ℤ st → pos 0 <ℤ ft → pos 0 <ℤ st
@@ -202,8 +206,10 @@ goes_on_after n s w on = spans_after n s w on.begins on.ends
 -- ---- cones along a direction
 
 way_back : (a b : Point) → AreOneWay a b → AreOneWay b a
-way_back a b w = record { line = zero (cross_of a b) (cross_of b a) (cross_of_exchanged a b) w.line;
-    forward = positive_as _ _ (dot_turned b a) w.forward }
+way_back a b w = record {
+  line = zero (cross_of a b) (cross_of b a) (cross_of_exchanged a b) w.line;
+  forward = positive_as _ _ (dot_turned b a) w.forward;
+}
   where
     zero : (x y : ℤ) → y ≡ neg_ℤ x → x ≡ pos 0 → y ≡ pos 0
     zero x y e h = omega (arith, ints, e, h)
@@ -218,7 +224,7 @@ equal_tests : (x y : ℤ) → (pos 0 <ℤ x → pos 0 <ℤ y) → (pos 0 <ℤ y 
 equal_tests x y f g = by_lt_z (pos 0) x
     (λ h. positive_tested x h ∙ sym (positive_tested y (f h)))
     (λ h. by_lt_z (pos 0) y (λ k. absurd (clash (g k) h))
-        (λ k. not_positive_tested x h ∙ sym (not_positive_tested y k)))
+    (λ k. not_positive_tested x h ∙ sym (not_positive_tested y k)))
   where
     clash : pos 0 <ℤ x → x ≤ℤ pos 0 → ⊥
     clash h k = omega (arith, ints, h, k)
@@ -228,11 +234,12 @@ pub same_left : (u a b : Point) → AreOneWay a b → AreOneWay a a → AreOneWa
     ≡ int_lt (pos 0) (cross_of u b)
 same_left u a b way a_self b_self =
     equal_tests (cross_of u a) (cross_of u b)
-      (λ h. unback u b (goes_on a b (back u) way b_self (onto u a h)))
-      (λ h. unback u a (goes_on b a (back u) (way_back a b way) a_self (onto u b h)))
+    (λ h. unback u b (goes_on a b (back u) way b_self (onto u a h)))
+    (λ h. unback u a (goes_on b a (back u) (way_back a b way) a_self (onto u b h)))
   where
     onto : (u a : Point) → pos 0 <ℤ cross_of u a → pos 0 <ℤ cross_of a (back u)
     onto u a h = positive_as _ _ (back_right a u ∙ ap neg_ℤ (cross_of_exchanged u a) ∙ neg_twice _) h
+
     unback : (u a : Point) → pos 0 <ℤ cross_of a (back u) → pos 0 <ℤ cross_of u a
     unback u a h = positive_as _ _ (sym (back_right a u ∙ ap neg_ℤ (cross_of_exchanged u a) ∙ neg_twice _)) h
 
@@ -245,8 +252,8 @@ pub same_cone : (c : Corner) (a b : Point) → AreOneWay a b → AreOneWay a a �
 unfolding is_in_cone cone_by
 same_cone c a b way a_self b_self =
     ap (λ t. cone_by (int_lt (pos 0) (orient_of c.prev c.here c.next)) t
-        (int_lt (pos 0) (cross_of (vector c.here c.next) a))) (same_left (vector c.prev c.here) a b way a_self b_self)
+    (int_lt (pos 0) (cross_of (vector c.here c.next) a))) (same_left (vector c.prev c.here) a b way a_self b_self)
     ∙ ap (λ t. cone_by (int_lt (pos 0) (orient_of c.prev c.here c.next))
-        (int_lt (pos 0) (cross_of (vector c.prev c.here) b)) t) (same_left (vector c.here c.next) a b way a_self b_self)
+    (int_lt (pos 0) (cross_of (vector c.prev c.here) b)) t) (same_left (vector c.here c.next) a b way a_self b_self)
 
 -- ---- the steps of the sweep

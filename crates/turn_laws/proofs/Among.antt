@@ -1,9 +1,9 @@
 -- A direction spans a blocker exactly where it comes between the blocker's ends.
 --
 -- `turns_before` compares first the half of the circle in which two directions lie, and within one half their cross
--- product. So eight cases of halves are taken one by one. Where all three lie in one half, both sides say the same. Else one
--- of the two crosses decides, and the other follows: turned by half a circle, the three lie in one half, where crosses
--- pass on (`left_of_left`); or all three would turn more than a half, against the positive spread.
+-- product. So eight cases of halves are taken one by one. Where all three lie in one half, both sides say the same.
+-- Else one of the two crosses decides, and the other follows: turned by half a circle, the three lie in one half,
+-- where crosses pass on (`left_of_left`); or all three would turn more than a half, against the positive spread.
 use Rattle.std.proofs.Common.{◌≡◌, ℤ, pos, ◌*ℤ◌, neg_ℤ, ◌<ℤ◌, ap, ◌∙◌, refl, arith, sym}
 use Rattle.std.proofs.lemmas.Int.{ints}
 use Rattle.std.specs.Prelude.{◌&&◌, ◌||◌, Bool, true, false, int_lt}
@@ -110,12 +110,12 @@ halves_of s d e s_some d_some e_some se = record {
       (turn_left s e se) (turn_both s d (tested_positive _ sd))));
   up_down_up = λ hs hd he sd. by_cases (int_lt (pos 0) (cross_of d e))
       (λ de. clash s e se (chain e (back d) s (upper_is e he) (lower_is d d_some hd) (upper_is s hs)
-          (turn_left d e (tested_positive _ de)) (turn_right s d (tested_positive _ sd))))
+      (turn_left d e (tested_positive _ de)) (turn_right s d (tested_positive _ sd))))
       (λ de. de);
   down_up_down = λ hs hd he sd. by_cases (int_lt (pos 0) (cross_of d e))
       (λ de. clash (back s) (back e) (turn_both s e se)
-          (chain (back e) d (back s) (lower_is e e_some he) (upper_is d hd) (lower_is s s_some hs)
-          (turn_right d e (tested_positive _ de)) (turn_left s d (tested_positive _ sd))))
+      (chain (back e) d (back s) (lower_is e e_some he) (upper_is d hd) (lower_is s s_some hs)
+      (turn_right d e (tested_positive _ de)) (turn_left s d (tested_positive _ sd))))
       (λ de. de);
 }
 
@@ -127,11 +127,11 @@ pub spans_is_among : (d : Point) (w : Seen) → IsDirected w.from → IsDirected
 unfolding turns_before
 spans_is_among d w from d_some to h =
     among_halves (is_upper w.from) (is_upper d) (is_upper w.to) (int_lt (pos 0) (cross_of w.from d))
-        (int_lt (pos 0) (cross_of d w.to)) (halves_of w.from d w.to from d_some to h)
+    (int_lt (pos 0) (cross_of d w.to)) (halves_of w.from d w.to from d_some to h)
     ∙ ap (λ t. among_by (turns_by (is_upper w.from) (is_upper w.to) t)
-        (turns_by (is_upper w.from) (is_upper d) (int_lt (pos 0) (cross_of w.from d)))
-        (turns_by (is_upper d) (is_upper w.to) (int_lt (pos 0) (cross_of d w.to))))
-        (sym (positive_tested (cross_of w.from w.to) h))
+    (turns_by (is_upper w.from) (is_upper d) (int_lt (pos 0) (cross_of w.from d)))
+    (turns_by (is_upper d) (is_upper w.to) (int_lt (pos 0) (cross_of d w.to))))
+    (sym (positive_tested (cross_of w.from w.to) h))
 
 -- ---- the order round the circle
 

@@ -3,3 +3,4 @@ pub mod Places
 pub mod Start
 pub mod After
 pub mod Among
+mod Examples

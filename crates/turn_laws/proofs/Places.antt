@@ -48,7 +48,7 @@ part_rises b s e t s_some t_some small less =
     let low = le_times (x * s) (b * 1099511627776) t (under (b * 1099511627776) s s_some) in
     let wide = le_times (b * t + 1) (e * s) 1099511627776 (omega (arith, less)) in
     let g = le-div (x + 1) (e * 1099511627776) t t_some
-        (cancel ((x + 1) * t) (e * 1099511627776) s s_some (all x s t b e low wide small)) in
+    (cancel ((x + 1) * t) (e * 1099511627776) s s_some (all x s t b e low wide small)) in
     omega (arith, g)
   where
     all : (x s t b e : ℕ) → (x * s) * t ≤ (b * 1099511627776) * t
@@ -86,17 +86,19 @@ part_tells a b c e h k =
     let s_some = some a b h in
     let t_some = some c e k in
     by_lt (b * c) (e * a)
-      (λ lt. number_less_tested (part_of a b) (part_of c e)
-          (part_rises b (a + b) e (c + e) s_some t_some (small_product a b c e h k) (wider a b c e lt))
-          ∙ sym (number_less_tested (b * c) (e * a) lt))
-      (λ le. number_not_less (part_of a b) (part_of c e)
-          (part_falls b (a + b) e (c + e) s_some t_some (wider_most a b c e le))
-          ∙ sym (number_not_less (b * c) (e * a) le))
+    (λ lt. number_less_tested (part_of a b) (part_of c e)
+    (part_rises b (a + b) e (c + e) s_some t_some (small_product a b c e h k) (wider a b c e lt))
+    ∙ sym (number_less_tested (b * c) (e * a) lt))
+    (λ le. number_not_less (part_of a b) (part_of c e)
+    (part_falls b (a + b) e (c + e) s_some t_some (wider_most a b c e le))
+    ∙ sym (number_not_less (b * c) (e * a) le))
   where
     some : (a b : ℕ) → Sizes a b → 0 < a + b
     some a b h = let x = h.some in omega (arith, x)
+
     wider : (a b c e : ℕ) → b * c < e * a → b * (c + e) < e * (a + b)
     wider a b c e h = omega (arith, h)
+
     wider_most : (a b c e : ℕ) → e * a ≤ b * c → e * (a + b) ≤ b * (c + e)
     wider_most a b c e h = omega (arith, h)
 
@@ -125,31 +127,34 @@ quarter_of d within some =
     let x = size_is d.x within.x in
     let y = size_is d.y within.y in
     by_lt_z (pos 0) d.x
-      (λ right. by_lt_z d.y (pos 0)
-        (λ down. fourth (unsigned_abs d.y) (unsigned_abs d.x)
-            (record { some = size_some_down d.y down; first = y; second = x }) (size_up d.x (not_below d.x right))
-            (size_down d.y (not_above d.y down)))
-        (λ up. first (unsigned_abs d.x) (unsigned_abs d.y)
-            (record { some = size_some d.x right; first = x; second = y }) (size_up d.x (not_below d.x right))
-            (size_up d.y up)))
-      (λ not_right. by_lt_z (pos 0) d.y
-        (λ up. second (unsigned_abs d.y) (unsigned_abs d.x) (record { some = size_some d.y up; first = y; second = x })
-            (size_down d.x not_right) (size_up d.y (not_below d.y up)))
-        (λ not_up. by_lt_z d.x (pos 0)
-          (λ left. third (unsigned_abs d.x) (unsigned_abs d.y)
-              (record { some = size_some_down d.x left; first = x; second = y }) (size_down d.x not_right)
-              (size_down d.y not_up))
-          (λ not_left. let x_is : d.x ≡ pos 0 = omega (arith, ints, not_right, not_left) in
-              fourth (unsigned_abs d.y) (unsigned_abs d.x)
-                  (record { some = size_some_down d.y (down_is d x_is some not_up); first = y; second = x })
-                  (size_up d.x not_left) (size_down d.y not_up))))
+    (λ right. by_lt_z d.y (pos 0)
+    (λ down. fourth (unsigned_abs d.y) (unsigned_abs d.x)
+    (record { some = size_some_down d.y down; first = y; second = x }) (size_up d.x (not_below d.x right))
+    (size_down d.y (not_above d.y down)))
+    (λ up. first (unsigned_abs d.x) (unsigned_abs d.y)
+    (record { some = size_some d.x right; first = x; second = y }) (size_up d.x (not_below d.x right))
+    (size_up d.y up)))
+    (λ not_right. by_lt_z (pos 0) d.y
+    (λ up. second (unsigned_abs d.y) (unsigned_abs d.x) (record { some = size_some d.y up; first = y; second = x })
+    (size_down d.x not_right) (size_up d.y (not_below d.y up)))
+    (λ not_up. by_lt_z d.x (pos 0)
+    (λ left. third (unsigned_abs d.x) (unsigned_abs d.y)
+    (record { some = size_some_down d.x left; first = x; second = y }) (size_down d.x not_right)
+    (size_down d.y not_up))
+    (λ not_left. let x_is : d.x ≡ pos 0 = omega (arith, ints, not_right, not_left) in
+    fourth (unsigned_abs d.y) (unsigned_abs d.x)
+    (record { some = size_some_down d.y (down_is d x_is some not_up); first = y; second = x })
+    (size_up d.x not_left) (size_down d.y not_up))))
   where
     size_is : (z : ℤ) → IsWithin (pos 400000) z → unsigned_abs z ≤ 400000
     size_is z h = let l = h.low in let k = h.high in grind (arith, ints)
+
     size_some : (z : ℤ) → pos 0 <ℤ z → 0 < unsigned_abs z
     size_some z h = grind (arith, ints)
+
     size_some_down : (z : ℤ) → z <ℤ pos 0 → 0 < unsigned_abs z
     size_some_down z h = grind (arith, ints)
+
     down_is : (d : Point) → d.x ≡ pos 0 → IsDirected d → d.y ≤ℤ pos 0 → d.y <ℤ pos 0
     down_is d h s k = let t = s.somewhere in
         by_lt_z d.y (pos 0) (λ low. low) (λ high. absurd (none d.x d.y h (omega (arith, ints, k, high)) t))
@@ -205,8 +210,8 @@ not_up_test n b = grind (arith, ints)
 second_place : (a b : ℕ) → 0 < a → place_at (neg_ℤ (pos b)) (pos a) ≡ 1099511627776 + part_of a b
 second_place a b some =
     pick_second (int_lt (pos 0) (neg_ℤ (pos b)) && int_le (pos 0) (pos a))
-        (int_le (neg_ℤ (pos b)) (pos 0) && int_lt (pos 0) (pos a))
-        (int_lt (neg_ℤ (pos b)) (pos 0) && int_le (pos a) (pos 0)) _ _ _ _ (not_up_test b _) (test a b some)
+    (int_le (neg_ℤ (pos b)) (pos 0) && int_lt (pos 0) (pos a))
+    (int_lt (neg_ℤ (pos b)) (pos 0) && int_le (pos a) (pos 0)) _ _ _ _ (not_up_test b _) (test a b some)
     ∙ ap (λ t. 1099511627776 + part_of a t) (size_of_back b)
   where
     test : (a b : ℕ) → 0 < a → (int_le (neg_ℤ (pos b)) (pos 0) && int_lt (pos 0) (pos a)) ≡ true
@@ -215,29 +220,32 @@ second_place a b some =
 third_place : (a b : ℕ) → 0 < a → place_at (neg_ℤ (pos a)) (neg_ℤ (pos b)) ≡ 2199023255552 + part_of a b
 third_place a b some =
     pick_third (int_lt (pos 0) (neg_ℤ (pos a)) && int_le (pos 0) (neg_ℤ (pos b)))
-        (int_le (neg_ℤ (pos a)) (pos 0) && int_lt (pos 0) (neg_ℤ (pos b)))
-        (int_lt (neg_ℤ (pos a)) (pos 0) && int_le (neg_ℤ (pos b)) (pos 0)) _ _ _ _
-      (not_up_test a _) (middle (int_le (neg_ℤ (pos a)) (pos 0)) b) (test a b some)
+    (int_le (neg_ℤ (pos a)) (pos 0) && int_lt (pos 0) (neg_ℤ (pos b)))
+    (int_lt (neg_ℤ (pos a)) (pos 0) && int_le (neg_ℤ (pos b)) (pos 0)) _ _ _ _
+    (not_up_test a _) (middle (int_le (neg_ℤ (pos a)) (pos 0)) b) (test a b some)
     ∙ ap (λ t. 2199023255552 + part_of t (unsigned_abs (neg_ℤ (pos b)))) (size_of_back a)
-        ∙ ap (λ t. 2199023255552 + part_of a t) (size_of_back b)
+    ∙ ap (λ t. 2199023255552 + part_of a t) (size_of_back b)
   where
     middle : (c : Bool) (b : ℕ) → (c && int_lt (pos 0) (neg_ℤ (pos b))) ≡ false
     middle c b = grind (arith, ints)
+
     test : (a b : ℕ) → 0 < a → (int_lt (neg_ℤ (pos a)) (pos 0) && int_le (neg_ℤ (pos b)) (pos 0)) ≡ true
     test a b h = grind (arith, ints)
 
 fourth_place : (a b : ℕ) → 0 < a → place_at (pos b) (neg_ℤ (pos a)) ≡ 3298534883328 + part_of a b
 fourth_place a b some =
     pick_fourth (int_lt (pos 0) (pos b) && int_le (pos 0) (neg_ℤ (pos a)))
-        (int_le (pos b) (pos 0) && int_lt (pos 0) (neg_ℤ (pos a)))
-        (int_lt (pos b) (pos 0) && int_le (neg_ℤ (pos a)) (pos 0)) _ _ _ _
-      (one (int_lt (pos 0) (pos b)) a some) (two (int_le (pos b) (pos 0)) a) (three b (int_le (neg_ℤ (pos a)) (pos 0)))
+    (int_le (pos b) (pos 0) && int_lt (pos 0) (neg_ℤ (pos a)))
+    (int_lt (pos b) (pos 0) && int_le (neg_ℤ (pos a)) (pos 0)) _ _ _ _
+    (one (int_lt (pos 0) (pos b)) a some) (two (int_le (pos b) (pos 0)) a) (three b (int_le (neg_ℤ (pos a)) (pos 0)))
     ∙ ap (λ t. 3298534883328 + part_of t b) (size_of_back a)
   where
     one : (c : Bool) (a : ℕ) → 0 < a → (c && int_le (pos 0) (neg_ℤ (pos a))) ≡ false
     one c a h = grind (arith, ints)
+
     two : (c : Bool) (a : ℕ) → (c && int_lt (pos 0) (neg_ℤ (pos a))) ≡ false
     two c a = grind (arith, ints)
+
     three : (b : ℕ) (c : Bool) → (int_lt (pos b) (pos 0) && c) ≡ false
     three b c = grind (arith, ints)
 
@@ -276,6 +284,7 @@ less_by z m n h = by_lt n m (λ lt. up z m n h lt ∙ sym (number_less_tested n 
   where
     up : (z : ℤ) (m n : ℕ) → z ≡ pos m -ℤ pos n → n < m → int_lt (pos 0) z ≡ true
     up z m n h k = grind (arith, ints)
+
     down : (z : ℤ) (m n : ℕ) → z ≡ pos m -ℤ pos n → m ≤ n → int_lt (pos 0) z ≡ false
     down z m n h k = grind (arith, ints)
 
@@ -324,7 +333,7 @@ tells_by : (d e : Point) (u v l : Bool) (x y : ℕ) → is_upper d ≡ u → is_
 unfolding turns_before
 tells_by d e u v l x y hu hv hl hx hy h =
     ap (λ t. turns_by t (is_upper e) (turns_left d e)) hu ∙ ap (λ t. turns_by u t (turns_left d e)) hv
-        ∙ ap (turns_by u v) hl ∙ h
+    ∙ ap (turns_by u v) hl ∙ h
     ∙ sym (ap (λ t. nat_lt t (place_of e)) hx ∙ ap (nat_lt x) hy)
 
 shifted : (q m n : ℕ) → nat_lt (q + m) (q + n) ≡ nat_lt m n
@@ -335,96 +344,96 @@ shifted q m n = by_lt m n (λ lt. number_less_tested (q + m) (q + n) (omega (ari
 tells : (d e : Point) → Quarter d → Quarter e → turns_before d e ≡ nat_lt (place_of d) (place_of e)
 tells d e (first a b s h k) (first c f t i j) =
     tells_by d e true true (nat_lt (b * c) (f * a)) (part_of a b) (part_of c f)
-        (upper_is d _ _ h k ∙ first_upper a b s.some) (upper_is e _ _ i j ∙ first_upper c f t.some)
-      (left_is d e _ _ _ _ h k i j ∙ less_by _ (f * a) (b * c) (first_cross a b c f))
-          (place_is d _ _ h k ∙ first_place a b s.some) (place_is e _ _ i j ∙ first_place c f t.some)
-          (sym (part_tells a b c f s t))
+    (upper_is d _ _ h k ∙ first_upper a b s.some) (upper_is e _ _ i j ∙ first_upper c f t.some)
+    (left_is d e _ _ _ _ h k i j ∙ less_by _ (f * a) (b * c) (first_cross a b c f))
+    (place_is d _ _ h k ∙ first_place a b s.some) (place_is e _ _ i j ∙ first_place c f t.some)
+    (sym (part_tells a b c f s t))
 tells d e (second a b s h k) (second c f t i j) =
     tells_by d e true true (nat_lt (b * c) (f * a)) (1099511627776 + part_of a b) (1099511627776 + part_of c f)
-        (upper_is d _ _ h k ∙ second_upper a b s.some) (upper_is e _ _ i j ∙ second_upper c f t.some)
-      (left_is d e _ _ _ _ h k i j ∙ less_by _ (f * a) (b * c) (second_cross a b c f))
-          (place_is d _ _ h k ∙ second_place a b s.some) (place_is e _ _ i j ∙ second_place c f t.some)
-          (sym (shifted 1099511627776 (part_of a b) (part_of c f) ∙ part_tells a b c f s t))
+    (upper_is d _ _ h k ∙ second_upper a b s.some) (upper_is e _ _ i j ∙ second_upper c f t.some)
+    (left_is d e _ _ _ _ h k i j ∙ less_by _ (f * a) (b * c) (second_cross a b c f))
+    (place_is d _ _ h k ∙ second_place a b s.some) (place_is e _ _ i j ∙ second_place c f t.some)
+    (sym (shifted 1099511627776 (part_of a b) (part_of c f) ∙ part_tells a b c f s t))
 tells d e (third a b s h k) (third c f t i j) =
     tells_by d e false false (nat_lt (b * c) (f * a)) (2199023255552 + part_of a b) (2199023255552 + part_of c f)
-        (upper_is d _ _ h k ∙ third_upper a b s.some) (upper_is e _ _ i j ∙ third_upper c f t.some)
-      (left_is d e _ _ _ _ h k i j ∙ less_by _ (f * a) (b * c) (third_cross a b c f))
-          (place_is d _ _ h k ∙ third_place a b s.some) (place_is e _ _ i j ∙ third_place c f t.some)
-          (sym (shifted 2199023255552 (part_of a b) (part_of c f) ∙ part_tells a b c f s t))
+    (upper_is d _ _ h k ∙ third_upper a b s.some) (upper_is e _ _ i j ∙ third_upper c f t.some)
+    (left_is d e _ _ _ _ h k i j ∙ less_by _ (f * a) (b * c) (third_cross a b c f))
+    (place_is d _ _ h k ∙ third_place a b s.some) (place_is e _ _ i j ∙ third_place c f t.some)
+    (sym (shifted 2199023255552 (part_of a b) (part_of c f) ∙ part_tells a b c f s t))
 tells d e (fourth a b s h k) (fourth c f t i j) =
     tells_by d e false false (nat_lt (b * c) (f * a)) (3298534883328 + part_of a b) (3298534883328 + part_of c f)
-        (upper_is d _ _ h k ∙ fourth_upper a b s.some) (upper_is e _ _ i j ∙ fourth_upper c f t.some)
-      (left_is d e _ _ _ _ h k i j ∙ less_by _ (f * a) (b * c) (fourth_cross a b c f))
-          (place_is d _ _ h k ∙ fourth_place a b s.some) (place_is e _ _ i j ∙ fourth_place c f t.some)
-          (sym (shifted 3298534883328 (part_of a b) (part_of c f) ∙ part_tells a b c f s t))
+    (upper_is d _ _ h k ∙ fourth_upper a b s.some) (upper_is e _ _ i j ∙ fourth_upper c f t.some)
+    (left_is d e _ _ _ _ h k i j ∙ less_by _ (f * a) (b * c) (fourth_cross a b c f))
+    (place_is d _ _ h k ∙ fourth_place a b s.some) (place_is e _ _ i j ∙ fourth_place c f t.some)
+    (sym (shifted 3298534883328 (part_of a b) (part_of c f) ∙ part_tells a b c f s t))
 tells d e (first a b s h k) (second c f t i j) =
     tells_by d e true true true (part_of a b) (1099511627776 + part_of c f)
-        (upper_is d _ _ h k ∙ first_upper a b s.some) (upper_is e _ _ i j ∙ second_upper c f t.some)
-      (left_is d e _ _ _ _ h k i j ∙ less_by _ (a * c + b * f) 0 (on_first a b c f)
-          ∙ some_product a b c f s.some t.some) (place_is d _ _ h k ∙ first_place a b s.some)
-          (place_is e _ _ i j ∙ second_place c f t.some)
-      (sym (number_less_tested _ _ (let g = part_below a b s in omega (arith, g))))
+    (upper_is d _ _ h k ∙ first_upper a b s.some) (upper_is e _ _ i j ∙ second_upper c f t.some)
+    (left_is d e _ _ _ _ h k i j ∙ less_by _ (a * c + b * f) 0 (on_first a b c f)
+    ∙ some_product a b c f s.some t.some) (place_is d _ _ h k ∙ first_place a b s.some)
+    (place_is e _ _ i j ∙ second_place c f t.some)
+    (sym (number_less_tested _ _ (let g = part_below a b s in omega (arith, g))))
 tells d e (second a b s h k) (first c f t i j) =
     tells_by d e true true false (1099511627776 + part_of a b) (part_of c f)
-        (upper_is d _ _ h k ∙ second_upper a b s.some) (upper_is e _ _ i j ∙ first_upper c f t.some)
-      (left_is d e _ _ _ _ h k i j ∙ less_by _ 0 (b * f + a * c) (off_second a b c f)
-          ∙ number_not_less (b * f + a * c) 0 (omega arith)) (place_is d _ _ h k ∙ second_place a b s.some)
-          (place_is e _ _ i j ∙ first_place c f t.some)
-      (sym (number_not_less _ _ (let g = part_below c f t in omega (arith, g))))
+    (upper_is d _ _ h k ∙ second_upper a b s.some) (upper_is e _ _ i j ∙ first_upper c f t.some)
+    (left_is d e _ _ _ _ h k i j ∙ less_by _ 0 (b * f + a * c) (off_second a b c f)
+    ∙ number_not_less (b * f + a * c) 0 (omega arith)) (place_is d _ _ h k ∙ second_place a b s.some)
+    (place_is e _ _ i j ∙ first_place c f t.some)
+    (sym (number_not_less _ _ (let g = part_below c f t in omega (arith, g))))
 tells d e (third a b s h k) (fourth c f t i j) =
     tells_by d e false false true (2199023255552 + part_of a b) (3298534883328 + part_of c f)
-        (upper_is d _ _ h k ∙ third_upper a b s.some) (upper_is e _ _ i j ∙ fourth_upper c f t.some)
-      (left_is d e _ _ _ _ h k i j ∙ less_by _ (a * c + b * f) 0 (on_third a b c f)
-          ∙ some_product a b c f s.some t.some) (place_is d _ _ h k ∙ third_place a b s.some)
-          (place_is e _ _ i j ∙ fourth_place c f t.some)
-      (sym (number_less_tested _ _ (let g = part_below a b s in omega (arith, g))))
+    (upper_is d _ _ h k ∙ third_upper a b s.some) (upper_is e _ _ i j ∙ fourth_upper c f t.some)
+    (left_is d e _ _ _ _ h k i j ∙ less_by _ (a * c + b * f) 0 (on_third a b c f)
+    ∙ some_product a b c f s.some t.some) (place_is d _ _ h k ∙ third_place a b s.some)
+    (place_is e _ _ i j ∙ fourth_place c f t.some)
+    (sym (number_less_tested _ _ (let g = part_below a b s in omega (arith, g))))
 tells d e (fourth a b s h k) (third c f t i j) =
     tells_by d e false false false (3298534883328 + part_of a b) (2199023255552 + part_of c f)
-        (upper_is d _ _ h k ∙ fourth_upper a b s.some) (upper_is e _ _ i j ∙ third_upper c f t.some)
-      (left_is d e _ _ _ _ h k i j ∙ less_by _ 0 (b * f + a * c) (off_fourth a b c f)
-          ∙ number_not_less (b * f + a * c) 0 (omega arith)) (place_is d _ _ h k ∙ fourth_place a b s.some)
-          (place_is e _ _ i j ∙ third_place c f t.some)
-      (sym (number_not_less _ _ (let g = part_below c f t in omega (arith, g))))
+    (upper_is d _ _ h k ∙ fourth_upper a b s.some) (upper_is e _ _ i j ∙ third_upper c f t.some)
+    (left_is d e _ _ _ _ h k i j ∙ less_by _ 0 (b * f + a * c) (off_fourth a b c f)
+    ∙ number_not_less (b * f + a * c) 0 (omega arith)) (place_is d _ _ h k ∙ fourth_place a b s.some)
+    (place_is e _ _ i j ∙ third_place c f t.some)
+    (sym (number_not_less _ _ (let g = part_below c f t in omega (arith, g))))
 tells d e (first a b s h k) (third c f t i j) =
     tells_by d e true false (turns_left d e) (part_of a b) (2199023255552 + part_of c f)
-        (upper_is d _ _ h k ∙ first_upper a b s.some) (upper_is e _ _ i j ∙ third_upper c f t.some) refl
-      (place_is d _ _ h k ∙ first_place a b s.some) (place_is e _ _ i j ∙ third_place c f t.some)
-          (sym (number_less_tested _ _ (let g = part_below a b s in omega (arith, g))))
+    (upper_is d _ _ h k ∙ first_upper a b s.some) (upper_is e _ _ i j ∙ third_upper c f t.some) refl
+    (place_is d _ _ h k ∙ first_place a b s.some) (place_is e _ _ i j ∙ third_place c f t.some)
+    (sym (number_less_tested _ _ (let g = part_below a b s in omega (arith, g))))
 tells d e (third a b s h k) (first c f t i j) =
     tells_by d e false true (turns_left d e) (2199023255552 + part_of a b) (part_of c f)
-        (upper_is d _ _ h k ∙ third_upper a b s.some) (upper_is e _ _ i j ∙ first_upper c f t.some) refl
-      (place_is d _ _ h k ∙ third_place a b s.some) (place_is e _ _ i j ∙ first_place c f t.some)
-          (sym (number_not_less _ _ (let g = part_below c f t in omega (arith, g))))
+    (upper_is d _ _ h k ∙ third_upper a b s.some) (upper_is e _ _ i j ∙ first_upper c f t.some) refl
+    (place_is d _ _ h k ∙ third_place a b s.some) (place_is e _ _ i j ∙ first_place c f t.some)
+    (sym (number_not_less _ _ (let g = part_below c f t in omega (arith, g))))
 tells d e (first a b s h k) (fourth c f t i j) =
     tells_by d e true false (turns_left d e) (part_of a b) (3298534883328 + part_of c f)
-        (upper_is d _ _ h k ∙ first_upper a b s.some) (upper_is e _ _ i j ∙ fourth_upper c f t.some) refl
-      (place_is d _ _ h k ∙ first_place a b s.some) (place_is e _ _ i j ∙ fourth_place c f t.some)
-          (sym (number_less_tested _ _ (let g = part_below a b s in omega (arith, g))))
+    (upper_is d _ _ h k ∙ first_upper a b s.some) (upper_is e _ _ i j ∙ fourth_upper c f t.some) refl
+    (place_is d _ _ h k ∙ first_place a b s.some) (place_is e _ _ i j ∙ fourth_place c f t.some)
+    (sym (number_less_tested _ _ (let g = part_below a b s in omega (arith, g))))
 tells d e (fourth a b s h k) (first c f t i j) =
     tells_by d e false true (turns_left d e) (3298534883328 + part_of a b) (part_of c f)
-        (upper_is d _ _ h k ∙ fourth_upper a b s.some) (upper_is e _ _ i j ∙ first_upper c f t.some) refl
-      (place_is d _ _ h k ∙ fourth_place a b s.some) (place_is e _ _ i j ∙ first_place c f t.some)
-          (sym (number_not_less _ _ (let g = part_below c f t in omega (arith, g))))
+    (upper_is d _ _ h k ∙ fourth_upper a b s.some) (upper_is e _ _ i j ∙ first_upper c f t.some) refl
+    (place_is d _ _ h k ∙ fourth_place a b s.some) (place_is e _ _ i j ∙ first_place c f t.some)
+    (sym (number_not_less _ _ (let g = part_below c f t in omega (arith, g))))
 tells d e (second a b s h k) (third c f t i j) =
     tells_by d e true false (turns_left d e) (1099511627776 + part_of a b) (2199023255552 + part_of c f)
-        (upper_is d _ _ h k ∙ second_upper a b s.some) (upper_is e _ _ i j ∙ third_upper c f t.some) refl
-      (place_is d _ _ h k ∙ second_place a b s.some) (place_is e _ _ i j ∙ third_place c f t.some)
-          (sym (number_less_tested _ _ (let g = part_below a b s in omega (arith, g))))
+    (upper_is d _ _ h k ∙ second_upper a b s.some) (upper_is e _ _ i j ∙ third_upper c f t.some) refl
+    (place_is d _ _ h k ∙ second_place a b s.some) (place_is e _ _ i j ∙ third_place c f t.some)
+    (sym (number_less_tested _ _ (let g = part_below a b s in omega (arith, g))))
 tells d e (third a b s h k) (second c f t i j) =
     tells_by d e false true (turns_left d e) (2199023255552 + part_of a b) (1099511627776 + part_of c f)
-        (upper_is d _ _ h k ∙ third_upper a b s.some) (upper_is e _ _ i j ∙ second_upper c f t.some) refl
-      (place_is d _ _ h k ∙ third_place a b s.some) (place_is e _ _ i j ∙ second_place c f t.some)
-          (sym (number_not_less _ _ (let g = part_below c f t in omega (arith, g))))
+    (upper_is d _ _ h k ∙ third_upper a b s.some) (upper_is e _ _ i j ∙ second_upper c f t.some) refl
+    (place_is d _ _ h k ∙ third_place a b s.some) (place_is e _ _ i j ∙ second_place c f t.some)
+    (sym (number_not_less _ _ (let g = part_below c f t in omega (arith, g))))
 tells d e (second a b s h k) (fourth c f t i j) =
     tells_by d e true false (turns_left d e) (1099511627776 + part_of a b) (3298534883328 + part_of c f)
-        (upper_is d _ _ h k ∙ second_upper a b s.some) (upper_is e _ _ i j ∙ fourth_upper c f t.some) refl
-      (place_is d _ _ h k ∙ second_place a b s.some) (place_is e _ _ i j ∙ fourth_place c f t.some)
-          (sym (number_less_tested _ _ (let g = part_below a b s in omega (arith, g))))
+    (upper_is d _ _ h k ∙ second_upper a b s.some) (upper_is e _ _ i j ∙ fourth_upper c f t.some) refl
+    (place_is d _ _ h k ∙ second_place a b s.some) (place_is e _ _ i j ∙ fourth_place c f t.some)
+    (sym (number_less_tested _ _ (let g = part_below a b s in omega (arith, g))))
 tells d e (fourth a b s h k) (second c f t i j) =
     tells_by d e false true (turns_left d e) (3298534883328 + part_of a b) (1099511627776 + part_of c f)
-        (upper_is d _ _ h k ∙ fourth_upper a b s.some) (upper_is e _ _ i j ∙ second_upper c f t.some) refl
-      (place_is d _ _ h k ∙ fourth_place a b s.some) (place_is e _ _ i j ∙ second_place c f t.some)
-          (sym (number_not_less _ _ (let g = part_below c f t in omega (arith, g))))
+    (upper_is d _ _ h k ∙ fourth_upper a b s.some) (upper_is e _ _ i j ∙ second_upper c f t.some) refl
+    (place_is d _ _ h k ∙ fourth_place a b s.some) (place_is e _ _ i j ∙ second_place c f t.some)
+    (sym (number_not_less _ _ (let g = part_below c f t in omega (arith, g))))
 
 -- a direction comes before another exactly where its place is smaller
 pub place_tells : (d e : Point) → IsDirection d → IsDirected d → IsDirection e → IsDirected e → turns_before d e

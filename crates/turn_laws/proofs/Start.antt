@@ -21,7 +21,6 @@ pub record Wraps (w : Seen) : Type 0 where
 
 wraps_by : {P : Type 0} (u v l : Bool) → turns_by u v l ≡ false → l ≡ true → (u ≡ false → v ≡ true → P) → P
 wraps_by true true l h k f = absurd (clash_back l h k)
-
 wraps_by true false l h k f = absurd (grind arith)
 wraps_by false true l h k f = f refl refl
 wraps_by false false l h k f = absurd (clash_back l h k)
@@ -60,8 +59,8 @@ pub spans_at_start : (n : ℤ) (w : Seen) → IsDirected w.from → Wraps w
     → neg_ℤ n <ℤ w.from.x → w.from.x <ℤ n → neg_ℤ n <ℤ w.to.x → w.to.x <ℤ n → spans (just_before n) w ≡ true
 spans_at_start n w from_some h a b c e =
     both_true (int_lt (pos 0) (cross_of w.from (just_before n))) (int_lt (pos 0) (cross_of (just_before n) w.to))
-      (positive_tested _ (subst (λ t. pos 0 <ℤ t) (before_start n w.from.x w.from.y)
-        (to_part n (neg_ℤ w.from.x) (neg_ℤ w.from.y) (lower_is w.from from_some h.from) (omega (arith, ints, b))
-            (omega (arith, ints, a)))))
-      (positive_tested _ (subst (λ t. pos 0 <ℤ t) (after_start n w.to.x w.to.y)
-          (to_part n w.to.x w.to.y (upper_is w.to h.to) c e)))
+    (positive_tested _ (subst (λ t. pos 0 <ℤ t) (before_start n w.from.x w.from.y)
+    (to_part n (neg_ℤ w.from.x) (neg_ℤ w.from.y) (lower_is w.from from_some h.from) (omega (arith, ints, b))
+    (omega (arith, ints, a)))))
+    (positive_tested _ (subst (λ t. pos 0 <ℤ t) (after_start n w.to.x w.to.y)
+    (to_part n w.to.x w.to.y (upper_is w.to h.to) c e)))

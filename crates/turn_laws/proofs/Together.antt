@@ -37,13 +37,13 @@ spans_just_after s w s_in from_in to_in on =
     let a = dot_within w.from s from_in s_in in
     let b = dot_within s w.to s_in to_in in
     goes_on_after (pos 1000000000000) s w on (above_low (dot_of w.from s) a) (below_high (dot_of w.from s) a)
-        (above_low (dot_of s w.to) b) (below_high (dot_of s w.to) b)
+    (above_low (dot_of s w.to) b) (below_high (dot_of s w.to) b)
 
 -- two that go on from s are together just after it, where they are apart there
 pub together_after : (s : Point) (v w : Seen) → IsDirection s → IsDirection v.from → IsDirection v.to
     → IsDirection w.from → IsDirection w.to → GoesOnFrom s v → GoesOnFrom s w
     → (spans (just_after s) v ≡ true → spans (just_after s) w ≡ true → (are_apart v w ≡ true) × (are_apart w v ≡ true))
-        → AreTogether (just_after s) v w
+    → AreTogether (just_after s) v w
 together_after s v w s_in v_from v_to w_from w_to v_on w_on apart =
     let v_spans = spans_just_after s v s_in v_from v_to v_on in
     let w_spans = spans_just_after s w s_in w_from w_to w_on in

@@ -59,8 +59,8 @@ hides_same : (p : Point) (walls : List Segment) (k : ℕ) → hides_itself p wal
 hides_same p walls k =
     guarded (nat_lt k (length walls)) _ _
     (λ h. ap (λ w. int_lt (pos 0) (cross_of (vector p w.a) (vector p w.b)))
-        (no_default walls k (record { a = point (pos 0) (pos 0); b = point (pos 0) (pos 0) }) nowhere
-        (tested_number_less k (length walls) h)))
+    (no_default walls k (record { a = point (pos 0) (pos 0); b = point (pos 0) (pos 0) }) nowhere
+    (tested_number_less k (length walls) h)))
 
 pub hidden_same : (scene : Scene) (p d : Point) (first : Option (ℕ × Seen))
     → is_hidden_by (option_map (front_of scene p) first) d ≡ is_hidden (first_hides scene p first) d (seen_first first)
@@ -80,24 +80,30 @@ pub ahead_along : (p d : Point) (c : Corner) → is_ahead p d c ≡ true → IsA
 ahead_along p d c h =
     let one = both_of (stands_in p d c.here) (is_in_cone c d) h in
     let two = both_of (int_eq (cross_of d (vector p c.here)) (pos 0)) (int_lt (pos 0) (dot_of d (vector p c.here)))
-        one.0 in
-    record { line = tested_zero (cross_of d (vector p c.here)) two.0; ahead = tested_positive
-        (dot_of d (vector p c.here)) two.1 }
+    one.0 in
+    record {
+      line = tested_zero (cross_of d (vector p c.here)) two.0;
+      ahead = tested_positive
+          (dot_of d (vector p c.here)) two.1;
+    }
 
 pub behind_along : (p d : Point) (c : Corner) → is_behind p d c ≡ true → IsAlong d (vector p c.here)
 behind_along p d c h =
     let one = both_of (stands_in p d c.here) (is_in_cone c (back_of d)) h in
     let two = both_of (int_eq (cross_of d (vector p c.here)) (pos 0)) (int_lt (pos 0) (dot_of d (vector p c.here)))
-        one.0 in
-    record { line = tested_zero (cross_of d (vector p c.here)) two.0; ahead = tested_positive
-        (dot_of d (vector p c.here)) two.1 }
+    one.0 in
+    record {
+      line = tested_zero (cross_of d (vector p c.here)) two.0;
+      ahead = tested_positive
+          (dot_of d (vector p c.here)) two.1;
+    }
 
 -- a point beyond what is behind the first is hidden by the first
 end_past : (d v : Point) (s : Seen) → IsDirected d → IsAlong d v → spans d s ≡ true → int_lt (side_of s v) (pos 0)
     ≡ true → dot_of d v ≤ℤ dot_of d d → int_lt (side_of s d) (pos 0) ≡ true
 end_past d v s some along spanned past near =
     behind (cross_of s.from s.to) (dot_of d d) (dot_of d v) (cross_of d s.to +ℤ cross_of s.from d) (side_of s d)
-        (hit_before d v s some along spanned past) near (dot_itself d some) (den_up d s spanned) (side_by s d)
+    (hit_before d v s some along spanned past) near (dot_itself d some) (den_up d s spanned) (side_by s d)
   where
     side_by : (s : Seen) (d : Point) → side_of s d ≡ cross_of s.from s.to -ℤ (cross_of d s.to +ℤ cross_of s.from d)
     side_by s d = omega (arith, ints)
@@ -143,9 +149,7 @@ record Candidate (p d : Point) (test : Corner → Bool) (corners : List Corner) 
 either : (h a b : Bool) → (a ≡ true → h ≡ true) → (b ≡ true → h ≡ true) → (h || a) ≡ (h || b)
 either true a b f g = refl
 either false true b f g = absurd (never (f refl))
-
 either false false true f g = absurd (never (g refl))
-
 either false false false f g = refl
 
 abbrev Hides : Point → Option (ℕ × Seen) → Bool → Type 0
@@ -158,11 +162,19 @@ before_candidate : (p d : Point) (test : Corner → Bool) (corners : List Corner
 before_candidate p d test corners first reach hidden some hides (unmet h e) = record
     { corner = None; is = h; agrees = ap (λ t. hidden || is_before_end_of t d) (sym e) }
 before_candidate p d test corners first reach hidden some hides (there v n along e) =
-    record { corner = Some v; is = n; agrees = ap (λ t. hidden || t) (lengths_tell d v some along)
-        ∙ ap (λ t. hidden || is_before_end_of t d) (sym e) }
+    record {
+      corner = Some v;
+      is = n;
+      agrees = ap (λ t. hidden || t) (lengths_tell d v some along)
+          ∙ ap (λ t. hidden || is_before_end_of t d) (sym e);
+    }
 before_candidate p d test corners first reach hidden some hides (beyond v f n along e h far) =
-    record { corner = Some v; is = n; agrees = either hidden (int_lt (dot_of d v) (dot_of d d))
-        (is_before_end_of reach d) by_near (λ k. by_near (lengths_tell d v some along ∙ by_distance reach far k)) }
+    record {
+      corner = Some v;
+      is = n;
+      agrees = either hidden (int_lt (dot_of d v) (dot_of d d))
+          (is_before_end_of reach d) by_near (λ k. by_near (lengths_tell d v some along ∙ by_distance reach far k));
+    }
   where
     weaker : (x y : ℤ) → int_lt x y ≡ true → x ≤ℤ y
     weaker x y h = omega (arith, ints, h)
@@ -184,11 +196,20 @@ up_to_candidate : (p d : Point) (test : Corner → Bool) (corners : List Corner)
 up_to_candidate p d test corners first reach hidden some hides (unmet h e) = record
     { corner = None; is = h; agrees = ap (λ t. hidden || is_up_to_end_of t d) (sym e) }
 up_to_candidate p d test corners first reach hidden some hides (there v n along e) =
-    record { corner = Some v; is = n; agrees = ap (λ t. hidden || t) (lengths_tell_up_to d v some along)
-        ∙ ap (λ t. hidden || is_up_to_end_of t d) (sym e) }
+    record {
+      corner = Some v;
+      is = n;
+      agrees = ap (λ t. hidden || t) (lengths_tell_up_to d v some along)
+          ∙ ap (λ t. hidden || is_up_to_end_of t d) (sym e);
+    }
 up_to_candidate p d test corners first reach hidden some hides (beyond v f n along e h far) =
-    record { corner = Some v; is = n; agrees = either hidden (int_le (dot_of d v) (dot_of d d))
-        (is_up_to_end_of reach d) by_near (λ k. by_near (lengths_tell_up_to d v some along ∙ by_distance reach far k)) }
+    record {
+      corner = Some v;
+      is = n;
+      agrees = either hidden (int_le (dot_of d v) (dot_of d d))
+          (is_up_to_end_of reach d) by_near
+          (λ k. by_near (lengths_tell_up_to d v some along ∙ by_distance reach far k));
+    }
   where
     by_near : int_le (dot_of d v) (dot_of d d) ≡ true → hidden ≡ true
     by_near k = hides v f e along h (tested_at_most (dot_of d v) (dot_of d d) k)
@@ -212,17 +233,17 @@ sight_of_radial scene p q radial begins differ some starts t =
     let d = vector p q in
     let hidden = is_hidden (first_hides scene p t.first) d (seen_first t.first) in
     let hides : Hides d t.first hidden = (λ v f e along past near. past_hides scene p d v t.first f t.is_first e some
-        along past near) in
+    along past near) in
     let a = before_candidate p d (is_ahead p d) scene.corners t.first radial.ahead hidden some hides
-        (really p d (is_ahead p d) scene.corners t.first radial.ahead some (λ c h. ahead_along p d c h) t.ahead) in
+    (really p d (is_ahead p d) scene.corners t.first radial.ahead some (λ c h. ahead_along p d c h) t.ahead) in
     let b = up_to_candidate p d (is_behind p d) scene.corners t.first radial.behind hidden some hides
-        (really p d (is_behind p d) scene.corners t.first radial.behind some (λ c h. behind_along p d c h) t.behind) in
+    (really p d (is_behind p d) scene.corners t.first radial.behind some (λ c h. behind_along p d c h) t.behind) in
     let same : hidden ≡ is_hidden_by radial.front d = sym (hidden_same scene p d t.first)
-        ∙ ap (λ f. is_hidden_by f d) (sym t.front) in
+    ∙ ap (λ f. is_hidden_by f d) (sym t.front) in
     sight_is scene p q t.first a.corner b.corner differ t.is_first a.is b.is
     ∙ ap (λ s. not (s || (hidden || (is_nearer d a.corner || is_up_to d b.corner)))) starts
     ∙ ap (λ s. not (begins || s)) (three hidden (is_nearer d a.corner) (is_up_to d b.corner)
-        (is_before_end_of radial.ahead d) (is_up_to_end_of radial.behind d) a.agrees b.agrees)
+    (is_before_end_of radial.ahead d) (is_up_to_end_of radial.behind d) a.agrees b.agrees)
     ∙ ap (λ s. not (begins || (s || (is_before_end_of radial.ahead d || is_up_to_end_of radial.behind d)))) same
   where
     three : (h n u m w : Bool) → (h || n) ≡ (h || m) → (h || u) ≡ (h || w) → (h || (n || u)) ≡ (h || (m || w))

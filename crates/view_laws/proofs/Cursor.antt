@@ -49,17 +49,17 @@ rest_ordered s rest order = λ i j e lt within. order (suc i) (suc j) e (omega a
 radial_at_suc : (before : Option Front) (sectors : List Sector) (k place : ℕ) (e : Sector) → AreInOrder sectors
     → k < length sectors → (get_or sectors k e).place ≤ place
     → (suc k < length sectors → place < (get_or sectors (suc k) e).place) → radial_by before sectors place
-        ≡ radial_at (get_or sectors k e) place
+    ≡ radial_at (get_or sectors k e) place
 radial_at_suc before [] k place e order within low high = absurd (omega arith)
 radial_at_suc before (s ∷ rest) zero place e order within low high =
     same_radial before s rest place low
-        ∙ ap (λ t. cond (place == s.place) (radial_on s) t)
-        (radial_before s.after rest place e (λ h. high (omega arith)))
+    ∙ ap (λ t. cond (place == s.place) (radial_on s) t)
+    (radial_before s.after rest place e (λ h. high (omega arith)))
 radial_at_suc before (s ∷ rest) (suc k) place e order within low high =
     let below = order 0 (suc k) e (omega arith) within in
     same_radial before s rest place (chain s.place (get_or rest k e).place place below low)
     ∙ ap (λ t. cond t (radial_on s) (radial_by s.after rest place))
-        (unlike s.place (get_or rest k e).place place below low)
+    (unlike s.place (get_or rest k e).place place below low)
     ∙ radial_at_suc s.after rest k place e (rest_ordered s rest order) (omega arith) low (λ h. high (omega arith))
   where
     chain : (a b c : ℕ) → a < b → b ≤ c → a ≤ c
@@ -75,11 +75,11 @@ radial_at_suc before (s ∷ rest) (suc k) place e order within low high =
 pub radial_from : (before : Option Front) (sectors : List Sector) (k place : ℕ) (e : Sector) → AreInOrder sectors
     → k < length sectors → (get_or sectors k e).place ≤ place
     → (k + 1 < length sectors → place < (get_or sectors (k + 1) e).place) → radial_by before sectors place
-        ≡ radial_at (get_or sectors k e) place
+    ≡ radial_at (get_or sectors k e) place
 radial_from before sectors k place e order within low high =
     radial_at_suc before sectors k place e order within low
     (λ h. subst (λ n. place < (get_or sectors n e).place) (sym (one k))
-        (high (subst (λ n. n < length sectors) (one k) h)))
+    (high (subst (λ n. n < length sectors) (one k) h)))
   where
     one : (k : ℕ) → suc k ≡ k + 1
     one k = omega arith
@@ -89,10 +89,10 @@ radial_from before sectors k place e order within low high =
 pub sight_by_view : (scene : Scene) (p q : Point) (arc : Arc) (view : View) → IsViewOf scene p arc view
     → same_point p q ≡ false → IsDirection (vector p q) → IsDirected (vector p q) → is_in_arc arc (vector p q) ≡ true
     → are_in_sight scene p q ≡ is_seen_by (is_led_into view.ground (vector p q)) (radial_of view (vector p q))
-        (vector p q)
+    (vector p q)
 sight_by_view scene p q arc view v differ direction directed within =
     sight_of_radial scene p q (radial_of view (vector p q)) (is_led_into view.ground (vector p q)) differ directed
-        (v.ground (vector p q) direction directed) (v.tells (vector p q) direction directed within)
+    (v.ground (vector p q) direction directed) (v.tells (vector p q) direction directed within)
 
 pub near_wall_by_view : (scene : Scene) (p d : Point) (arc : Arc) (view : View) → IsViewOf scene p arc view
     → IsDirection d → IsDirected d → is_in_arc arc d ≡ true
@@ -105,4 +105,4 @@ pub stop_by_view : (scene : Scene) (p d : Point) (arc : Arc) (view : View) → I
     → stop_of scene p d ≡ option_map reduced (stop_by (is_led_into view.ground d) (radial_of view d) d)
 stop_by_view scene p d arc view v direction directed within =
     stop_of_radial scene p d (radial_of view d) (is_led_into view.ground d) directed (v.ground d direction directed)
-        (v.tells d direction directed within)
+    (v.tells d direction directed within)

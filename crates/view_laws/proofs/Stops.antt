@@ -91,7 +91,7 @@ same_before : (f g h : Fraction) → IsSame f g → is_before f h ≡ is_before 
 same_before f g h s =
     sym (same_test (f.num *ℤ h.den) (h.num *ℤ f.den) g.den (one_at_least g.den s.up_too))
     ∙ ap (λ t. int_lt t ((h.num *ℤ f.den) *ℤ g.den))
-        (product_turned f.num h.den g.den ∙ ap (λ t. t *ℤ h.den) s.value ∙ product_turned g.num f.den h.den)
+    (product_turned f.num h.den g.den ∙ ap (λ t. t *ℤ h.den) s.value ∙ product_turned g.num f.den h.den)
     ∙ ap (λ t. int_lt ((g.num *ℤ h.den) *ℤ f.den) t) (product_turned h.num f.den g.den)
     ∙ same_test (g.num *ℤ h.den) (h.num *ℤ g.den) f.den (one_at_least f.den s.up)
 
@@ -103,8 +103,11 @@ zero_later n m h = less_tested (pos 0 *ℤ m) (n *ℤ pos 1) (omega (arith, ints
 corner_same : (d v : Point) → IsDirected d → IsAlong d v
     → IsSame (record { num = dot_of d v; den = dot_of d d })
     (record { num = pos (length_of v); den = pos (length_of d) })
-corner_same d v some along = record { up = dot_itself d some; up_too = above (pos (length_of d)) (some_length d some);
-    value = in_proportion d v some along }
+corner_same d v some along = record {
+  up = dot_itself d some;
+  up_too = above (pos (length_of d)) (some_length d some);
+  value = in_proportion d v some along;
+}
   where
     above : (z : ℤ) → pos 1 ≤ℤ z → pos 0 <ℤ z
     above z h = omega (arith, ints, h)
@@ -136,7 +139,7 @@ later_on : (l f g : Fraction) → pos 0 <ℤ l.den → pos 0 <ℤ f.den → g.de
     → is_before l g ≡ true
 later_on l f g l_up f_up e le h = subst (λ t. int_lt (l.num *ℤ t) (g.num *ℤ l.den) ≡ true) (sym e)
     (less_tested (l.num *ℤ f.den) (g.num *ℤ l.den)
-        (chain (l.num *ℤ f.den) (f.num *ℤ l.den) (g.num *ℤ l.den) h (grows f.num g.num l.den l_up le)))
+    (chain (l.num *ℤ f.den) (f.num *ℤ l.den) (g.num *ℤ l.den) h (grows f.num g.num l.den l_up le)))
   where
     chain : (x y z : ℤ) → int_lt x y ≡ true → y ≤ℤ z → x <ℤ z
     chain x y z h k = omega (arith, ints, h, k)
@@ -144,16 +147,16 @@ later_on l f g l_up f_up e le h = subst (λ t. int_lt (l.num *ℤ t) (g.num *ℤ
     grows : (x y z : ℤ) → pos 0 <ℤ z → x ≤ℤ y → (x *ℤ z) ≤ℤ (y *ℤ z)
     grows x y z h k = by_lt_z x y
         (λ lt. let r = positive_product z (y -ℤ x) h (omega (arith, ints, lt)) in let e = times_minus z y x in
-            omega (arith, ints, r, e))
+        omega (arith, ints, r, e))
         (λ ge. let e : x ≡ y = omega (arith, ints, k, ge) in let f : x *ℤ z ≡ y *ℤ z = ap (λ t. t *ℤ z) e in
-            omega (arith, ints, f))
+        omega (arith, ints, f))
 
 same_after : (l f g : Fraction) → IsSame f g → is_before l f ≡ true → is_before l g ≡ true
 same_after l f g s h =
     sym (sym (same_test (l.num *ℤ f.den) (f.num *ℤ l.den) g.den (one_at_least g.den s.up_too))
     ∙ ap (λ t. int_lt t ((f.num *ℤ l.den) *ℤ g.den)) (product_turned l.num f.den g.den)
     ∙ ap (λ t. int_lt ((l.num *ℤ g.den) *ℤ f.den) t)
-        (product_turned f.num l.den g.den ∙ ap (λ t. t *ℤ l.den) s.value ∙ product_turned g.num f.den l.den)
+    (product_turned f.num l.den g.den ∙ ap (λ t. t *ℤ l.den) s.value ∙ product_turned g.num f.den l.den)
     ∙ same_test (l.num *ℤ g.den) (g.num *ℤ l.den) f.den (one_at_least f.den s.up)) ∙ h
 
 hit_up : (d : Point) (s : Seen) → spans d s ≡ true → pos 0 <ℤ (cross_of d s.to +ℤ cross_of s.from d)
@@ -169,7 +172,7 @@ above (suc n) x s l h k e = omega (arith, ints)
 
 stopper_of : (p d : Point) (corners : List Corner) (first : Option (ℕ × Seen)) (reach : Option ℕ) → IsDirected d
     → ((f : ℕ × Seen) → first ≡ Some f → spans d f.1 ≡ true) → Really p d (is_ahead p d) corners first reach
-        → Stopper p d corners (blocker_stop d (seen_first first)) reach
+    → Stopper p d corners (blocker_stop d (seen_first first)) reach
 stopper_of p d corners first reach some spanned (unmet h e) = record {
   corner = None;
   is = h;
@@ -194,7 +197,7 @@ stopper_of p d corners first reach some spanned (beyond v f n along e h far) =
     let c : Fraction = record { num = dot_of d v; den = dot_of d d } in
     let g : Fraction = record { num = pos (length_of v); den = pos (length_of d) } in
     let up = above (length_of v) (dot_of d v) (dot_of d d) (pos (length_of d)) along.ahead (some_length d some)
-        (in_proportion d v some along) in
+    (in_proportion d v some along) in
     let before = hit_before d v f.1 some along (spanned f e) h in
     let same = corner_same d v some along in
     let line : blocker_stop d (seen_first first) ≡ Some l = ap (λ t. blocker_stop d (seen_first t)) e in
@@ -205,7 +208,7 @@ stopper_of p d corners first reach some spanned (beyond v f n along e h far) =
       radial_later = later_by (length_of v) reach up far;
       agrees = ap (λ t. option_map reduced (nearer_hit t (Some c))) line ∙ ap (option_map reduced) (stays l c before)
           ∙ ap (option_map reduced) (sym (stays_by l g reach (hit_up d f.1 (spanned f e)) same.up_too refl refl far
-              (same_after l c g same before)))
+          (same_after l c g same before)))
           ∙ ap (λ t. option_map reduced (nearer_hit t (corner_by d reach))) (sym line);
     }
   where
@@ -248,15 +251,15 @@ stop_of_radial scene p d radial begins some starts t =
     let same : line ≡ hit_by d radial.front = sym (hit_same scene p d t.first) ∙ ap (hit_by d) (sym t.front) in
     stop_is scene p d t.first s.corner (dot_itself d some) t.is_first s.is
     ∙ ap (λ o. option_map reduced (nearer_hit line o))
-        (starts_together (corner_stop d s.corner) corner wall s.later
-        ∙ ap (λ b. nearer_hit (corner_stop d s.corner) (start_stop b)) starts)
+    (starts_together (corner_stop d s.corner) corner wall s.later
+    ∙ ap (λ b. nearer_hit (corner_stop d s.corner) (start_stop b)) starts)
     ∙ by_start line (corner_stop d s.corner) (corner_by d radial.ahead) begins s.later s.radial_later s.agrees
     ∙ ap (λ l. option_map reduced (nearer_hit l (nearer_hit (corner_by d radial.ahead) (start_stop begins)))) same
   where
     by_start : (l c o : Option Fraction) (b : Bool) → IsLater c → IsLater o → option_map reduced (nearer_hit l c)
         ≡ option_map reduced (nearer_hit l o)
         → option_map reduced (nearer_hit l (nearer_hit c (start_stop b)))
-            ≡ option_map reduced (nearer_hit l (nearer_hit o (start_stop b)))
+        ≡ option_map reduced (nearer_hit l (nearer_hit o (start_stop b)))
     by_start l c o true h k e = ap (λ t. option_map reduced (nearer_hit l t)) (at_once c h)
         ∙ ap (λ t. option_map reduced (nearer_hit l t)) (sym (at_once o k))
     by_start l c o false h k e = ap (λ t. option_map reduced (nearer_hit l t)) (none_after c) ∙ e

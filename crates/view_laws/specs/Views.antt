@@ -83,7 +83,7 @@ pub record IsReached (p : Point) (test : corners.Corner → Bool) (corners : Lis
   pub some : IsSoFarOrNone p test corners far
   pub all : (j : ℕ) → j < length corners → test (get_or corners j no_corner) ≡ true
       → (is_from far (vector p (get_or corners j no_corner).here)
-          || is_past_first first (vector p (get_or corners j no_corner).here)) ≡ true
+      || is_past_first first (vector p (get_or corners j no_corner).here)) ≡ true
 
 -- what is said of direction d is so
 pub record IsRadial (scene : Scene) (p d : Point) (radial : Radial) : Type 0 where
