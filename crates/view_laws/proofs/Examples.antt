@@ -3,8 +3,8 @@
 -- The station has a wall before it from (8, 0) to (0, 8), seen until the place 5; from there on nothing is first. At
 -- the
 -- place 2 stands a corner at a distance of 4 that is led into on the way out.
-use Rattle.std.proofs.Common.{◌≡◌, List, [], ◌∷◌, ℕ, pos, neg_ℤ, refl}
-use Rattle.std.specs.Prelude.{true, false, Option, Some, None}
+use Rattle.std.proofs.Common.{◌≡◌, [], ◌∷◌, pos, neg_ℤ, refl}
+use Rattle.std.specs.Prelude.{true, false, Some, None}
 use Rattle.plane_spec.specs.Vectors.{point}
 use Rattle.view_laws.specs.declared.view.Front.{Front}
 use Rattle.view_laws.specs.declared.view.Sector.{Sector}
