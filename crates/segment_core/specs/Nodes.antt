@@ -10,7 +10,7 @@ pub record AreTailsOf (pieces : List Piece) (tails : List ℕ) : Type 0 where
   pub one_each : length tails ≡ 2 * length pieces
   pub alike : (s t : ℕ) → s < 2 * length pieces → t < 2 * length pieces
       → (get_or tails s 0 == get_or tails t 0) ≡ same_rpoint (tail_of (step_at pieces s).0.1 (step_at pieces s).1)
-          (tail_of (step_at pieces t).0.1 (step_at pieces t).1)
+      (tail_of (step_at pieces t).0.1 (step_at pieces t).1)
 
 -- the steps that lead from a node, in order
 abbrev pub leaving_of : List ℕ → ℕ → List ℕ

@@ -9,8 +9,13 @@ use Rattle.route_spec.specs.Routes.{Piece, DirectedPiece, TurnWalk, can_follow, 
 
 -- stands for pieces that aren't there
 abbrev pub no_piece : Piece
-no_piece = record { route = 0; from = whole_point (point (pos 0) (pos 0)); to = whole_point (point (pos 0)
-    (pos 0)); direction = point (pos 0) (pos 0) }
+no_piece = record {
+  route = 0;
+  from = whole_point (point (pos 0) (pos 0));
+  to = whole_point (point (pos 0)
+      (pos 0));
+  direction = point (pos 0) (pos 0);
+}
 
 abbrev pub piece_at : List Piece → ℕ → Piece
 piece_at pieces k = get_or pieces k no_piece
@@ -35,7 +40,7 @@ IsEased pieces costs s =
 abbrev pub AreWalked : List Piece → ℕ → List ℕ → Type 0
 AreWalked pieces source costs =
     (s : ℕ) → s < 2 * length pieces → cost_at costs s < far_of pieces
-        → (more : ℕ) × TurnWalk pieces source more (step_at pieces s) (cost_at costs s)
+    → (more : ℕ) × TurnWalk pieces source more (step_at pieces s) (cost_at costs s)
 
 -- the min_by costs of walks from the source to each step
 pub record AreLeast (pieces : List Piece) (source : ℕ) (costs : List ℕ) : Type 0 where
