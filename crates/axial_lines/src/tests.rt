@@ -5,7 +5,7 @@ ghost use Rattle.plan_spec.specs.Edits.{HasShift};
 ghost use Rattle.sight_spec.specs.Axial.{axial_lines};
 ghost use Rattle.sight_spec.specs.Scene as scenes;
 
-use crate::{AxialLine, LinesFault, all_lines, update_lines};
+use crate::{AxialLine, all_lines, update_lines};
 use exact_geom::RPoint;
 use plan_check::{Edit, Item, Items, Name, Plan, PlanData, Points, check};
 use plane_spec::Point;
@@ -33,24 +33,14 @@ fn box_points(rt: &impl Abort, alloc: Global, low: Point, high: Point) -> Points
     list
 }
 
-/// The points (k, k²), one after the other.
-fn curve(rt: &impl Abort, alloc: Global, count: i32) -> Points {
-    let mut list = Points::new(alloc);
-    for k in 0..count {
-        let k = i64::from(k);
-        assert!(rt; list.push(at(k, k * k)).is_ok());
-    }
-    list
-}
-
-/// The plan of an outer polygon with boxes and screens in it, each named by a letter.
-fn plan_of(
+/// The plan of a box of side 10 with boxes and screens in it, each named by a letter.
+fn room(
     rt: &impl Abort,
     alloc: Global,
-    outer: Points,
     boxes: &[(u8, Point, Point)],
     screens: &[(u8, Point, Point)],
 ) -> Plan {
+    let outer = box_points(rt, alloc, at(0, 0), at(10, 10));
     let mut items = Items::new(alloc);
     assert!(rt; items.push(Item::Outer(outer)).is_ok());
     for (letter, low, high) in boxes {
@@ -72,17 +62,6 @@ fn plan_of(
         Ok(plan) => plan,
         Err(_) => panic!(rt; "the plan is accepted"),
     }
-}
-
-/// The plan of a box of side 10 with boxes and screens in it.
-fn room(
-    rt: &impl Abort,
-    alloc: Global,
-    boxes: &[(u8, Point, Point)],
-    screens: &[(u8, Point, Point)],
-) -> Plan {
-    let outer = box_points(rt, alloc, at(0, 0), at(10, 10));
-    plan_of(rt, alloc, outer, boxes, screens)
 }
 
 fn scene(rt: &impl Abort, alloc: Global, plan: &Plan) -> Scene
@@ -109,7 +88,7 @@ fn lines_of(rt: &impl Abort, alloc: Global, plan: &Plan) -> Vec<AxialLine> {
 
 /// The lines after an edit, from those before it.
 #[tactic(auto, using(crate::proofs::Edits::edited_plan))]
-fn updated(rt: &impl Abort, alloc: Global, plan: &Plan, edit: &Edit) -> (Scene, Vec<AxialLine>)
+fn after_edit(rt: &impl Abort, alloc: Global, plan: &Plan, edit: &Edit) -> Vec<AxialLine>
     requires { HasShift edit.now }
 {
     // a plan says that it is sound where its outer polygon is read
@@ -120,7 +99,7 @@ fn updated(rt: &impl Abort, alloc: Global, plan: &Plan, edit: &Edit) -> (Scene, 
     let (before, after) = (scene(rt, alloc, plan), scene(rt, alloc, &edited));
     let old = lines(rt, alloc, &before);
     match update_lines(alloc, &old, &before, &after, plan.changed(edit)) {
-        Ok(lines) => (after, lines),
+        Ok(lines) => lines,
         Err(_) => panic!(rt; "there is memory, and there are few lines"),
     }
 }
@@ -208,21 +187,6 @@ fn equal_lines(rt: &impl Abort, alloc: Global) {
     }
 }
 
-/// The lines after an edit, which are those of the plan after it.
-fn after_edit(rt: &impl Abort, alloc: Global, plan: &Plan, edit: &Edit) -> Vec<AxialLine>
-    requires { HasShift edit.now }
-{
-    let (after, found) = updated(rt, alloc, plan, edit);
-    let expected = lines(rt, alloc, &after);
-    assert!(rt; found.len() == expected.len());
-    for k in 0..found.len() {
-        let (l, m) = (&found[k], &expected[k]);
-        assert!(rt; l.first == m.first && l.second == m.second);
-        assert!(rt; l.from == m.from && l.to == m.to);
-    }
-    found
-}
-
 fn after_removal(rt: &impl Abort, alloc: Global, plan: &Plan, letter: u8) -> Vec<AxialLine> {
     after_edit(rt, alloc, plan, &Edit::Remove(name(rt, letter)))
 }
@@ -268,16 +232,4 @@ fn edits_have_the_lines_of_the_plan_after_them(rt: HostRuntime) {
     is_empty_room(&rt, &after_screen_removal(&rt, alloc, &screened, b'S'));
     box_added(&rt, alloc, &room(&rt, alloc, &[], &[]));
     one_of_three_removed(&rt, alloc);
-}
-
-#[test]
-fn too_many_lines_are_refused(rt: HostRuntime) {
-    let alloc = rt.alloc();
-    let most = plan_of(&rt, alloc, curve(&rt, alloc, 181), &[], &[]);
-    assert!(rt; lines_of(&rt, alloc, &most).len() == 16290);
-    let more = plan_of(&rt, alloc, curve(&rt, alloc, 182), &[], &[]);
-    match all_lines(alloc, &scene(&rt, alloc, &more)) {
-        Err(LinesFault::TooManyLines) => {}
-        _ => panic!(rt; "there are 16471 lines"),
-    }
 }
