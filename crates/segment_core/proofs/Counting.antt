@@ -32,7 +32,7 @@ numbers_are a (p ∷ ps) =
     let next : 2 * a + 1 + 1 ≡ 2 * (a + 1) = omega arith in
     ap (range_with_len (2 * a)) more
     ∙ ap (λ rest. 2 * a ∷ (2 * a + 1) ∷ rest) (ap (λ (n : ℕ). range_with_len n (2 * length ps)) next
-        ∙ numbers_are (a + 1) ps)
+    ∙ numbers_are (a + 1) ps)
 
 abbrev one : Bool → ℕ
 one b = cond b 1 0
@@ -46,7 +46,7 @@ both_counted : (q r : ℕ → Bool) (t : ℕ × Piece → Bool) (a : ℕ) (ps : 
     → ((i j : ℕ) → i < length ps → j ≡ a + i
     → one (q (2 * j)) + one (q (2 * j + 1)) + (one (r (2 * j)) + one (r (2 * j + 1))) ≡ one (t (j, piece_at ps i)))
     → length (filter q (steps_from a ps)) + length (filter r (steps_from a ps))
-        ≡ length (filter t (enumerate_from a ps))
+    ≡ length (filter t (enumerate_from a ps))
 unfolding steps_from
 both_counted q r t a [] each = refl
 both_counted q r t a (p ∷ ps) each =
@@ -134,7 +134,7 @@ module _ (tails : List ℕ) (k at from j : ℕ) where
       let half : (2 * j + 1) / 2 ≡ j = omega arith in
       let rest : (2 * j + 1) % 2 ≡ 1 = omega arith in
       ap (λ (h : ℕ). not (h == k) && not (((2 * j + 1) % 2 == 1)
-          && (at == get_or tails (reversed_step (2 * j + 1)) 0))) half
+      && (at == get_or tails (reversed_step (2 * j + 1)) 0))) half
       ∙ ap (λ (n : ℕ). not (j == k) && not ((n == 1) && (at == get_or tails (reversed_step (2 * j + 1)) 0))) rest
       ∙ ap (λ (s : ℕ). not (j == k) && not (at == get_or tails s 0)) (reversed_odd j)
 
@@ -143,14 +143,14 @@ module _ (tails : List ℕ) (k at from j : ℕ) where
   apart_even =
       ap (λ b. b && (not (from == last) && not (from == get_or tails (reversed_step (2 * j)) 0))) counts_even
       ∙ ap (λ (s : ℕ). (not (j == k) && true) && (not (from == last)
-          && not (from == get_or tails s 0))) (reversed_even j)
+      && not (from == get_or tails s 0))) (reversed_even j)
 
   apart_odd : counts_apart tails k at from (2 * j + 1)
       ≡ ((not (j == k) && not (at == last)) && (not (from == first) && not (from == last)))
   apart_odd =
       ap (λ b. b && (not (from == first) && not (from == get_or tails (reversed_step (2 * j + 1)) 0))) counts_odd
       ∙ ap (λ (s : ℕ). (not (j == k) && not (at == last)) && (not (from == first)
-          && not (from == get_or tails s 0))) (reversed_odd j)
+      && not (from == get_or tails s 0))) (reversed_odd j)
 
 -- ---- ends and their nodes
 
@@ -160,7 +160,7 @@ leads_is : (pieces : List Piece) (tails : List ℕ) (s t : ℕ) → AreTailsOf p
     → leads_to pieces s t ≡ (get_or tails (reversed_step s) 0 == get_or tails t 0)
 leads_is pieces tails s t are s_in t_in =
     ap (λ (p : RPoint). same_rpoint p (tail_of (step_at pieces t).0.1 (step_at pieces t).1)) (sym
-        (tail_reversed pieces s))
+    (tail_reversed pieces s))
     ∙ sym (are.alike (reversed_step s) t (reversed_below s (length pieces) s_in) t_in)
 
 number_below : (k n : ℕ) (b : Bool) → k < n → number_in k b < 2 * n
@@ -174,9 +174,9 @@ ends_alike : (pieces : List Piece) (tails : List ℕ) (k j : ℕ) (b c : Bool) �
 ends_alike pieces tails k j b c are k_in j_in =
     ap (λ s. same_rpoint (tail_of s.0.1 s.1) (tail_of (piece_at pieces j) c)) (sym (step_at_in pieces k b))
     ∙ ap (λ s. same_rpoint (tail_of (step_at pieces (number_in k b)).0.1 (step_at pieces (number_in k b)).1)
-        (tail_of s.0.1 s.1)) (sym (step_at_in pieces j c))
+    (tail_of s.0.1 s.1)) (sym (step_at_in pieces j c))
     ∙ sym (are.alike (number_in k b) (number_in j c) (number_below k (length pieces) b k_in) (number_below j
-        (length pieces) c j_in))
+    (length pieces) c j_in))
 
 module _ (pieces : List Piece) (tails : List ℕ) (k from to : ℕ) (are : AreTailsOf pieces tails)
     (k_in : k < length pieces)
@@ -210,52 +210,52 @@ module _ (pieces : List Piece) (tails : List ℕ) (k from to : ℕ) (are : AreTa
       || ((to == get_or tails (2 * j + 1) 0) || (to == get_or tails (2 * j) 0)))
   shared j j_in =
       four _ _ _ _ _ _ _ _ (end_is true true from from_is) (end_is true false from from_is)
-          (end_is false true to to_is) (end_is false false to to_is)
+      (end_is false true to to_is) (end_is false false to to_is)
     where
       end_is : (b c : Bool) (node : ℕ) → node ≡ get_or tails (number_in k b) 0
           → same_rpoint (tail_of (piece_at pieces k) b) (tail_of (piece_at pieces j) c)
-              ≡ (node == get_or tails (number_in j c) 0)
+          ≡ (node == get_or tails (number_in j c) 0)
       end_is b c node is = ends_alike pieces tails k j b c are k_in j_in
           ∙ ap (λ (n : ℕ). n == get_or tails (number_in j c) 0) (sym is)
 
       four : (a b c d e f g h : Bool) → a ≡ e → b ≡ f → c ≡ g → d ≡ h → ((a || b) || (c || d)) ≡ ((e || f) || (g || h))
       four a b c d e f g h p q r s =
           ap (λ x. (x || b) || (c || d)) p ∙ ap (λ x. (e || x) || (c || d)) q ∙ ap (λ x. (e || f) || (x || d)) r
-              ∙ ap (λ x. (e || f) || (g || x)) s
+          ∙ ap (λ x. (e || f) || (g || x)) s
 
   each_piece : (i j : ℕ) → i < length pieces → j ≡ 0 + i
       → one (at_first (2 * j)) + one (at_first (2 * j + 1)) + (one (at_second (2 * j)) + one (at_second
-          (2 * j + 1))) ≡ one (test (j, piece_at pieces i))
+      (2 * j + 1))) ≡ one (test (j, piece_at pieces i))
   each_piece i j below is =
       let same : i ≡ j = omega (arith, is) in
       let j_in : j < length pieces = omega (arith, below, same) in
       let even : 2 * j < 2 * length pieces = omega (arith, j_in) in
       let odd : 2 * j + 1 < 2 * length pieces = omega (arith, j_in) in
       subst (λ (n : ℕ). one (at_first (2 * j)) + one (at_first (2 * j + 1)) + (one (at_second (2 * j)) + one
-          (at_second (2 * j + 1))) ≡ one (test (j, piece_at pieces n))) (sym same)
+      (at_second (2 * j + 1))) ≡ one (test (j, piece_at pieces n))) (sym same)
       (add_up (at_first (2 * j)) (at_first (2 * j + 1)) (at_second (2 * j)) (at_second (2 * j + 1)) (test
-          (j, piece_at pieces j))
+      (j, piece_at pieces j))
       (not (j == k)) (from == get_or tails (2 * j) 0) (from == get_or tails (2 * j + 1) 0) (to == get_or tails
-          (2 * j) 0) (to == get_or tails (2 * j + 1) 0)
+      (2 * j) 0) (to == get_or tails (2 * j + 1) 0)
       (both_parts (leads_to pieces (2 * k)) (counts_at tails k from) (2 * j) _ _ (leads_first (2 * j) even)
-          (counts_even tails k from from j))
+      (counts_even tails k from from j))
       (both_parts (leads_to pieces (2 * k)) (counts_at tails k from) (2 * j + 1) _ _ (leads_first (2 * j + 1) odd)
-          (counts_odd tails k from from j))
+      (counts_odd tails k from from j))
       (both_parts (leads_to pieces (2 * k + 1)) (counts_apart tails k to from) (2 * j) _ _ (leads_second
-          (2 * j) even) (apart_even tails k to from j))
+      (2 * j) even) (apart_even tails k to from j))
       (both_parts (leads_to pieces (2 * k + 1)) (counts_apart tails k to from) (2 * j + 1) _ _ (leads_second
-          (2 * j + 1) odd) (apart_odd tails k to from j))
+      (2 * j + 1) odd) (apart_odd tails k to from j))
       (ap (λ b. not (j == k) && b) (shared j j_in)))
 
   pub neighbours_are : length (filter (counts_at tails k from) (row_of pieces (2 * k)))
       + length (filter (counts_apart tails k to from) (row_of pieces (2 * k + 1)))
-          ≡ neighbours_of pieces (k, piece_at pieces k)
+      ≡ neighbours_of pieces (k, piece_at pieces k)
   neighbours_are =
       let steps = range_with_len 0 (2 * length pieces) in
       let first = ap length (filter_twice (counts_at tails k from) (leads_to pieces (2 * k)) steps)
-          ∙ ap (λ xs. length (filter at_first xs)) (numbers_are 0 pieces) in
+      ∙ ap (λ xs. length (filter at_first xs)) (numbers_are 0 pieces) in
       let second = ap length (filter_twice (counts_apart tails k to from) (leads_to pieces (2 * k + 1)) steps)
-          ∙ ap (λ xs. length (filter at_second xs)) (numbers_are 0 pieces) in
+      ∙ ap (λ xs. length (filter at_second xs)) (numbers_are 0 pieces) in
       let all = both_counted at_first at_second test 0 pieces each_piece in
       let counted = length-filter test (enumerate_from 0 pieces) in
       omega (arith, first, second, all, counted)
@@ -300,8 +300,12 @@ kept_at_most p (x ∷ xs) = by (p x) (one_more (p x) x (filter p xs)) (kept_at_m
 
 pub row_at_most : (pieces : List Piece) (s : ℕ) → length (row_of pieces s) ≤ 2 * length pieces
 row_at_most pieces s =
-    omega (arith, kept_at_most (leads_to pieces s) (range_with_len 0 (2 * length pieces)), length-range_with_len 0
-        (2 * length pieces))
+    omega (
+      arith,
+      kept_at_most (leads_to pieces s) (range_with_len 0 (2 * length pieces)),
+      length-range_with_len 0
+          (2 * length pieces),
+    )
 
 pub count_at_most : (pieces : List Piece) (s : ℕ) (p : ℕ → Bool) → length pieces ≤ 65536
     → length (filter p (row_of pieces s)) ≤ 131072

@@ -64,7 +64,7 @@ none_after x y [] x_is y_is all h after = refl
 none_after x y (t ∷ ts) x_is y_is all h after =
     ap (λ b. b || list_any (same_value x) ts)
     (other_value x t (through x y t x_is y_is (All-head IsCut t ts all) h (All-head
-        (IsBefore is_before y) t ts after).forth))
+    (IsBefore is_before y) t ts after).forth))
     ∙ none_after x y ts x_is y_is (All-tail IsCut t ts all) h (All-tail (IsBefore is_before y) t ts after)
 
 all_after : (x y : Fraction) (ts : List Fraction) → IsCut x → IsCut y → All IsCut ts → is_before x y ≡ true
@@ -73,7 +73,7 @@ all_after x y [] x_is y_is all h after = All-nil (IsBefore is_before x)
 all_after x y (t ∷ ts) x_is y_is all h after =
     All-cons (IsBefore is_before x) t ts
     (before_of x t (through x y t x_is y_is (All-head IsCut t ts all) h (All-head
-        (IsBefore is_before y) t ts after).forth))
+    (IsBefore is_before y) t ts after).forth))
     (all_after x y ts x_is y_is (All-tail IsCut t ts all) h (All-tail (IsBefore is_before y) t ts after))
 
 -- ---- the place of a cut
@@ -85,7 +85,7 @@ rising_parted x (y ∷ ts) x_is all rising zero zero d low high h = h
 rising_parted x (y ∷ ts) x_is all rising zero (suc j) d low high h =
     let there : j < length ts = omega (arith, high) in
     through y (get_or ts j d) x (All-head IsCut y ts all) (All-tail IsCut y ts all j d there) x_is
-        (rising.0 j d there).forth h
+    (rising.0 j d there).forth h
 rising_parted x (y ∷ ts) x_is all rising (suc i) zero d low high h = absurd (omega (arith, low))
 rising_parted x (y ∷ ts) x_is all rising (suc i) (suc j) d low high h =
     rising_parted x ts x_is (All-tail IsCut y ts all) rising.1 i j d (omega (arith, low)) (omega (arith, high)) h
@@ -166,7 +166,7 @@ inserted_rising x [] x_is all rising none = (All-nil (IsBefore is_before x), tt)
 inserted_rising x (y ∷ ts) x_is all rising none =
     by (is_before y x) refl
     (inserted_rising x ts x_is (All-tail IsCut y ts all) rising.1 (neither_second (same_value x y) (list_any
-        (same_value x) ts) none))
+    (same_value x) ts) none))
   where
     by : (b : Bool) → is_before y x ≡ b → IsRising is_before (inserted_by is_before x ts)
         → IsRising is_before (cond b (y ∷ inserted_by is_before x ts) (x ∷ y ∷ ts))
@@ -242,13 +242,13 @@ put_all now (t ∷ ts) = put_all (inserted_by is_before t now) ts
 
 put_last : (x : Fraction) (ts now : List Fraction) → IsCut x → All IsCut ts → All IsCut now
     → All (λ t. same_value t x ≡ false) ts → put_all (inserted_by is_before x now) ts
-        ≡ inserted_by is_before x (put_all now ts)
+    ≡ inserted_by is_before x (put_all now ts)
 put_last x [] now x_is all now_all apart = refl
 put_last x (t ∷ ts) now x_is all now_all apart =
     let t_is = All-head IsCut t ts all in
     ap (λ r. put_all r ts) (swapped x t now x_is t_is now_all (All-head (λ t. same_value t x ≡ false) t ts apart))
     ∙ put_last x ts (inserted_by is_before t now) x_is (All-tail IsCut t ts all)
-        (inserted_hold IsCut t now t_is now_all)
+    (inserted_hold IsCut t now t_is now_all)
     (All-tail (λ t. same_value t x ≡ false) t ts apart)
 
 abbrev IsFresh : List Fraction → Fraction → Type 0
@@ -267,7 +267,7 @@ fresh seen (x ∷ ts) = by (list_any (same_value x) seen) refl (weaker (distinct
 
     by : (b : Bool) → list_any (same_value x) seen ≡ b → All (IsFresh seen) (distinct_after same_value (x ∷ seen) ts)
         → All (IsFresh seen) (cond b (distinct_after same_value (x ∷ seen) ts) (x ∷ distinct_after same_value
-            (x ∷ seen) ts))
+        (x ∷ seen) ts))
     by true e later = later
     by false e later = All-cons (IsFresh seen) x (distinct_after same_value (x ∷ seen) ts) e later
 
@@ -276,7 +276,7 @@ apart_from : (x : Fraction) (seen ts : List Fraction)
 apart_from x seen ts = λ k d below.
     let ds = distinct_after same_value (x ∷ seen) ts in
     neither_first (same_value (get_or ds k d) x) (list_any (same_value (get_or ds k d)) seen) (fresh
-        (x ∷ seen) ts k d below)
+    (x ∷ seen) ts k d below)
 
 ordered : (seen ts : List Fraction) → All IsCut ts
     → put_all [] (distinct_after same_value seen ts) ≡ in_order is_before (distinct_after same_value seen ts)
@@ -291,10 +291,10 @@ ordered seen (x ∷ ts) all = by (list_any (same_value x) seen) (ordered (x ∷ 
 
     by : (b : Bool)
         → put_all [] (distinct_after same_value (x ∷ seen) ts)
-            ≡ in_order is_before (distinct_after same_value (x ∷ seen) ts)
+        ≡ in_order is_before (distinct_after same_value (x ∷ seen) ts)
         → put_all [] (cond b (distinct_after same_value (x ∷ seen) ts) (x ∷ distinct_after same_value (x ∷ seen) ts))
         ≡ in_order is_before (cond b (distinct_after same_value (x ∷ seen) ts) (x ∷ distinct_after same_value
-            (x ∷ seen) ts))
+        (x ∷ seen) ts))
     by true later = later
     by false later = put ∙ ap (inserted_by is_before x) later
 
@@ -331,7 +331,7 @@ same_of_same x y z x_is y_is z_is h =
     (before_follows y x z y_up x_up z_up (not_after x y h)) in
     let second : is_before z x ≡ is_before z y =
     alike (is_before z x) (is_before z y) (after x y x_is y_is (not_after x y h)) (after y x y_is x_is
-        (not_before x y h)) in
+    (not_before x y h)) in
     equal_by (x.num *ℤ z.den) (z.num *ℤ x.den) ∙ ap (λ b. not b && not (is_before z x)) first
     ∙ ap (λ b. not (is_before y z) && not b) second ∙ sym (equal_by (y.num *ℤ z.den) (z.num *ℤ y.den))
   where

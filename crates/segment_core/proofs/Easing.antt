@@ -62,9 +62,9 @@ is_other pieces s t follows same =
 module _ (pieces : List Piece) (step other raised : ℕ) (old : List ℕ) (before : List (List ℕ))
     (step_in : step < 2 * length pieces) (other_in : other < 2 * length pieces)
     (each : length old ≡ 2 * length pieces) (near : cost_at old step < far_of pieces) (follows : can_follow
-        (step_at pieces step) (step_at pieces other) ≡ true)
+    (step_at pieces step) (step_at pieces other) ≡ true)
     (is : raised ≡ cost_at old step + turn_between (step_at pieces step) (step_at pieces other))
-        (less : raised < cost_at old other) (ring : length before ≡ 17) where
+    (less : raised < cost_at old other) (ring : length before ≡ 17) where
   abbrev new : List ℕ
   new = set old other raised
 
@@ -86,7 +86,7 @@ module _ (pieces : List Piece) (step other raised : ℕ) (old : List ℕ) (befor
       (λ same close.
       let walk = walked step step_in near in
       let here : TurnWalk pieces source (suc walk.0) (step_at pieces other) raised =
-          (step_is_step pieces other other_in, (step_at pieces step, cost_at old step, walk.1, follows, is)) in
+      (step_is_step pieces other other_in, (step_at pieces step, cost_at old step, walk.1, follows, is)) in
       (suc walk.0, subst (λ (t : ℕ). TurnWalk pieces source (suc walk.0) (step_at pieces t) raised) (sym same) here))
       (λ away close. walked s s_in close)
 
@@ -101,15 +101,15 @@ module _ (pieces : List Piece) (step other raised : ℕ) (old : List ℕ) (befor
     walked = eased_walked;
     waiting = λ s. at_set (λ c. (c ≡ cost_at old s) ⊎ Waits after s c) old other s raised 0 below
         (λ same. inr (at_set (λ bs. Contains bs s) before bucket bucket
-            (bucket_at before bucket ++ other ∷ []) [] bucket_below
+        (bucket_at before bucket ++ other ∷ []) [] bucket_below
         (λ e. Contains-append_right (bucket_at before bucket) (other ∷ []) s (subst (λ (t : ℕ). Contains
-            (other ∷ []) t) (sym same) (contains_first other [])))
+        (other ∷ []) t) (sym same) (contains_first other [])))
         (λ e. absurd (e refl))))
         (λ away. inl refl);
     keeps = λ b s h. at_set (λ bs. Contains bs s) before bucket b
         (bucket_at before bucket ++ other ∷ []) [] bucket_below
         (λ same. Contains-append_left (bucket_at before bucket) (other ∷ []) s (subst (λ (n : ℕ). Contains
-            (bucket_at before n) s) same h))
+        (bucket_at before n) s) same h))
         (λ away. h);
     inside = λ i b s. at_set (λ bs. Contains bs s
         → s < 2 * length pieces) before bucket b (bucket_at before bucket ++ other ∷ []) [] bucket_below
@@ -142,8 +142,11 @@ pub record Relaxing (pieces : List Piece) (step done : ℕ) (row : List ℕ) (ol
 
 pub relaxing_none : (pieces : List Piece) (step : ℕ) (row costs : List ℕ) (queue : List (List ℕ))
     → Relaxing pieces step 0 row costs costs queue queue
-relaxing_none pieces step row costs queue = record { eases = eases_nothing pieces step costs queue; eased = λ k
-    below. absurd (omega (arith, below)) }
+relaxing_none pieces step row costs queue = record {
+  eases = eases_nothing pieces step costs queue;
+  eased = λ k
+      below. absurd (omega (arith, below));
+}
 
 module _ (pieces : List Piece) (step done : ℕ) (row old new : List ℕ) (before after : List (List ℕ))
     (r : Relaxing pieces step done row old new before after) where
@@ -156,13 +159,13 @@ module _ (pieces : List Piece) (step done : ℕ) (row old new : List ℕ) (befor
       by_place : (k : ℕ) → k < done + 1 → get_or row k 0 / 2 ≢ step / 2 → (b : Bool) → (b ≡ true → k ≡ done)
           → (b ≡ false → k ≢ done)
           → cost_at new (get_or row k 0) ≤ cost_at new step + turn_between (step_at pieces step) (step_at pieces
-              (get_or row k 0))
+          (get_or row k 0))
       by_place k below apart true is other = absurd (apart (ap (λ (i : ℕ). get_or row i 0 / 2) (is refl) ∙ same))
       by_place k below apart false is other = r.eased k (omega (arith, below, other refl)) apart
 
   pub relaxing_more : (newer : List ℕ) (later : List (List ℕ)) → Eases pieces step new newer after later
       → cost_at newer (get_or row done 0) ≤ cost_at newer step + turn_between (step_at pieces step) (step_at pieces
-          (get_or row done 0))
+      (get_or row done 0))
       → Relaxing pieces step (done + 1) row old newer before later
   relaxing_more newer later e here = record {
     eases = eases_more pieces step old new newer before after later r.eases e;
@@ -172,19 +175,24 @@ module _ (pieces : List Piece) (step done : ℕ) (row old new : List ℕ) (befor
       by_place : (k : ℕ) → k < done + 1 → get_or row k 0 / 2 ≢ step / 2 → (b : Bool) → (b ≡ true → k ≡ done)
           → (b ≡ false → k ≢ done)
           → cost_at newer (get_or row k 0) ≤ cost_at newer step + turn_between (step_at pieces step) (step_at pieces
-              (get_or row k 0))
+          (get_or row k 0))
       by_place k below apart true is other =
           subst (λ (i : ℕ). cost_at newer (get_or row i 0) ≤ cost_at newer step + turn_between (step_at pieces step)
-              (step_at pieces (get_or row i 0))) (sym (is refl)) here
-      by_place k below apart false is other = omega (arith, r.eased k (omega
-          (arith, below, other refl)) apart, e.lower (get_or row k 0), e.stays)
+          (step_at pieces (get_or row i 0))) (sym (is refl)) here
+      by_place k below apart false is other = omega (
+        arith,
+        r.eased k (omega
+            (arith, below, other refl)) apart,
+        e.lower (get_or row k 0),
+        e.stays,
+      )
 
 pub row_inside : (pieces : List Piece) (step k : ℕ) → k < length (row_of pieces step)
     → get_or (row_of pieces step) k 0 < 2 * length pieces
 row_inside pieces step k below =
     range_below (2 * length pieces) (get_or (row_of pieces step) k 0)
     (filter_from (leads_to pieces step) (range_with_len 0 (2 * length pieces)) (get_or (row_of pieces step) k 0)
-        (Contains-get_or (row_of pieces step) k 0 below)).0
+    (Contains-get_or (row_of pieces step) k 0 below)).0
 
 both_true : (a b : Bool) → a ≡ true → b ≡ true → a && b ≡ true
 both_true true b h g = g
@@ -203,9 +211,9 @@ pub row_follows : (pieces : List Piece) (step k : ℕ) → k < length (row_of pi
 row_follows pieces step k below apart =
     let t = get_or (row_of pieces step) k 0 in
     let leads = (filter_from (leads_to pieces step) (range_with_len 0 (2 * length pieces)) t (Contains-get_or
-        (row_of pieces step) k 0 below)).1 in
+    (row_of pieces step) k 0 below)).1 in
     both_true (not (step / 2 == t / 2)) (leads_to pieces step t) (not_equal (step / 2) (t / 2) (λ e. apart
-        (sym e))) leads
+    (sym e))) leads
 
 last_of_both : (a b : Bool) → a && b ≡ true → b ≡ true
 last_of_both true b h = h
@@ -216,13 +224,13 @@ pub relaxed : (pieces : List Piece) (step : ℕ) (old new : List ℕ) (before af
     → Relaxing pieces step done (row_of pieces step) old new before after → IsEased pieces new step
 relaxed pieces step old new before after done all r t t_in follows =
     let leads : leads_to pieces step t ≡ true = last_of_both (not (step / 2 == t / 2))
-        (leads_to pieces step t) follows in
+    (leads_to pieces step t) follows in
     let found = filter_contains (leads_to pieces step) (range_with_len 0 (2 * length pieces)) t (in_range_of
-        (2 * length pieces) t t_in) leads in
+    (2 * length pieces) t t_in) leads in
     let k = found.0 in
     let is : get_or (row_of pieces step) k 0 ≡ t = get_or_default (row_of pieces step) k 0 t found.1 ∙ found.2 in
     let apart : get_or (row_of pieces step) k 0 / 2 ≢ step / 2 = λ same. is_apart (ap (λ (i : ℕ). i / 2) (sym is)
-        ∙ same) in
+    ∙ same) in
     subst (λ (i : ℕ). cost_at new i ≤ cost_at new step + turn_between (step_at pieces step) (step_at pieces i)) is
     (r.eased k (omega (arith, found.1, all)) apart)
   where

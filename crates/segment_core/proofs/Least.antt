@@ -37,15 +37,15 @@ module _ (pieces : List Piece) (source : ℕ) (costs : List ℕ) (least : AreLea
       let u = number_of_step pieces last.0 (step_of_walk pieces source more last.0 last.1 last.2) in
       let r = u.0 in
       let before : TurnWalk pieces source more (step_at pieces r) last.1 = subst (λ
-          (t : DirectedPiece). TurnWalk pieces source more t last.1) (sym u.2) last.2 in
+      (t : DirectedPiece). TurnWalk pieces source more t last.1) (sym u.2) last.2 in
       let nearer : last.1 < far_of pieces = omega (arith, last.4) in
       let first : cost_at costs r ≤ last.1 = at_most_walk more r last.1 u.1 before nearer in
       let there : cost_at costs r < far_of pieces = omega (arith, first, nearer) in
       let follows : can_follow (step_at pieces r) (step_at pieces s)
-          ≡ true = subst (λ (t : DirectedPiece). can_follow t (step_at pieces s) ≡ true) (sym u.2) last.3 in
+      ≡ true = subst (λ (t : DirectedPiece). can_follow t (step_at pieces s) ≡ true) (sym u.2) last.3 in
       let turns : turn_between (step_at pieces r) (step_at pieces s)
-          ≡ turn_between last.0 (step_at pieces s) = ap (λ (t : DirectedPiece). turn_between t
-          (step_at pieces s)) u.2 in
+      ≡ turn_between last.0 (step_at pieces s) = ap (λ (t : DirectedPiece). turn_between t
+      (step_at pieces s)) u.2 in
       omega (arith, least.eased r u.1 there s below follows, first, turns, last.4)
 
   -- no walk costs less, and a step that is walked to isn't far
@@ -71,7 +71,7 @@ module _ (pieces : List Piece) (source : ℕ) (costs : List ℕ) (least : AreLea
         → (cost_at costs (number_in k forward) ≤ cost) × (cost_at costs (number_in k forward) < far_of pieces)
     at_most_in forward more cost walk =
         at_most_any more (number_in k forward) cost (in_below forward) (subst (λ
-            (t : DirectedPiece). TurnWalk pieces source more t cost) (sym (step_at_in pieces k forward)) walk)
+        (t : DirectedPiece). TurnWalk pieces source more t cost) (sym (step_at_in pieces k forward)) walk)
       where
         in_below : (f : Bool) → number_in k f < 2 * length pieces
         in_below true = omega arith
@@ -86,11 +86,14 @@ module _ (pieces : List Piece) (source : ℕ) (costs : List ℕ) (least : AreLea
 
     walked_in : (forward : Bool) → cost_at costs (number_in k forward) < far_of pieces
         → (more : ℕ) × (way : Bool) × TurnWalk pieces source more ((k, piece_at pieces k), way) (cost_at costs
-            (number_in k forward))
+        (number_in k forward))
     walked_in forward near =
-        let walk = least.walked (number_in k forward) (in_below forward) near in
-        (walk.0, forward, subst (λ (t : DirectedPiece). TurnWalk pieces source walk.0 t (cost_at costs
-            (number_in k forward))) (step_at_in pieces k forward) walk.1)
+        let walk = least.walked (number_in k forward) (in_below forward) near in (
+          walk.0,
+          forward,
+          subst (λ (t : DirectedPiece). TurnWalk pieces source walk.0 t (cost_at costs
+              (number_in k forward))) (step_at_in pieces k forward) walk.1,
+        )
       where
         in_below : (f : Bool) → number_in k f < 2 * length pieces
         in_below true = omega arith
@@ -109,8 +112,11 @@ module _ (pieces : List Piece) (source : ℕ) (costs : List ℕ) (least : AreLea
 
     by_nearness : (b : Bool) → (b ≡ true → the_least < far_of pieces) → (b ≡ false → far_of pieces ≤ the_least)
         → IsTurnDepth pieces source (k, piece_at pieces k) (cond b (Some the_least) None)
-    by_nearness true near away = (least_walked (near refl), λ more cost way walk. least_at_most way cost
-        (at_most_in way more cost walk).0)
+    by_nearness true near away = (
+      least_walked (near refl),
+      λ more cost way walk. least_at_most way cost
+          (at_most_in way more cost walk).0,
+    )
     by_nearness false near away = λ more cost way walk.
         let most = at_most_in way more cost walk in
         let least = least_at_most way (cost_at costs (number_in k way)) (omega arith) in
@@ -128,7 +134,7 @@ module _ (pieces : List Piece) (source : ℕ) (costs : List ℕ) (least : AreLea
   -- the list of depths
   pub depths_are : (depths : List (Option ℕ)) → length depths ≡ length pieces
       → ((k : ℕ) → k < length pieces → get_or depths k None
-          ≡ lesser_below (far_of pieces) (cost_at costs (2 * k + 1)) (cost_at costs (2 * k)))
+      ≡ lesser_below (far_of pieces) (cost_at costs (2 * k + 1)) (cost_at costs (2 * k)))
       → depths ≡ turn_depths_of pieces source
   depths_are depths one each =
       ext_get_or None depths (turn_depths_of pieces source) (one ∙ sym (one_turn_depth_each pieces source))

@@ -25,34 +25,49 @@ pub record SameParts (a b : End) : Type 0 where
 pub parts_of : (a b : End) → is_one_point a b ≡ true → SameParts a b
 parts_of a b h =
     let halves = both_of (int_eq a.x_num b.x_num && int_eq a.x_den b.x_den) (int_eq a.y_num b.y_num
-        && int_eq a.y_den b.y_den) h in
+    && int_eq a.y_den b.y_den) h in
     let xs = both_of (int_eq a.x_num b.x_num) (int_eq a.x_den b.x_den) halves.0 in
     let ys = both_of (int_eq a.y_num b.y_num) (int_eq a.y_den b.y_den) halves.1 in
-    record { x_num = tested_equal a.x_num b.x_num xs.0; x_den = tested_equal a.x_den b.x_den xs.1; y_num =
-        tested_equal a.y_num b.y_num ys.0; y_den = tested_equal a.y_den b.y_den ys.1 }
+    record {
+      x_num = tested_equal a.x_num b.x_num xs.0;
+      x_den = tested_equal a.x_den b.x_den xs.1;
+      y_num =
+          tested_equal a.y_num b.y_num ys.0;
+      y_den = tested_equal a.y_den b.y_den ys.1;
+    }
 
 one_of_parts : (a b : End) → SameParts a b → is_one_point a b ≡ true
 one_of_parts a b p =
     both (int_eq a.x_num b.x_num && int_eq a.x_den b.x_den) (int_eq a.y_num b.y_num && int_eq a.y_den b.y_den)
     (both (int_eq a.x_num b.x_num) (int_eq a.x_den b.x_den) (equal_tested a.x_num b.x_num p.x_num)
-        (equal_tested a.x_den b.x_den p.x_den))
+    (equal_tested a.x_den b.x_den p.x_den))
     (both (int_eq a.y_num b.y_num) (int_eq a.y_den b.y_den) (equal_tested a.y_num b.y_num p.y_num)
-        (equal_tested a.y_den b.y_den p.y_den))
+    (equal_tested a.y_den b.y_den p.y_den))
 
 -- two ends at the point of a third are at one point
 pub one_through : (a b c : End) → is_one_point a c ≡ true → is_one_point b c ≡ true → is_one_point a b ≡ true
 one_through a b c g h =
     let p = parts_of a c g in
     let q = parts_of b c h in
-    one_of_parts a b (record { x_num = p.x_num ∙ sym q.x_num; x_den = p.x_den ∙ sym q.x_den; y_num = p.y_num
-        ∙ sym q.y_num; y_den = p.y_den ∙ sym q.y_den })
+    one_of_parts a b (record {
+      x_num = p.x_num ∙ sym q.x_num;
+      x_den = p.x_den ∙ sym q.x_den;
+      y_num = p.y_num
+          ∙ sym q.y_num;
+      y_den = p.y_den ∙ sym q.y_den;
+    })
 
 pub one_along : (a b c : End) → is_one_point a b ≡ true → is_one_point b c ≡ true → is_one_point a c ≡ true
 one_along a b c g h =
     let p = parts_of a b g in
     let q = parts_of b c h in
-    one_of_parts a c (record { x_num = p.x_num ∙ q.x_num; x_den = p.x_den ∙ q.x_den; y_num = p.y_num
-        ∙ q.y_num; y_den = p.y_den ∙ q.y_den })
+    one_of_parts a c (record {
+      x_num = p.x_num ∙ q.x_num;
+      x_den = p.x_den ∙ q.x_den;
+      y_num = p.y_num
+          ∙ q.y_num;
+      y_den = p.y_den ∙ q.y_den;
+    })
 
 pub one_turned : (a b : End) → is_one_point a b ≡ true → is_one_point b a ≡ true
 one_turned a b h =
@@ -101,7 +116,7 @@ module _ (ends : List End) (tails : List ℕ) (node at next : ℕ) (sorted : Are
         let k_in : k + 1 < length ends = omega (arith, is, at_in) in
         let h_at = subst (λ (m : ℕ). is_one_point (end_at ends i) (end_at ends m) ≡ true) (sym is) h in
         let one = subst (λ (m : ℕ). is_one_point (end_at ends k) (end_at ends m)
-            ≡ true) is (sorted.between i k low k_in h_at) in
+        ≡ true) is (sorted.between i k low k_in h_at) in
         let pair = one_through (end_at ends i) (end_at ends k) (end_at ends at) h one in
         by_place (i == k) (eqb-true i k) (eqb-false i k) pair ∙ n.last k is ∙ sym (same k is one)
       where
@@ -114,8 +129,13 @@ module _ (ends : List End) (tails : List ℕ) (node at next : ℕ) (sorted : Are
         → node_of_end ends tails i < next
     unlike_here i k is low h = elim (true_or_false (is_one_point (end_at ends k) (end_at ends at))) [
       | inr away ↦ omega (arith, n.assigned i (omega (arith, is, low)), other k is away)
-      | inl one ↦ omega (arith, less_before one (true_or_false (is_one_point (end_at ends i)
-          (end_at ends k))), n.last k is, same k is one)
+      | inl one ↦ omega (
+        arith,
+        less_before one (true_or_false (is_one_point (end_at ends i)
+            (end_at ends k))),
+        n.last k is,
+        same k is one,
+      )
     ]
       where
         apart_from : is_one_point (end_at ends k) (end_at ends at) ≡ true → i ≡ k → ⊥
@@ -150,15 +170,25 @@ module _ (ends : List End) (tails : List ℕ) (node at next : ℕ) (sorted : Are
       alike = λ i j less below. by_end (λ m. i < m → is_one_point (end_at ends i) (end_at ends m) ≡ true
           → node_of_end ends now i ≡ node_of_end ends now m) j below
           (λ j_less i_less h. before i (omega (arith, i_less, j_less)) ∙ n.alike i j i_less j_less h
-              ∙ sym (before j j_less))
+          ∙ sym (before j j_less))
           (λ i_less h. before i i_less ∙ alike_here i (at - 1) (omega (arith, i_less)) (omega (arith, i_less)) h
-              ∙ sym here) less;
+          ∙ sym here) less;
       unlike = λ i j less below. by_end (λ m. i < m → is_one_point (end_at ends i) (end_at ends m) ≡ false
           → node_of_end ends now i < node_of_end ends now m) j below
-          (λ j_less i_less h. omega (arith, before i (omega
-              (arith, i_less, j_less)), n.unlike i j i_less j_less h, before j j_less))
-          (λ i_less h. omega (arith, before i i_less, unlike_here i (at - 1) (omega (arith, i_less)) (omega
-              (arith, i_less)) h, here)) less;
+          (λ j_less i_less h. omega (
+            arith,
+            before i (omega
+                (arith, i_less, j_less)),
+            n.unlike i j i_less j_less h,
+            before j j_less,
+          ))
+          (λ i_less h. omega (
+            arith,
+            before i i_less,
+            unlike_here i (at - 1) (omega (arith, i_less)) (omega
+                (arith, i_less)) h,
+            here,
+          )) less;
     }
 
 module _ (ends : List End) (tails : List ℕ) (node at next : ℕ) (sorted : AreSortedEnds ends (length tails))
@@ -172,20 +202,20 @@ module _ (ends : List End) (tails : List ℕ) (node at next : ℕ) (sorted : Are
       → AreNumbered ends (set tails (end_at ends at).step next) next (at + 1)
   next_other up apart is =
       more_numbered ends tails node at next sorted n at_in (omega (arith, is)) (omega (arith, is)) (λ z. absurd
-          (omega (arith, z, up)))
+      (omega (arith, z, up)))
       (λ k e one. absurd (not_both (is_one_point (end_at ends (at - 1)) (end_at ends at))
-          (before_at true k e one) apart)) (λ k e h. is)
+      (before_at true k e one) apart)) (λ k e h. is)
 
   pub next_same : 0 < at → is_one_point (end_at ends (at - 1)) (end_at ends at) ≡ true → next ≡ node
       → AreNumbered ends (set tails (end_at ends at).step next) next (at + 1)
   next_same up one is =
       more_numbered ends tails node at next sorted n at_in (omega (arith, is)) (omega (arith, is)) (λ z. absurd
-          (omega (arith, z, up)))
+      (omega (arith, z, up)))
       (λ k e h. is) (λ k e apart. absurd (not_both (is_one_point (end_at ends (at - 1)) (end_at ends at)) one
-          (before_at false k e apart)))
+      (before_at false k e apart)))
 
   pub next_first : at ≤ 0 → next ≡ node → AreNumbered ends (set tails (end_at ends at).step next) next (at + 1)
   next_first none is =
       more_numbered ends tails node at next sorted n at_in (omega (arith, is)) (omega (arith, is)) (λ z. omega
-          (arith, is, n.low, none))
+      (arith, is, n.low, none))
       (λ k e h. is) (λ k e apart. absurd (omega (arith, e, none)))

@@ -15,10 +15,13 @@ pub numbered : (pieces : List Piece) (k : ℕ) → k < length pieces
 numbered pieces k below =
     let e : ℕ × Piece = (k, piece_at pieces k) in
     let there : k < length (enumerate_from 0 pieces) = omega (arith, below, length-enumerate_from 0 pieces) in
-    let number : ◌≡◌ {A = ℕ × Piece} (0 + k, get_or pieces k (piece_at pieces k)) (k, get_or pieces k
-        (piece_at pieces k)) = ap (λ (n : ℕ). (n, get_or pieces k (piece_at pieces k))) (omega arith) in
+    let number : ◌≡◌ {A = ℕ × Piece} (0 + k, get_or pieces k (piece_at pieces k)) (
+      k,
+      get_or pieces k
+          (piece_at pieces k),
+    ) = ap (λ (n : ℕ). (n, get_or pieces k (piece_at pieces k))) (omega arith) in
     let piece : ◌≡◌ {A = ℕ × Piece} (k, get_or pieces k (piece_at pieces k)) (k, piece_at pieces k) = ap (λ
-        (p : Piece). (k, p)) (get_or_default pieces k (piece_at pieces k) no_piece below) in
+    (p : Piece). (k, p)) (get_or_default pieces k (piece_at pieces k) no_piece below) in
     (k, there, get_or-enumerate_from 0 pieces k e below ∙ number ∙ piece)
 
 -- what is made of an element is among what is made of all
@@ -40,7 +43,7 @@ pub step_is_step : (pieces : List Piece) (s : ℕ) → s < 2 * length pieces
 step_is_step pieces s below =
     let k : s / 2 < length pieces = omega arith in
     among both_ways (enumerate_from 0 pieces) (s / 2, piece_at pieces (s / 2)) (step_at pieces s) (numbered pieces
-        (s / 2) k) (either_way (s / 2, piece_at pieces (s / 2)) (s % 2 == 1))
+    (s / 2) k) (either_way (s / 2, piece_at pieces (s / 2)) (s % 2 == 1))
 
 -- the number of a piece in a heading
 abbrev pub number_in : ℕ → Bool → ℕ
@@ -62,7 +65,7 @@ pub step_at_in : (pieces : List Piece) (k : ℕ) (forward : Bool)
     → step_at pieces (number_in k forward) ≡ ((k, piece_at pieces k), forward)
 step_at_in pieces k forward =
     ap (λ (i : ℕ). ((i, piece_at pieces i), number_in k forward % 2 == 1)) (half_in k forward)
-        ∙ ap (λ (f : Bool). ((k, piece_at pieces k), f)) (heading_in k forward)
+    ∙ ap (λ (f : Bool). ((k, piece_at pieces k), f)) (heading_in k forward)
 
 -- each step has a number
 pub number_of_step : (pieces : List Piece) (t : DirectedPiece) → Contains (directed_pieces pieces) t
@@ -72,8 +75,11 @@ number_of_step pieces t h =
     let place = number_is_place pieces t.0 piece in
     let k = t.0.0 in
     let found : get_or (enumerate_from 0 pieces) k t.0
-        ≡ (0 + k, get_or pieces k t.0.1) = get_or-enumerate_from 0 pieces k t.0 place.0 in
+    ≡ (0 + k, get_or pieces k t.0.1) = get_or-enumerate_from 0 pieces k t.0 place.0 in
     let same : get_or pieces k t.0.1 ≡ t.0.1 = ap (λ e. e.1) (sym found ∙ place.1) in
-    let here : piece_at pieces k ≡ t.0.1 = get_or_default pieces k no_piece t.0.1 place.0 ∙ same in
-    (number_in k t.1, number_in_below k (length pieces) t.1 place.0, step_at_in pieces k t.1
-        ∙ ap (λ (p : Piece). ((k, p), t.1)) here)
+    let here : piece_at pieces k ≡ t.0.1 = get_or_default pieces k no_piece t.0.1 place.0 ∙ same in (
+      number_in k t.1,
+      number_in_below k (length pieces) t.1 place.0,
+      step_at_in pieces k t.1
+          ∙ ap (λ (p : Piece). ((k, p), t.1)) here,
+    )

@@ -16,7 +16,7 @@ at_set {X} P xs i j v d below there elsewhere = by_test (j == i) (eqb-true j i) 
     by_test true same other =
         let e = same refl in
         subst (λ (k : ℕ). P (get_or (set xs i v) k d)) (sym e) (subst P (sym (get_or-set_same xs i v d below))
-            (there e))
+        (there e))
     by_test false same other =
         let e = other refl in
         subst P (sym (get_or-set_other xs i j v d e)) (elsewhere e)
@@ -58,8 +58,12 @@ filter_from {X} p (w ∷ xs) x h = elim (from_kept p w (filter p xs) x (p w) ref
 ]
 
 pub in_range_of : (n t : ℕ) → t < n → Contains (range_with_len 0 n) t
-in_range_of n t below = (t, omega (arith, below, length-range_with_len 0 n), get_or-range_with_len 0 n t t below
-    ∙ omega arith)
+in_range_of n t below = (
+  t,
+  omega (arith, below, length-range_with_len 0 n),
+  get_or-range_with_len 0 n t t below
+      ∙ omega arith,
+)
 
 pub range_below : (n t : ℕ) → Contains (range_with_len 0 n) t → t < n
 range_below n t (k, below, is) =

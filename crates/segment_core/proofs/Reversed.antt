@@ -49,7 +49,7 @@ tail_reversed pieces s =
 pub row_is : (pieces : List Piece) (tails : List ℕ) (leaving : List (List ℕ)) (step head : ℕ)
     → AreNodesOf pieces tails leaving → step < 2 * length pieces
     → head ≡ get_or tails (reversed_step step) 0
-        → get_or leaving head [] ≡ filter (leads_to pieces step) (range_with_len 0 (2 * length pieces))
+    → get_or leaving head [] ≡ filter (leads_to pieces step) (range_with_len 0 (2 * length pieces))
 row_is pieces tails leaving step head nodes below is =
     let back = reversed_below step (length pieces) below in
     let there : head < length leaving = omega (arith, is, nodes.below (reversed_step step) back) in
@@ -60,4 +60,4 @@ row_is pieces tails leaving step head nodes below is =
     ap (λ (n : ℕ). n == get_or tails t 0) is
     ∙ nodes.tails.alike (reversed_step step) t back (range_below (2 * length pieces) t h)
     ∙ ap (λ (p : RPoint). same_rpoint p (tail_of (step_at pieces t).0.1 (step_at pieces t).1))
-        (tail_reversed pieces step))
+    (tail_reversed pieces step))

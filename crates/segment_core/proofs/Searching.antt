@@ -66,21 +66,27 @@ idle_next bucket idle next b in_ring (inl turned) below (inr high) = by_place (b
   where
     by_place : (t : Bool) → (t ≡ true → b ≡ bucket) → (t ≡ false → b ≢ bucket) → (b ≡ bucket) ⊎ IsIdle bucket idle b
     by_place true same other = inl (same refl)
-    by_place false same other = inr (inl (omega (arith, other refl, turned.0, below), omega
-        (arith, high.1, turned.0, turned.1)))
+    by_place false same other = inr (inl (
+      omega (arith, other refl, turned.0, below),
+      omega
+          (arith, high.1, turned.0, turned.1),
+    ))
 idle_next bucket idle next b in_ring (inr more) below (inl low) = by_place (b == bucket) (eqb-true b bucket)
     (eqb-false b bucket)
   where
     by_place : (t : Bool) → (t ≡ true → b ≡ bucket) → (t ≡ false → b ≢ bucket) → (b ≡ bucket) ⊎ IsIdle bucket idle b
     by_place true same other = inl (same refl)
     by_place false same other = inr (inl (omega (arith, other refl, low.0, more.1), omega (arith, low.1, more.1)))
-idle_next bucket idle next b in_ring (inr more) below (inr high) = inr (inr (omega (arith, high.0, more.1), omega
-    (arith, high.1, more.1)))
+idle_next bucket idle next b in_ring (inr more) below (inr high) = inr (inr (
+  omega (arith, high.0, more.1),
+  omega
+      (arith, high.1, more.1),
+))
 
 pub nothing_waits : (pieces : List Piece) (source : ℕ) (costs : List ℕ) (queue : List (List ℕ))
     (bucket idle next : ℕ) → Underway pieces source costs queue bucket idle → idle < 17
     → bucket_at queue bucket ≡ [] → ((bucket ≡ 16) × (next ≡ 0)) ⊎ ((bucket ≢ 16) × (next ≡ bucket + 1))
-        → Underway pieces source costs queue next (idle + 1)
+    → Underway pieces source costs queue next (idle + 1)
 nothing_waits pieces source costs queue bucket idle next u less none turned = record {
   one_each = u.one_each;
   ring = u.ring;
@@ -107,7 +113,7 @@ nothing_waits pieces source costs queue bucket idle next u less none turned = re
 module _ (pieces : List Piece) (source : ℕ) (costs : List ℕ) (queue rest : List (List ℕ)) (bucket idle step : ℕ)
     (u : Underway pieces source costs queue bucket idle)
     (last : bucket_at queue bucket ≡ bucket_at rest bucket ++ step ∷ []) (others : rest
-        ≡ set queue bucket (bucket_at rest bucket)) where
+    ≡ set queue bucket (bucket_at rest bucket)) where
   bucket_below : bucket < length queue
   bucket_below = omega (arith, u.ring, u.in_ring)
 
@@ -126,7 +132,7 @@ module _ (pieces : List Piece) (source : ℕ) (costs : List ℕ) (queue rest : L
       by_set = at_set (λ xs. Contains xs s → Contains (bucket_at queue b) s) queue bucket b
           (bucket_at rest bucket) [] bucket_below
           (λ same w. subst (λ (n : ℕ). Contains (bucket_at queue n) s) (sym same) (subst (λ
-              (xs : List ℕ). Contains xs s) (sym last) (Contains-append_left (bucket_at rest bucket) (step ∷ []) s w)))
+          (xs : List ℕ). Contains xs s) (sym last) (Contains-append_left (bucket_at rest bucket) (step ∷ []) s w)))
           (λ away w. w)
 
   -- what waited still does, unless it is the step in its bucket
@@ -134,7 +140,7 @@ module _ (pieces : List Piece) (source : ℕ) (costs : List ℕ) (queue rest : L
   still_waits b s unless h = subst (λ (q : List (List ℕ)). Contains (bucket_at q b) s) (sym others)
       (at_set (λ xs. Contains xs s) queue bucket b (bucket_at rest bucket) [] bucket_below
       (λ same. elim (Contains-append_cases (bucket_at rest bucket) (step ∷ []) s (subst (λ
-          (xs : List ℕ). Contains xs s) last (subst (λ (n : ℕ). Contains (bucket_at queue n) s) same h))) [
+      (xs : List ℕ). Contains xs s) last (subst (λ (n : ℕ). Contains (bucket_at queue n) s) same h))) [
         | inl w ↦ w
         | inr it ↦ elim (first_or_later step [] s it) [
           | inl e ↦ absurd (unless (sym e) same)
@@ -178,8 +184,12 @@ module _ (pieces : List Piece) (source : ℕ) (costs : List ℕ) (queue rest : L
       by_case : (s : ℕ) → cost_at costs s < far_of pieces → s ≡ step
           → (cost_at costs step % 17 ≢ bucket) ⊎ (far_of pieces ≤ cost_at costs step) → cost_at costs s % 17 ≢ bucket
       by_case s near same (inl apart) = subst (λ (t : ℕ). cost_at costs t % 17 ≢ bucket) (sym same) apart
-      by_case s near same (inr away) = absurd (omega (arith, away, subst (λ
-          (t : ℕ). cost_at costs t < far_of pieces) same near))
+      by_case s near same (inr away) = absurd (omega (
+        arith,
+        away,
+        subst (λ
+            (t : ℕ). cost_at costs t < far_of pieces) same near,
+      ))
 
       not_here : (s : ℕ) → cost_at costs s < far_of pieces → s ≡ step → cost_at costs s % 17 ≢ bucket
       not_here s near same = by_case s near same unless
@@ -245,8 +255,13 @@ module _ (pieces : List Piece) (source : ℕ) (source_in : source < length piece
   source_below = omega (arith, length-replicate (2 * length pieces) (far_of pieces), source_in)
 
   forward_below : 2 * source + 1 < length (set far_costs (2 * source) 0)
-  forward_below = omega (arith, length-set far_costs (2 * source) 0, length-replicate (2 * length pieces)
-      (far_of pieces), source_in)
+  forward_below = omega (
+    arith,
+    length-set far_costs (2 * source) 0,
+    length-replicate (2 * length pieces)
+        (far_of pieces),
+    source_in,
+  )
 
   -- what holds of the source's two steps at no cost, and elsewhere far away, holds of each
   of_first : (P : ℕ → ℕ → Type 0) (s : ℕ) → s < 2 * length pieces → P (2 * source) 0 → P (2 * source + 1) 0
@@ -274,7 +289,7 @@ module _ (pieces : List Piece) (source : ℕ) (source_in : source < length piece
       of_first (λ t c. c < far_of pieces → Waits first_queue t c) s s_in
       (λ close. contains_first (2 * source) ((2 * source + 1) ∷ []))
       (λ close. contains_later (2 * source) ((2 * source + 1) ∷ []) (2 * source + 1) (contains_first
-          (2 * source + 1) []))
+      (2 * source + 1) []))
       (λ close. absurd (omega (arith, close))) near)
 
   begun_inside : AreInside pieces first_queue
@@ -310,17 +325,17 @@ module _ (pieces : List Piece) (source : ℕ) (source_in : source < length piece
 pub search_begins_at : (pieces : List Piece) (source far : ℕ) (costs : List ℕ) (q0 q1 q2 : List (List ℕ))
     → source < length pieces → far ≡ far_of pieces → costs ≡ replicate (2 * length pieces) far
     → q0 ≡ replicate 17 [] → q1 ≡ set q0 0 (bucket_at q0 0 ++ 2 * source ∷ [])
-        → q2 ≡ set q1 0 (bucket_at q1 0 ++ (2 * source + 1) ∷ [])
+    → q2 ≡ set q1 0 (bucket_at q1 0 ++ (2 * source + 1) ∷ [])
     → Underway pieces source (set (set costs (2 * source) 0) (2 * source + 1) 0) q2 0 0
 search_begins_at pieces source far costs q0 q1 q2 source_in far_is costs_is is0 is1 is2 =
     let all : costs ≡ replicate (2 * length pieces) (far_of pieces) = costs_is
-        ∙ ap (λ (n : ℕ). replicate (2 * length pieces) n) far_is in
+    ∙ ap (λ (n : ℕ). replicate (2 * length pieces) n) far_is in
     let first : q1 ≡ set (replicate 17 []) 0 ([] ++ 2 * source ∷ []) = is1
-        ∙ ap (λ (q : List (List ℕ)). set q 0 (bucket_at q 0 ++ 2 * source ∷ [])) is0 in
+    ∙ ap (λ (q : List (List ℕ)). set q 0 (bucket_at q 0 ++ 2 * source ∷ [])) is0 in
     let second : q2 ≡ first_queue pieces source source_in = is2
-        ∙ ap (λ (q : List (List ℕ)). set q 0 (bucket_at q 0 ++ (2 * source + 1) ∷ [])) first in
+    ∙ ap (λ (q : List (List ℕ)). set q 0 (bucket_at q 0 ++ (2 * source + 1) ∷ [])) first in
     subst (λ (q : List (List ℕ)). Underway pieces source (set (set costs (2 * source) 0) (2 * source + 1) 0) q 0 0)
-        (sym second)
+    (sym second)
     (subst (λ (cs : List ℕ). Underway pieces source (set (set cs (2 * source) 0) (2 * source + 1) 0)
-        (first_queue pieces source source_in) 0 0) (sym all)
+    (first_queue pieces source source_in) 0 0) (sym all)
     (search_begins pieces source source_in))

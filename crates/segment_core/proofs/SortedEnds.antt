@@ -97,7 +97,7 @@ steps_below m a (p ∷ ps) few =
     let odd : 2 * a + 1 < 2 * m = omega (arith, few) in
     All-cons (λ e. e.step < 2 * m) (end_of p.to (2 * a)) (end_of p.from (2 * a + 1) ∷ rest) even
     (All-cons (λ e. e.step < 2 * m) (end_of p.from (2 * a + 1)) rest odd (steps_below m (a + 1) ps (omega
-        (arith, few))))
+    (arith, few))))
 
 steps_from : (a : ℕ) (ps : List Piece) → All (λ e. 2 * a ≤ e.step) (made (enumerate_from a ps))
 steps_from a [] = All-nil (λ e. 2 * a ≤ e.step)
@@ -107,7 +107,7 @@ steps_from a (p ∷ ps) =
     All-cons (λ e. 2 * a ≤ e.step) (end_of p.to (2 * a)) (end_of p.from (2 * a + 1) ∷ rest) (omega arith)
     (All-cons (λ e. 2 * a ≤ e.step) (end_of p.from (2 * a + 1)) rest odd
     (All-weaker (λ e. 2 * (a + 1) ≤ e.step) (λ e. 2 * a ≤ e.step) (λ e h. omega (arith, h)) rest (steps_from
-        (a + 1) ps)))
+    (a + 1) ps)))
 
 abbrev same_step : End → End → Bool
 same_step d e = d.step == e.step
@@ -154,9 +154,9 @@ pub sorted_ends : (pieces : List Piece) (ends : List End) (count : ℕ) → leng
 sorted_ends pieces ends count few moved sorted is =
     let all = length_permutation (ends_of pieces) ends moved in
     let inside = All-permutation (λ e. e.step < 2 * length pieces) (ends_of pieces) ends moved (steps_below
-        (length pieces) 0 pieces (omega arith)) in
+    (length pieces) 0 pieces (omega arith)) in
     let differ = IsDistinct-IsPermutation same_step (λ d e. turned d.step e.step) (ends_of pieces) ends moved
-        (steps_differ 0 pieces) in
+    (steps_differ 0 pieces) in
     let far = sorted_far (λ d e. is_lt (end_cmp d e)) (ranks_by ends_total (λ e. e)) ends sorted in
     record {
       at_most = omega (arith, all, ends_length pieces, few);

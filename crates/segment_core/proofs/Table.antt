@@ -48,13 +48,13 @@ unfolding turn_of
 turn_is d e r back p1 p2 p3 p4 p5 p6 p7 p8 p9 p10 p11 p12 p13 p14 p15 is h1 h2 h3 h4 h5 h6 h7 h8 h9 h10 h11 h12 h13
     h14 h15 b =
     let table : sum_by (one r) turn_table ≡ 0 + one r (point (pos 981) (pos 195)) + one r (point (pos 924)
-        (pos 383)) + one r (point (pos 831) (pos 556)) + one r (point (pos 707) (pos 707)) + one r (point (pos 556)
-        (pos 831)) + one r (point (pos 383) (pos 924)) + one r (point (pos 195) (pos 981)) + one r (point (pos 0)
-        (pos 1000)) + one r (point (neg_ℤ (pos 195)) (pos 981)) + one r (point (neg_ℤ (pos 383)) (pos 924)) + one r
-        (point (neg_ℤ (pos 556)) (pos 831)) + one r (point (neg_ℤ (pos 707)) (pos 707)) + one r (point (neg_ℤ
-        (pos 831)) (pos 556)) + one r (point (neg_ℤ (pos 924)) (pos 383)) + one r (point (neg_ℤ (pos 981))
-        (pos 195)) = refl in
+    (pos 383)) + one r (point (pos 831) (pos 556)) + one r (point (pos 707) (pos 707)) + one r (point (pos 556)
+    (pos 831)) + one r (point (pos 383) (pos 924)) + one r (point (pos 195) (pos 981)) + one r (point (pos 0)
+    (pos 1000)) + one r (point (neg_ℤ (pos 195)) (pos 981)) + one r (point (neg_ℤ (pos 383)) (pos 924)) + one r
+    (point (neg_ℤ (pos 556)) (pos 831)) + one r (point (neg_ℤ (pos 707)) (pos 707)) + one r (point (neg_ℤ
+    (pos 831)) (pos 556)) + one r (point (neg_ℤ (pos 924)) (pos 383)) + one r (point (neg_ℤ (pos 981))
+    (pos 195)) = refl in
     let sum : p1 + p2 + p3 + p4 + p5 + (p6 + p7 + p8 + p9 + p10) + (p11 + p12 + p13 + p14 + p15) + back
-        ≡ sum_by (one r) turn_table + cond (is_straight_back r) 1 0 =
+    ≡ sum_by (one r) turn_table + cond (is_straight_back r) 1 0 =
     omega (arith, table, b, h1, h2, h3, h4, h5, h6, h7, h8, h9, h10, h11, h12, h13, h14, h15) in
     sum ∙ ap (λ n. n + cond (is_straight_back r) 1 0) (count_is_sum r turn_table) ∙ ap turn_by is

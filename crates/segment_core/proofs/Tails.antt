@@ -29,10 +29,10 @@ end_among : (p : Piece) (k s : ℕ) (b : Bool) → (b ≡ true → s ≡ 2 * k +
 end_among p k s true odd even =
     subst (λ (n : ℕ). Contains (both_ends (k, p)) (end_of p.from n)) (sym (odd refl))
     (contains_later (end_of p.to (2 * k)) (end_of p.from (2 * k + 1) ∷ []) (end_of p.from (2 * k + 1))
-        (contains_first (end_of p.from (2 * k + 1)) []))
+    (contains_first (end_of p.from (2 * k + 1)) []))
 end_among p k s false odd even =
     subst (λ (n : ℕ). Contains (both_ends (k, p)) (end_of p.to n)) (sym (even refl)) (contains_first (end_of p.to
-        (2 * k)) (end_of p.from (2 * k + 1) ∷ []))
+    (2 * k)) (end_of p.from (2 * k + 1) ∷ []))
 
 -- each step has its end
 step_has_end : (pieces : List Piece) (s : ℕ) → s < 2 * length pieces
@@ -40,10 +40,10 @@ step_has_end : (pieces : List Piece) (s : ℕ) → s < 2 * length pieces
 step_has_end pieces s below =
     let half : s / 2 < length pieces = omega (arith, below) in
     among both_ends (enumerate_from 0 pieces) (s / 2, piece_at pieces (s / 2)) (end_of (tail_at pieces s) s)
-        (numbered pieces (s / 2) half)
+    (numbered pieces (s / 2) half)
     (end_among (piece_at pieces (s / 2)) (s / 2) s (s % 2 == 1)
     (λ e. let odd = eqb-true (s % 2) 1 e in omega (arith, odd)) (λ e. let even = eqb-false (s % 2) 1 e in omega
-        (arith, even)))
+    (arith, even)))
 
 tail_lowest : (pieces : List Piece) (s : ℕ) → AreInRange pieces → s < 2 * length pieces → IsEnd (tail_at pieces s)
 tail_lowest pieces s r below = by_way (s % 2 == 1)
@@ -65,7 +65,7 @@ module _ (pieces : List Piece) (ends : List End) (tails : List ℕ) (last : ℕ)
       → (j : ℕ) × (j < length ends) × (end_at ends j ≡ end_of (tail_at pieces s) s)
   place_of s below =
       let found = Contains-permutation (ends_of pieces) ends (end_of (tail_at pieces s) s) same
-          (step_has_end pieces s below) in
+      (step_has_end pieces s below) in
       (found.0, found.1, get_or_default ends found.0 no_end (end_of (tail_at pieces s) s) found.1 ∙ found.2)
 
   pub tails_below : (s : ℕ) → s < 2 * length pieces → get_or tails s 0 < last + 1
@@ -125,7 +125,7 @@ module _ (pieces : List Piece) (ends : List End) (tails : List ℕ) (last : ℕ)
   compared i j i_in j_in =
       let h = agrees i j i_in j_in in
       equal_is (node_of_end ends tails i) (node_of_end ends tails j) (is_one_point (end_at ends i)
-          (end_at ends j)) h.0 h.1
+      (end_at ends j)) h.0 h.1
 
   pub tails_are : AreTailsOf pieces tails
   tails_are = record {
@@ -136,11 +136,11 @@ module _ (pieces : List Piece) (ends : List End) (tails : List ℕ) (last : ℕ)
         let first : node_of_end ends tails i.0 ≡ get_or tails s 0 = ap (λ (e : End). get_or tails e.step 0) i.2 in
         let second : node_of_end ends tails j.0 ≡ get_or tails t 0 = ap (λ (e : End). get_or tails e.step 0) j.2 in
         ap (λ (m : ℕ). m == get_or tails t 0) (sym first)
-            ∙ ap (λ (m : ℕ). node_of_end ends tails i.0 == m) (sym second) ∙ compared i.0 j.0 i.1 j.1
+        ∙ ap (λ (m : ℕ). node_of_end ends tails i.0 == m) (sym second) ∙ compared i.0 j.0 i.1 j.1
         ∙ ap (λ (e : End). is_one_point e (end_at ends j.0)) i.2
-            ∙ ap (λ (e : End). is_one_point (end_of (tail_at pieces s) s) e) j.2
+        ∙ ap (λ (e : End). is_one_point (end_of (tail_at pieces s) s) e) j.2
         ∙ one_where_same (tail_at pieces s) (tail_at pieces t) s t (tail_lowest pieces s r s_in)
-            (tail_lowest pieces t r t_in);
+        (tail_lowest pieces t r t_in);
   }
 
 both_length : (es : List (ℕ × Piece)) → length (flat_map both_ends es) ≡ 2 * length es

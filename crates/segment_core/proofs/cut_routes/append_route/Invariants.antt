@@ -7,5 +7,5 @@ abbrev pub invariant-loop-cut : goal.invariant-loop-cut
 invariant-loop-cut l =
     l.pieces.items
     ++ pieces_between l.number l.direction l.from (map (along l.route.from l.direction)
-        (drop l.cut-index l.cut-items) ++ whole_point l.route.to ∷ [])
+    (drop l.cut-index l.cut-items) ++ whole_point l.route.to ∷ [])
     ≡ l.fn.pieces.items ++ pieces_of_route l.routes (l.number, l.route)

@@ -16,16 +16,16 @@ overflow_cast-number c =
 pub append_route-requires-clause-routes : goal.append_route-requires-clause-routes
 append_route-requires-clause-routes c =
     subst (λ (rs : List Route). All (λ q. IsProperSegmentInRange q.from q.to) rs) (sym (c.deref.ensures.value
-        ∙ c.in_ok-routes.ensures.value))
+    ∙ c.in_ok-routes.ensures.value))
     (sound_routes c.args.plan.now c.in_ok-routes.ensures.sound)
 
 pub append_route-requires-clause-route : goal.append_route-requires-clause-route
 append_route-requires-clause-route c =
     let all = subst (λ (rs : List Route). All (λ q. IsProperSegmentInRange q.from q.to) rs) (sym
-        (c.deref-route-items.ensures.value ∙ c.in_ok-routes.ensures.value))
+    (c.deref-route-items.ensures.value ∙ c.in_ok-routes.ensures.value))
     (sound_routes c.args.plan.now c.in_ok-routes.ensures.sound) in
     subst (λ (q : Route). IsProperSegmentInRange q.from q.to) (sym c.route-item.is)
-        (all c.loop-number.number c.route-item.result c.loop-number-test.true)
+    (all c.loop-number.number c.route-item.result c.loop-number-test.true)
 
 pub returns-clause-value : goal.returns-clause-value
 unfolding pieces_of
@@ -34,11 +34,15 @@ returns-clause-value c =
     let n = c.loop-number.number in
     let rest : drop n routes ≡ [] = drop_all n routes c.loop-number-test.false in
     let ended = ap (λ (rs : List Route). c.loop-number.pieces.items ++ flat_map (pieces_of_route routes)
-        (enumerate_from n rs)) rest in
+    (enumerate_from n rs)) rest in
     sym (append-nil c.loop-number.pieces.items) ∙ sym ended ∙ c.loop-number.invariant
     ∙ ap (λ (rs : List Route). flat_map (pieces_of_route rs) (enumerate_from 0 rs))
-        (c.deref-route-items.ensures.value ∙ c.in_ok-routes.ensures.value)
+    (c.deref-route-items.ensures.value ∙ c.in_ok-routes.ensures.value)
 
 pub returns-clause-of_plan : goal.returns-clause-of_plan
-returns-clause-of_plan c = record { plan = c.args.plan.now; sound = c.in_ok-routes.ensures.sound; all =
-    returns-clause-value c }
+returns-clause-of_plan c = record {
+  plan = c.args.plan.now;
+  sound = c.in_ok-routes.ensures.sound;
+  all =
+      returns-clause-value c;
+}

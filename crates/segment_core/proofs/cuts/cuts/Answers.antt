@@ -17,7 +17,7 @@ use Rattle.segment_core.proofs.cuts.cuts.Goals as goal
 pub insert-requires-clause-cut : goal.insert-requires-clause-cut
 insert-requires-clause-cut c =
     let q_in = subst (λ (q : Route). IsProperSegmentInRange q.from q.to) (sym c.q-item.is)
-        (c.requires.routes_in c.loop-q.q-index c.q-item.result c.loop-q-test.true) in
+    (c.requires.routes_in c.loop-q.q-index c.q-item.result c.loop-q-test.true) in
     cut_is c.args.r.now c.q-item.result c.requires.r_in q_in c.in-Some.cut (sym c.cut_of.ensures ∙ c.in-Some.is)
 
 pub loop-q-preserved : goal.loop-q-preserved
@@ -27,9 +27,9 @@ loop-q-preserved c =
     let n = c.loop-q.q-index in
     let q = c.q-item.result in
     let q_in = subst (λ (q : Route). IsProperSegmentInRange q.from q.to) (sym c.q-item.is)
-        (c.requires.routes_in n q c.loop-q-test.true) in
+    (c.requires.routes_in n q c.loop-q-test.true) in
     let next : filter_map (cut_of r) (drop n routes)
-        ≡ cons_option (cut_of r q) (filter_map (cut_of r) (drop (n + 1) routes)) =
+    ≡ cons_option (cut_of r q) (filter_map (cut_of r) (drop (n + 1) routes)) =
     ap (filter_map (cut_of r)) (dropped routes n q c.loop-q-test.true)
     ∙ ap (λ (p : Route). cons_option (cut_of r p) (filter_map (cut_of r) (drop (n + 1) routes))) (sym c.q-item.is) in
     let all = filter_map (cut_of r) routes in
@@ -53,7 +53,7 @@ returns c =
     let r = c.args.r.now in
     let routes = c.args.routes.now in
     let ended : filter_map (cut_of r) (drop c.loop-q.q-index routes)
-        ≡ [] = ap (filter_map (cut_of r)) (drop_all c.loop-q.q-index routes c.loop-q-test.false) in
+    ≡ [] = ap (filter_map (cut_of r)) (drop_all c.loop-q.q-index routes c.loop-q-test.false) in
     let all = filter_map (cut_of r) routes in
     cutting_ends c.loop-q.cuts.items all
     (found_hold IsRouteInRange IsCut (cut_of r) (λ q q_in. cut_is r q c.requires.r_in q_in) routes c.requires.routes_in)

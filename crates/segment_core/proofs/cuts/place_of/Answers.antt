@@ -7,6 +7,6 @@ use Rattle.segment_core.proofs.cuts.place_of.Goals as goal
 pub returns-clause-point : goal.returns-clause-point
 returns-clause-point c =
     IsPartitionPoint-from_clause (λ t. is_before t c.args.cut.now) c.args.cuts.now c.partition_point.result
-        c.partition_point.ensures.partitioned
+    c.partition_point.ensures.partitioned
     (rising_parted c.args.cut.now c.args.cuts.now c.requires.cut c.requires.cuts c.requires.rising)
-        (λ a r q k. search rules)
+    (λ a r q k. search rules)

@@ -11,7 +11,7 @@ returns-clause-value c =
     let fits_b : FitsSigned w64 b = c.ranges.b in
     let fits : FitsSigned w64 (a *ℤ b) =
     fits_signed_mul w64 a b 400000 1000000000000 (size_within 400000 a c.requires.a_in)
-        (size_within 1000000000000 b c.requires.b_in) (lit< tt) in
+    (size_within 1000000000000 b c.requires.b_in) (lit< tt) in
     simp to_z-of_z
 
 pub returns-clause-within : goal.returns-clause-within
@@ -22,5 +22,5 @@ returns-clause-within c =
     let fits_b : FitsSigned w64 b = c.ranges.b in
     let fits : FitsSigned w64 (a *ℤ b) =
     fits_signed_mul w64 a b 400000 1000000000000 (size_within 400000 a c.requires.a_in)
-        (size_within 1000000000000 b c.requires.b_in) (lit< tt) in
+    (size_within 1000000000000 b c.requires.b_in) (lit< tt) in
     simp to_z-of_z (product_within 400000 1000000000000 a b c.requires.a_in c.requires.b_in)

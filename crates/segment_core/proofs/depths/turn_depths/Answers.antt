@@ -29,7 +29,7 @@ listed_more depths costs far k depth is h = record {
         → get_or (depths ++ depth ∷ []) j None ≡ lesser_below far (cost_at costs (2 * j + 1)) (cost_at costs (2 * j))
     by j below true same other =
         subst (λ (i : ℕ). get_or (depths ++ depth ∷ []) i None
-            ≡ lesser_below far (cost_at costs (2 * i + 1)) (cost_at costs (2 * i))) (sym (same refl))
+        ≡ lesser_below far (cost_at costs (2 * i + 1)) (cost_at costs (2 * i))) (sym (same refl))
         (ap (λ (i : ℕ). get_or (depths ++ depth ∷ []) i None) (sym h.one_each) ∙ read_last depths depth ∙ is)
     by j below false same other =
         let earlier : j < k = omega (arith, below, other refl) in
@@ -63,9 +63,9 @@ loop-k-preserved c =
     let there : 2 * k + 1 < length costs = omega (arith, all, c.loop-k-test.true) in
     let forward = get_or_read_under costs (2 * k + 1) (length costs) c.index.result.now 0 c.index.ensures there refl in
     let back = get_or_read_under costs (2 * k)
-        (length costs) c.index-in-loop-k.result.now 0 c.index-in-loop-k.ensures (omega (arith, there)) refl in
+    (length costs) c.index-in-loop-k.result.now 0 c.index-in-loop-k.ensures (omega (arith, there)) refl in
     let is : c.lesser_below.result ≡ lesser_below far (cost_at costs (2 * k + 1)) (cost_at costs (2 * k)) =
     c.lesser_below.ensures ∙ ap (λ (a : ℕ). lesser_below far a c.index-in-loop-k.result.now) forward
-        ∙ ap (λ (b : ℕ). lesser_below far (cost_at costs (2 * k + 1)) b) back in
+    ∙ ap (λ (b : ℕ). lesser_below far (cost_at costs (2 * k + 1)) b) back in
     rw c.in_ok-push.ensures.items (listed_more c.loop-k.depths.items costs far k c.lesser_below.result is
-        c.loop-k.invariant)
+    c.loop-k.invariant)

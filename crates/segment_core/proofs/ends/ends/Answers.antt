@@ -14,11 +14,11 @@ piece_in_range pieces k piece h below is = subst IsPieceInRange (get_or_default 
 pub end_of-requires : goal.end_of-requires
 end_of-requires c =
     let h = piece_in_range c.args.pieces.now c.loop-k.k c.index-pieces-k.result c.requires c.loop-k-test.true
-        c.index-pieces-k.is in
+    c.index-pieces-k.is in
     (subst IsPieceInRange (sym c.piece.view_is) h).to.parts
 
 pub end_of-requires-in-loop-k : goal.end_of-requires-in-loop-k
 end_of-requires-in-loop-k c =
     let h = piece_in_range c.args.pieces.now c.loop-k.k c.index-pieces-k.result c.requires c.loop-k-test.true
-        c.index-pieces-k.is in
+    c.index-pieces-k.is in
     (subst IsPieceInRange (sym c.piece.view_is) h).from.parts

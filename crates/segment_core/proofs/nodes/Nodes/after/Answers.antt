@@ -9,7 +9,11 @@ returns c =
     let tails = c.args.self.now.tails.items in
     let leaving = c.args.self.now.leaving.items in
     let is = c.head-head.ensures in
-    let there : c.head-head.result < length leaving = omega (arith, is, n.below _ (reversed_below c.args.step
-        (length c.args.pieces.now) c.requires.step)) in
+    let there : c.head-head.result < length leaving = omega (
+      arith,
+      is,
+      n.below _ (reversed_below c.args.step
+          (length c.args.pieces.now) c.requires.step),
+    ) in
     c.steps.ensures ∙ c.index.ensures ∙ get_or_default leaving c.head-head.result c.index.result.now [] there
     ∙ row_is c.args.pieces.now tails leaving c.args.step c.head-head.result n c.requires.step is
