@@ -6,14 +6,16 @@ use Rattle.plane_spec.specs.Fractions.{RPoint}
 use Rattle.route_spec.specs.Routes.{Piece}
 use Rattle.segment_core.specs.declared.ends.End.{End}
 
+-- the end at a point, with the number of the step that leads from it
 abbrev pub end_of : RPoint → ℕ → End
 end_of p step = record { x_num = p.x.num; x_den = p.x.den; y_num = p.y.num; y_den = p.y.den; step = step }
 
 -- the same parts: in lowest terms, the same point
 abbrev pub is_one_point : End → End → Bool
-is_one_point a b = (int_eq a.x_num b.x_num && int_eq a.x_den b.x_den) && (int_eq a.y_num b.y_num
-    && int_eq a.y_den b.y_den)
+is_one_point a b =
+    (int_eq a.x_num b.x_num && int_eq a.x_den b.x_den) && (int_eq a.y_num b.y_num && int_eq a.y_den b.y_den)
 
+-- the two ends of a numbered piece
 abbrev pub both_ends : ℕ × Piece → List End
 both_ends e = end_of e.1.to (2 * e.0) ∷ end_of e.1.from (2 * e.0 + 1) ∷ []
 
@@ -21,13 +23,15 @@ both_ends e = end_of e.1.to (2 * e.0) ∷ end_of e.1.from (2 * e.0 + 1) ∷ []
 abbrev pub ends_of : List Piece → List End
 ends_of pieces = flat_map both_ends (enumerate_from 0 pieces)
 
+-- stands for ends that aren't there
 abbrev pub no_end : End
 no_end = record { x_num = pos 0; x_den = pos 0; y_num = pos 0; y_den = pos 0; step = 0 }
 
+-- the end at a position
 abbrev pub end_at : List End → ℕ → End
 end_at ends j = get_or ends j no_end
 
--- the node that a step was given
+-- the node that was given to the step of the end at a position
 abbrev pub node_of_end : List End → List ℕ → ℕ → ℕ
 node_of_end ends tails j = get_or tails (end_at ends j).step 0
 

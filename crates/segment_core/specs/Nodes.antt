@@ -5,7 +5,7 @@ use Rattle.plane_spec.specs.Fractions.{same_rpoint}
 use Rattle.route_spec.specs.Routes.{Piece, tail_of}
 use Rattle.segment_core.specs.Steps.{step_at, reversed_step}
 
--- the node of each step's tail: one node for one place
+-- the node of each step's tail: one node for one point
 pub record AreTailsOf (pieces : List Piece) (tails : List ℕ) : Type 0 where
   pub one_each : length tails ≡ 2 * length pieces
   pub alike : (s t : ℕ) → s < 2 * length pieces → t < 2 * length pieces
@@ -16,6 +16,7 @@ pub record AreTailsOf (pieces : List Piece) (tails : List ℕ) : Type 0 where
 abbrev pub leaving_of : List ℕ → ℕ → List ℕ
 leaving_of tails node = filter (λ t. node == get_or tails t 0) (range_with_len 0 (length tails))
 
+-- the node of each step's tail, and the steps that lead from each node
 pub record AreNodesOf (pieces : List Piece) (nodes : List ℕ) (leaving : List (List ℕ)) : Type 0 where
   pub tails : AreTailsOf pieces nodes
   pub below : (s : ℕ) → s < 2 * length pieces → get_or nodes s 0 < length leaving

@@ -1,4 +1,4 @@
--- Steps of pieces by number: 2 k is piece k against its route, 2 k + 1 with it; and costs of steps.
+-- Directed pieces by number, here called steps: 2 k is piece k against its route, 2 k + 1 with it; and costs of steps.
 use Rattle.std.specs.Prelude.{◌≡◌, ℕ, ◌+◌, ◌-◌, ◌*◌, ◌/◌, ◌%◌, ◌<◌, ◌≤◌, ◌==◌, nat_lt, pos, true, Bool, ◌⊎◌, List, [], length, get_or, Option, Some, None, if◌then◌else◌}
 use Rattle.std.specs.List.{Contains, filter, range_with_len, sum_by}
 use Rattle.plane_spec.specs.declared.Point.{Point}
@@ -12,17 +12,19 @@ abbrev pub no_piece : Piece
 no_piece = record {
   route = 0;
   from = whole_point (point (pos 0) (pos 0));
-  to = whole_point (point (pos 0)
-      (pos 0));
+  to = whole_point (point (pos 0) (pos 0));
   direction = point (pos 0) (pos 0);
 }
 
+-- the piece of a number
 abbrev pub piece_at : List Piece → ℕ → Piece
 piece_at pieces k = get_or pieces k no_piece
 
+-- the directed piece of a step
 abbrev pub step_at : List Piece → ℕ → DirectedPiece
 step_at pieces s = ((s / 2, piece_at pieces (s / 2)), s % 2 == 1)
 
+-- the cost of a step
 abbrev pub cost_at : List ℕ → ℕ → ℕ
 cost_at costs s = get_or costs s 0
 
@@ -42,7 +44,7 @@ AreWalked pieces source costs =
     (s : ℕ) → s < 2 * length pieces → cost_at costs s < far_of pieces
     → (more : ℕ) × TurnWalk pieces source more (step_at pieces s) (cost_at costs s)
 
--- the min_by costs of walks from the source to each step
+-- the least costs of walks from the source to each step
 pub record AreLeast (pieces : List Piece) (source : ℕ) (costs : List ℕ) : Type 0 where
   pub one_each : length costs ≡ 2 * length pieces
   pub back : cost_at costs (2 * source) ≡ 0
@@ -53,8 +55,8 @@ pub record AreLeast (pieces : List Piece) (source : ℕ) (costs : List ℕ) : Ty
 -- the lesser of two costs, or none where both are far
 abbrev pub lesser_below : ℕ → ℕ → ℕ → Option ℕ
 lesser_below far forward back =
-    let min_by = if nat_lt back forward then back else forward in
-    if nat_lt min_by far then Some min_by else None
+    let least = if nat_lt back forward then back else forward in
+    if nat_lt least far then Some least else None
 
 -- no more pieces than 256 routes have, each with small parts
 pub record AreInRange (pieces : List Piece) : Type 0 where
@@ -67,8 +69,9 @@ heading_at pieces s = heading_direction (step_at pieces s).0.1 (step_at pieces s
 
 -- the second step begins where the first ends
 abbrev pub leads_to : List Piece → ℕ → ℕ → Bool
-leads_to pieces s t = same_rpoint (head_of (step_at pieces s).0.1 (step_at pieces s).1) (tail_of
-    (step_at pieces t).0.1 (step_at pieces t).1)
+leads_to pieces s t =
+    same_rpoint (head_of (step_at pieces s).0.1 (step_at pieces s).1)
+    (tail_of (step_at pieces t).0.1 (step_at pieces t).1)
 
 -- the steps that begin where the step ends, in order
 abbrev pub row_of : List Piece → ℕ → List ℕ
@@ -76,6 +79,7 @@ row_of pieces s = filter (leads_to pieces s) (range_with_len 0 (2 * length piece
 
 -- ---- steps that wait, in buckets
 
+-- the steps of a bucket
 abbrev pub bucket_at : List (List ℕ) → ℕ → List ℕ
 bucket_at queue b = get_or queue b []
 
