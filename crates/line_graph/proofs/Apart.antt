@@ -95,10 +95,13 @@ and_turned false false = refl
 touch_turned : (a b c d : RPoint) → do_rsegments_touch a b c d ≡ do_rsegments_touch c d a b
 unfolding do_rsegments_touch
 touch_turned a b c d =
-    ap (λ t. t || ((is_rpoint_on_segment a c d || is_rpoint_on_segment b c d) || (is_rpoint_on_segment c a b || is_rpoint_on_segment d a b)))
-    (and_turned (are_opposite (orient_of_rpoints a b c) (orient_of_rpoints a b d)) (are_opposite (orient_of_rpoints c d a) (orient_of_rpoints c d b)))
+    let first = is_rpoint_on_segment a c d || is_rpoint_on_segment b c d in
+    let second = is_rpoint_on_segment c a b || is_rpoint_on_segment d a b in
+    ap (λ t. t || (first || second))
+    (and_turned (are_opposite (orient_of_rpoints a b c) (orient_of_rpoints a b d))
+    (are_opposite (orient_of_rpoints c d a) (orient_of_rpoints c d b)))
     ∙ ap (λ t. do_rpoints_cross c d a b || t)
-    (or_turned (is_rpoint_on_segment a c d || is_rpoint_on_segment b c d) (is_rpoint_on_segment c a b || is_rpoint_on_segment d a b))
+    (or_turned first second)
 
 -- ---- lines
 

@@ -18,7 +18,7 @@ use Rattle.meet_laws.specs.Stretches.{Stretch}
 use Rattle.line_graph.specs.declared.extents.Extent.{Extent}
 use Rattle.line_graph.specs.Extents.{extent_of, are_near}
 use Rattle.line_graph.specs.Measured.{IsMeasured}
-use Rattle.line_graph.specs.Rows.{AreMeasured, are_near_at, do_meet_at, has_number, near_below, no_extent}
+use Rattle.line_graph.specs.Rows.{AreColumns, AreMeasured, are_near_at, do_meet_at, has_number, near_below, no_extent}
 use Rattle.line_graph.specs.Stretches.{stretch_of}
 use Rattle.line_graph.proofs.Apart.{apart_dont_meet}
 use Rattle.line_graph.proofs.Lines.{line_is_through}
@@ -59,10 +59,10 @@ filter_one p x = refl
 -- ---- the near ones of a row
 
 -- one more number is looked at
-pub near_more : (extents : List Extent) (i j : ℕ) → i < j
-    → near_below extents i (j + 1) ≡ near_below extents i j ++ (if are_near_at extents i j then j ∷ [] else [])
-near_more extents i j rises =
-    let test = are_near_at extents i in
+pub filter_more : (test : ℕ → Bool) (i j : ℕ) → i < j
+    → filter test (range_with_len (i + 1) (j + 1 - (i + 1)))
+    ≡ filter test (range_with_len (i + 1) (j - (i + 1))) ++ (if test j then j ∷ [] else [])
+filter_more test i j rises =
     let left = j - (i + 1) in
     ap (λ n. filter test (range_with_len (i + 1) n)) (one_longer i j rises)
     ∙ ap (filter test) (range_push (i + 1) left)
@@ -74,6 +74,30 @@ near_more extents i j rises =
 
     last : (i j : ℕ) → i < j → i + 1 + (j - (i + 1)) ≡ j
     last i j rises = omega arith
+
+-- before the first number none is listed
+pub filter_begun : (test : ℕ → Bool) (i : ℕ) → filter test (range_with_len (i + 1) (i + 1 - (i + 1))) ≡ []
+filter_begun test i = ap (λ n. filter test (range_with_len (i + 1) n)) (none i)
+  where
+    none : (i : ℕ) → i + 1 - (i + 1) ≡ 0
+    none i = omega arith
+
+-- the extent of a number, by its sides
+pub extent_by_sides : (left right below above : List ℕ) (extents : List Extent)
+    → AreColumns left right below above extents → (j : ℕ) → j < length extents
+    → record { left = get_or left j 0; right = get_or right j 0; below = get_or below j 0; above = get_or above j 0 }
+    ≡ get_or extents j no_extent
+extent_by_sides left right below above extents h j below_end =
+    rw (
+      h.left,
+      h.right,
+      h.below,
+      h.above,
+      get_or-map (λ e. e.left) extents j no_extent 0 below_end,
+      get_or-map (λ e. e.right) extents j no_extent 0 below_end,
+      get_or-map (λ e. e.below) extents j no_extent 0 below_end,
+      get_or-map (λ e. e.above) extents j no_extent 0 below_end,
+    ) refl
 
 -- what stands at the front after one more
 pub front_more : (near after : List ℕ) (count j : ℕ) (hit : Bool) (front : List ℕ) → take count near ≡ front

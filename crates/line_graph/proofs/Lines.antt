@@ -76,8 +76,10 @@ through_is scene e both seen = record {
   differ = ap (λ p. same_point p (corner_point scene e.1.0)) both.first.here
       ∙ ap (same_point e.0.1) both.second.here
       ∙ seen_differ scene e.0.1 e.1.1 seen;
-  from = sym (ap (λ q. end_beyond scene q (corner_point scene e.0.0)) both.second.here ∙ ap (end_beyond scene e.1.1) both.first.here);
-  to = sym (ap (λ p. end_beyond scene p (corner_point scene e.1.0)) both.first.here ∙ ap (end_beyond scene e.0.1) both.second.here);
+  from = sym (ap (λ q. end_beyond scene q (corner_point scene e.0.0)) both.second.here
+      ∙ ap (end_beyond scene e.1.1) both.first.here);
+  to = sym (ap (λ p. end_beyond scene p (corner_point scene e.1.0)) both.first.here
+      ∙ ap (end_beyond scene e.0.1) both.second.here);
 }
 
 all_made : {X Y : Type 0} (Q : X → Type 0) (P : Y → Type 0) (test : X → Bool) (f : X → Y)

@@ -47,7 +47,8 @@ HasValueAt f z d t = HasValue f (z *ℤ t.den +ℤ t.num *ℤ d) t.den
 value_by : (f : Fraction) (z d : ℤ) (up : Bool) → int_lt (pos 0) (d *ℤ f.den) ≡ up
     → (up ≡ true → HasValueAt f z d (record { num = f.num -ℤ z *ℤ f.den; den = d *ℤ f.den }))
     → (up ≡ false → HasValueAt f z d (record { num = neg_ℤ (f.num -ℤ z *ℤ f.den); den = neg_ℤ (d *ℤ f.den) }))
-    → HasValueAt f z d (if up then record { num = f.num -ℤ z *ℤ f.den; den = d *ℤ f.den } else record { num = neg_ℤ (f.num -ℤ z *ℤ f.den); den = neg_ℤ (d *ℤ f.den) })
+    → HasValueAt f z d (if up then record { num = f.num -ℤ z *ℤ f.den; den = d *ℤ f.den }
+    else record { num = neg_ℤ (f.num -ℤ z *ℤ f.den); den = neg_ℤ (d *ℤ f.den) })
 value_by f z d true e here there = here refl
 value_by f z d false e here there = there refl
 
@@ -89,7 +90,8 @@ unfolding parameter_of
 parameter_is_at r p d n m directed small at = by (int_eq d.x (pos 0)) refl
   where
     by : (b : Bool) → int_eq d.x (pos 0) ≡ b
-        → IsAt r p d (if b then parameter_in p.y d.y r.y else parameter_in p.x d.x r.x).num (if b then parameter_in p.y d.y r.y else parameter_in p.x d.x r.x).den
+        → IsAt r p d (if b then parameter_in p.y d.y r.y else parameter_in p.x d.x r.x).num
+        (if b then parameter_in p.y d.y r.y else parameter_in p.x d.x r.x).den
     by true e =
         let t = parameter_in p.y d.y r.y in
         let some = other_some d directed e in

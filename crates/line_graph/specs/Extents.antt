@@ -8,7 +8,8 @@ use Rattle.line_graph.specs.declared.limits.TheConstants.{MAX_RANKED}
 -- a whole number, counted from the least one that is told from smaller ones; those beyond the greatest one count alike
 unfoldable pub rank_of : ℤ → ℕ
 rank_of z =
-    if int_lt z (neg_ℤ MAX_RANKED) then 0 else (if int_lt MAX_RANKED z then unsigned_abs (MAX_RANKED +ℤ MAX_RANKED) else unsigned_abs (z +ℤ MAX_RANKED))
+    if int_lt z (neg_ℤ MAX_RANKED) then 0
+    else (if int_lt MAX_RANKED z then unsigned_abs (MAX_RANKED +ℤ MAX_RANKED) else unsigned_abs (z +ℤ MAX_RANKED))
 
 -- a rank that neither coordinate is below
 abbrev pub low_of : Fraction → Fraction → ℕ

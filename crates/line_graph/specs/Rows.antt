@@ -1,5 +1,5 @@
 -- The lines that a line may meet, by their numbers, and what is known of a list of lines.
-use Rattle.std.specs.Prelude.{◌≡◌, ℕ, ◌+◌, ◌-◌, ◌<◌, ◌==◌, Bool, List, length, filter, slice_index_or}
+use Rattle.std.specs.Prelude.{◌≡◌, ℕ, ◌+◌, ◌-◌, ◌<◌, ◌==◌, Bool, List, length, filter, map, slice_index_or}
 use Rattle.std.specs.List.{range_with_len, list_any}
 use Rattle.sight_spec.specs.Axial.{AxialLine, do_meet, line_of_number}
 use Rattle.meet_laws.specs.Stretches.{Stretch}
@@ -14,6 +14,13 @@ no_extent = record { left = 0; right = 0; below = 0; above = 0 }
 -- the extents of two numbers share a point
 abbrev pub are_near_at : List Extent → ℕ → ℕ → Bool
 are_near_at extents i j = are_near (slice_index_or extents i no_extent) (slice_index_or extents j no_extent)
+
+-- the lists have the sides of the extents, in order
+pub record AreColumns (lefts rights belows aboves : List ℕ) (extents : List Extent) : Type 0 where
+  pub left : lefts ≡ map (λ e. e.left) extents
+  pub right : rights ≡ map (λ e. e.right) extents
+  pub below : belows ≡ map (λ e. e.below) extents
+  pub above : aboves ≡ map (λ e. e.above) extents
 
 -- the numbers after i and below `end` of the extents that share a point with that of i
 abbrev pub near_below : List Extent → ℕ → ℕ → List ℕ

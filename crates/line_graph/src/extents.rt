@@ -2,6 +2,7 @@
 
 ghost use Rattle.std.specs.Prelude.{◌≡◌, ◌≤ℤ◌, ◌+ℤ◌, neg_ℤ, unsigned_abs, nat_le, ◌&&◌, map, IfOk};
 ghost use Rattle.line_graph.specs.Extents as extents;
+ghost use Rattle.line_graph.specs.Rows.{AreColumns};
 ghost use Rattle.line_graph.specs.declared.limits.TheConstants.{MAX_RANKED};
 
 use crate::limits::MAX_RANKED;
@@ -77,6 +78,37 @@ pub(crate) fn extents_of(alloc: Global, lines: &[AxialLine]) -> Result<Vec<Exten
     Ok(list)
 }
 
+/// Extents side by side: a list for each side, in order, so that many are compared at once.
+#[derive(Drop)]
+pub(crate) struct Columns {
+    pub(crate) left: Vec<u32>,
+    pub(crate) right: Vec<u32>,
+    pub(crate) below: Vec<u32>,
+    pub(crate) above: Vec<u32>,
+}
+
+/// The sides of extents, in order.
+pub(crate) fn columns_of(alloc: Global, extents: &[Extent]) -> Result<Columns, NoMemory>
+    ensures { IfOk result (λ c. AreColumns c.left.items c.right.items c.below.items c.above.items extents.now) }
+{
+    let mut left = Vec::new(alloc);
+    let mut right = Vec::new(alloc);
+    let mut below = Vec::new(alloc);
+    let mut above = Vec::new(alloc);
+    for e in extents {
+        left.push(e.left)?;
+        right.push(e.right)?;
+        below.push(e.below)?;
+        above.push(e.above)?;
+    }
+    Ok(Columns {
+        left,
+        right,
+        below,
+        above,
+    })
+}
+
 fn at_most(a: u32, b: u32) -> bool
     ensures { result ≡ nat_le a b }
 {
@@ -90,7 +122,7 @@ fn and(a: bool, b: bool) -> bool
     a & b
 }
 
-/// Whether neither extent lies wholly before the other. Both tests of each coordinate are made, so that nothing branches.
+/// Whether neither extent lies wholly before the other. All four tests are made, so that nothing branches.
 #[tactic(auto, unfolding(crate::specs::Extents::are_near))]
 pub(crate) fn are_near(e: Extent, f: Extent) -> bool
     ensures { result ≡ extents.are_near e f }

@@ -3,8 +3,8 @@
 use exact_geom::{MAX_COORDINATE_PART, MAX_STOP_PART};
 use plane_spec::MAX_COORDINATE;
 
-/// The greatest size of the numerator of a coordinate of an end: that of `z + t d` for a coordinate `z`, a component `d`
-/// of the direction between two corners and a stop `t`.
+/// The greatest size of the numerator of a coordinate of an end: that of `z + t d` for a coordinate `z`, a component
+/// `d` of the direction between two corners and a stop `t`.
 pub const MAX_END_NUMERATOR: i128 = 3 * MAX_COORDINATE as i128 * MAX_STOP_PART;
 
 /// The greatest size of the parts of a parameter.

@@ -9,8 +9,8 @@ use crate::stretch::stretch_of;
 use axial_lines::AxialLine;
 use sight_core::Scene;
 
-/// Whether the closed segments of two axial lines share a point: they cross, or an end of one lies on the other, or they
-/// are one. Both are lines of the scene.
+/// Whether the closed segments of two axial lines share a point: they cross, or an end of one lies on the other, or
+/// they are one. Both are lines of the scene.
 ///
 /// Cost: some thirty products of 64-bit numbers. No part of what is compared has more than 128 bits.
 ///

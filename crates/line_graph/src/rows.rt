@@ -8,9 +8,9 @@ ghost use Rattle.sight_spec.specs.Axial.{IsLineOf};
 ghost use Rattle.vga_grid.specs.Rows.{graph_of, is_joined};
 ghost use Rattle.line_graph.specs.Extents.{extent_of};
 ghost use Rattle.line_graph.specs.Rows as rows;
-ghost use Rattle.line_graph.specs.Rows.{AreMeasured, has_number};
+ghost use Rattle.line_graph.specs.Rows.{AreColumns, AreMeasured, has_number};
 
-use crate::extents::{Extent, extents_of};
+use crate::extents::{Columns, Extent, columns_of, extents_of};
 use crate::meeting::do_meet;
 use crate::near::gather;
 use crate::stretch::{Stretch, stretch_of};
@@ -55,7 +55,8 @@ fn join_row(
     requires few { length lines.now ≤ 16384 }
     requires nodes { graph.old.count ≡ length lines.now }
     requires i_in { i < length lines.now }
-    requires near_in { (m : ℕ) → m < length near.now → (i < slice_index near.now m) × (slice_index near.now m < length lines.now) }
+    requires near_in { (m : ℕ) → m < length near.now
+        → (i < slice_index near.now m) × (slice_index near.now m < length lines.now) }
     requires simple { IsSimpleGraph (graph_of graph.old) }
     ensures nodes { graph.new.count ≡ length lines.now }
     ensures joined { (a b : ℕ) → a < b → is_joined graph.new a b
@@ -69,17 +70,22 @@ fn join_row(
     }
 }
 
-/// Joins the lines that meet, row by row. `near` is room for the numbers of a row.
+/// Joins the lines that meet, row by row. `flags` and `near` are room for the marks and the numbers of a row.
 fn join_rows(
     graph: &mut BitGraph,
     stretches: &[Stretch],
     lines: &[AxialLine],
     extents: &[Extent],
+    columns: &Columns,
+    flags: &mut [u8],
     near: &mut [u32],
 )
     requires measured { AreMeasured stretches.now lines.now }
     requires few { length lines.now ≤ 16384 }
     requires extents { extents.now ≡ map extent_of lines.now }
+    requires columns { AreColumns columns.now.left.items columns.now.right.items columns.now.below.items
+        columns.now.above.items extents.now }
+    requires flags { length flags.old ≡ length lines.now }
     requires near { length near.old ≡ length lines.now }
     requires nodes { graph.old.count ≡ length lines.now }
     requires none { (a b : ℕ) → is_joined graph.old a b ≡ false }
@@ -87,7 +93,7 @@ fn join_rows(
     ensures { graph_of graph.new ≡ axial.crossing_graph lines.now }
 {
     for i in 0..lines.len() {
-        let count = gather(extents, i, near);
+        let count = gather(extents, columns, i, flags, near);
         join_row(graph, stretches, lines, i, &near[..count]);
     }
 }
@@ -95,7 +101,7 @@ fn join_rows(
 /// The graph over the lines' numbers that joins different lines that meet. All are lines of the scene.
 ///
 /// Cost: of n lines, n^2 / 2 comparisons of whole numbers, and one test of those pairs whose extents share a point.
-/// Memory: the graph's n^2 / 8 bytes and some 80 bytes a line.
+/// Memory: the graph's n^2 / 8 bytes and some 100 bytes a line.
 ///
 /// Source: the map of all axial lines after Penn and others (1997).
 pub fn crossing_graph(
@@ -109,8 +115,12 @@ pub fn crossing_graph(
 {
     let stretches = stretches_of(alloc, scene, lines)?;
     let extents = extents_of(alloc, lines)?;
+    let columns = columns_of(alloc, &extents)?;
+    let mut flags = vec![in alloc; 0u8; lines.len()]?;
     let mut near = vec![in alloc; 0u32; lines.len()]?;
     let mut graph = BitGraph::empty(alloc, lines.len() as u32)?;
-    join_rows(&mut graph, &stretches, lines, &extents, &mut near);
+    join_rows(
+        &mut graph, &stretches, lines, &extents, &columns, &mut flags, &mut near,
+    );
     Ok(graph)
 }
