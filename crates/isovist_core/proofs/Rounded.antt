@@ -135,14 +135,14 @@ pub floors_end : (scene : Scene) (p : Point) (runs : List SightedRun) (k : ℕ) 
     → (sum +ℤ floors_from scene p runs k) ≡ total → sum ≡ total
 floors_end scene p runs k sum total h before =
     let none : floors_from scene p runs k ≡ pos 0 =
-      ap (λ t. sum_of_floors (map (triangle_of_run scene p) t)) (drop_all k runs h) in
+    ap (λ t. sum_of_floors (map (triangle_of_run scene p) t)) (drop_all k runs h) in
     omega (arith, ints, none, before)
 
 pub ceils_end : (scene : Scene) (p : Point) (runs : List SightedRun) (k : ℕ) (sum total : ℤ) → length runs ≤ k
     → (sum +ℤ ceils_from scene p runs k) ≡ total → sum ≡ total
 ceils_end scene p runs k sum total h before =
     let none : ceils_from scene p runs k ≡ pos 0 =
-      ap (λ t. sum_of_ceilings (map (triangle_of_run scene p) t)) (drop_all k runs h) in
+    ap (λ t. sum_of_ceilings (map (triangle_of_run scene p) t)) (drop_all k runs h) in
     omega (arith, ints, none, before)
 
 -- ---- runs of a plan's scene

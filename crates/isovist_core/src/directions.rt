@@ -91,7 +91,11 @@ fn drop_repeats(headings: &mut Vec<Heading>)
 /// direction the first gives the vector.
 ///
 /// Cost: one stable sort of the corners.
-pub(crate) fn corner_directions(alloc: Global, scene: &Scene, p: Point) -> Result<Vec<Heading>, NoMemory>
+pub(crate) fn corner_directions(
+    alloc: Global,
+    scene: &Scene,
+    p: Point,
+) -> Result<Vec<Heading>, NoMemory>
     requires { InRange p }
     ensures { IfOk result (λ headings. map step_of headings.items ≡ isovists.corner_directions scene.now p) }
 {

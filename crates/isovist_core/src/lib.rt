@@ -38,6 +38,8 @@ mod runs;
 mod seeing;
 mod sighted_run;
 mod sums;
+#[cfg(test)]
+mod tests;
 mod totals;
 mod triangle;
 mod triangles;

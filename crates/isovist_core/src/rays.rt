@@ -27,7 +27,12 @@ fn meeting_of(scene: &Scene, p: Point, ray: &Ray) -> Meeting
 /// the place of this.
 ///
 /// Cost: for each ray some passes over walls, screens and corners, as [`stop`] and [`near_wall`] say.
-pub(crate) fn ray_hits(alloc: Global, scene: &Scene, p: Point, rays: &[Ray]) -> Result<Vec<Meeting>, NoMemory>
+pub(crate) fn ray_hits(
+    alloc: Global,
+    scene: &Scene,
+    p: Point,
+    rays: &[Ray],
+) -> Result<Vec<Meeting>, NoMemory>
     requires { InRange p }
     ensures { IfOk result (λ hits. hits.items ≡ map (ray_hit scene.now p) (map way_of rays.now)) }
 {

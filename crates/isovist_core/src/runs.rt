@@ -72,7 +72,12 @@ fn reach_on(runs: &mut Vec<SightedRun>, to: Heading)
 
 /// Takes up a sector: it goes on with the last run where the sector before has the same wall, and otherwise is a run of its
 /// own; without a wall it is none.
-fn put_sector(runs: &mut Vec<SightedRun>, before: Option<u32>, gap: &Gap, wall: Option<u32>) -> Result<(), NoMemory>
+fn put_sector(
+    runs: &mut Vec<SightedRun>,
+    before: Option<u32>,
+    gap: &Gap,
+    wall: Option<u32>,
+) -> Result<(), NoMemory>
     ensures { OnOk result (map run_of runs.new.items ≡ put_sector before (pair_of gap.now) wall (map run_of runs.old.items)) }
 {
     let Some(wall) = wall else {
@@ -109,7 +114,11 @@ fn runs_by(alloc: Global, gaps: &[Gap], hits: &[Meeting]) -> Result<Vec<SightedR
 /// The runs round `p`, counterclockwise from (1,0): the last and the first aren't joined.
 ///
 /// Cost: one sort of the corners, and a ray for each of their directions.
-pub(crate) fn sighted_runs(alloc: Global, scene: &Scene, p: Point) -> Result<Vec<SightedRun>, NoMemory>
+pub(crate) fn sighted_runs(
+    alloc: Global,
+    scene: &Scene,
+    p: Point,
+) -> Result<Vec<SightedRun>, NoMemory>
     requires { InRange p }
     ensures { IfOk result (λ runs. map run_of runs.items ≡ runs_of (sectors_of scene.now p)) }
 {

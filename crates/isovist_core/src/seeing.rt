@@ -50,7 +50,12 @@ fn totals_in_scene(alloc: Global, scene: &Scene, p: Point) -> Result<IsovistTota
 /// Cost: one sort of the corners, a ray for each of their directions, and five greatest common divisors for each triangle.
 ///
 /// Source: isovists after Benedikt (1979), as exact triangles.
-pub fn isovist(alloc: Global, plan: &Plan, scene: &Scene, p: Point) -> Result<IsovistParts, IsovistFault>
+pub fn isovist(
+    alloc: Global,
+    plan: &Plan,
+    scene: &Scene,
+    p: Point,
+) -> Result<IsovistParts, IsovistFault>
     requires p_in { InRange p }
     requires seen { scene.now ≡ scene_of plan.now }
     ensures value { IfOk result (λ parts. isovist_of plan.now p ≡ Some parts) }
@@ -67,7 +72,12 @@ pub fn isovist(alloc: Global, plan: &Plan, scene: &Scene, p: Point) -> Result<Is
 /// [`IsovistFault::Closed`] exactly where `p` isn't open.
 ///
 /// Cost: that of [`isovist`] without its greatest common divisors for triangles.
-pub fn isovist_totals(alloc: Global, plan: &Plan, scene: &Scene, p: Point) -> Result<IsovistTotals, IsovistFault>
+pub fn isovist_totals(
+    alloc: Global,
+    plan: &Plan,
+    scene: &Scene,
+    p: Point,
+) -> Result<IsovistTotals, IsovistFault>
     requires p_in { InRange p }
     requires seen { scene.now ≡ scene_of plan.now }
     ensures value { IfOk result (λ totals. HasTotals (isovist_of plan.now p) totals) }

@@ -110,7 +110,12 @@ fn triangle_of(scene: &Scene, p: Point, run: &SightedRun) -> Triangle
 }
 
 /// The triangles of runs, in their order.
-pub(crate) fn triangles_of(alloc: Global, scene: &Scene, p: Point, runs: &[SightedRun]) -> Result<Vec<Triangle>, NoMemory>
+pub(crate) fn triangles_of(
+    alloc: Global,
+    scene: &Scene,
+    p: Point,
+    runs: &[SightedRun],
+) -> Result<Vec<Triangle>, NoMemory>
     requires p_in { InRange p }
     requires spanned { All (λ run. IsSpanned scene.now p (run_of run)) runs.now }
     ensures { IfOk result (λ triangles. triangles.items ≡ map (triangle_of_run scene.now p) runs.now) }

@@ -11,7 +11,7 @@ loop-k-init c = rw c.new-gaps.ensures.items (gaps_begin (map step_of c.args.head
 pub loop-k-preserved : goal.loop-k-preserved
 loop-k-preserved c =
     let more = gaps_step (map step_of c.args.headings.now) c.loop-k.k (map pair_of c.loop-k.gaps.items)
-      (rw (length-map c.args.headings.now step_of) c.loop-k-test.true) c.loop-k.invariant in
+    (rw (length-map c.args.headings.now step_of) c.loop-k-test.true) c.loop-k.invariant in
     rw (c.in_ok-push.ensures.items, map_push, c.gap_from.ensures) more
 
 pub returns : goal.returns

@@ -13,9 +13,9 @@ runs_by-requires c =
     let rays = c.in_ok-rays.rays.items in
     let hits = c.in_ok-hits.hits.items in
     let looks : map way_of rays ≡ map (λ gap. look_of (pair_of gap)) gaps =
-      rw (← c.deref-2.ensures.value) c.in_ok-rays.ensures in
+    rw (← c.deref-2.ensures.value) c.in_ok-rays.ensures in
     let met : hits ≡ map (ray_hit c.args.scene.now c.args.p) (map way_of rays) =
-      rw (← c.deref-3.ensures.value) c.in_ok-hits.ensures in
+    rw (← c.deref-3.ensures.value) c.in_ok-hits.ensures in
     rw (c.deref-4.ensures.value, c.deref-5.ensures.value)
     (as_many c.args.scene.now c.args.p gaps hits (hits_are c.args.scene.now c.args.p gaps rays hits looks met))
 
@@ -27,11 +27,11 @@ returns c =
     let hits = c.in_ok-hits.hits.items in
     let pairs : map pair_of gaps ≡ gaps_of (map step_of headings) = rw (← c.deref.ensures.value) c.in_ok-gaps.ensures in
     let looks : map way_of rays ≡ map (λ gap. look_of (pair_of gap)) gaps =
-      rw (← c.deref-2.ensures.value) c.in_ok-rays.ensures in
+    rw (← c.deref-2.ensures.value) c.in_ok-rays.ensures in
     let met : hits ≡ map (ray_hit c.args.scene.now c.args.p) (map way_of rays) =
-      rw (← c.deref-3.ensures.value) c.in_ok-hits.ensures in
+    rw (← c.deref-3.ensures.value) c.in_ok-hits.ensures in
     let runs : map run_of c.in_ok-runs.runs.items ≡ runs_of (sectors_by (map pair_of gaps) hits) =
-      rw (← c.deref-4.ensures.value, ← c.deref-5.ensures.value) c.in_ok-runs.ensures in
+    rw (← c.deref-4.ensures.value, ← c.deref-5.ensures.value) c.in_ok-runs.ensures in
     runs
     ∙ runs_are c.args.scene.now c.args.p (map step_of headings) gaps hits c.in_ok-headings.ensures pairs
     (hits_are c.args.scene.now c.args.p gaps rays hits looks met)

@@ -30,8 +30,8 @@ returns c =
     let floor_fits : FitsSigned w128 c.sums_of-sums.result.floor = search rules in
     let ceil_fits : FitsSigned w128 c.sums_of-sums.result.ceil = search rules in
     let these : c.in_ok-triangles.triangles.items ≡ map seen runs =
-      rw (← c.deref.ensures.value) c.in_ok-triangles.ensures in
+    rw (← c.deref.ensures.value) c.in_ok-triangles.ensures in
     let sums_are : AreSums (map seen runs) sums =
-      subst (λ rs. AreSums (map seen rs) sums) c.deref-2.ensures.value c.sums_of-sums.ensures in
+    subst (λ rs. AreSums (map seen rs) sums) c.deref-2.ensures.value c.sums_of-sums.ensures in
     rw (c.of.ensures, to_z-of_z w128 c.sums_of-sums.result.floor floor_fits, to_z-of_z w128 c.sums_of-sums.result.ceil ceil_fits)
     (whole c.args.scene.now c.args.p runs c.in_ok-triangles.triangles.items sums c.in_ok-runs.ensures these sums_are)

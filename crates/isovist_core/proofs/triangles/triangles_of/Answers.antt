@@ -6,7 +6,7 @@ use Rattle.isovist_core.proofs.triangles.triangles_of.Goals as goal
 pub loop-run-preserved : goal.loop-run-preserved
 loop-run-preserved c =
     let more = map_more (triangle_of_run c.args.scene.now c.args.p) c.args.runs.now c.loop-run.run-index c.run-item.result
-      c.loop-run-test.true in
+    c.loop-run-test.true in
     rw (c.in_ok-push.ensures.items, c.triangle_of.ensures, c.loop-run.invariant, more, ← c.run-item.is) refl
 
 pub returns : goal.returns
