@@ -55,9 +55,9 @@ module _ (f : Fraction) (up : pos 1 ≤ℤ f.den) where
   pub floor_reduced : floor_of (reduced f) ≡ floor_of f
   floor_reduced =
       let one = floor_greatest (reduced f) reduced_up (floor_of f)
-        (sym (at_least_reduced (floor_of f)) ∙ floor_not_above f up) in
+      (sym (at_least_reduced (floor_of f)) ∙ floor_not_above f up) in
       let other = floor_greatest f up (floor_of (reduced f))
-        (at_least_reduced (floor_of (reduced f)) ∙ floor_not_above (reduced f) reduced_up) in
+      (at_least_reduced (floor_of (reduced f)) ∙ floor_not_above (reduced f) reduced_up) in
       same_number (floor_of (reduced f)) (floor_of f) other one
     where
       same_number : (x y : ℤ) → x ≤ℤ y → y ≤ℤ x → x ≡ y
@@ -66,9 +66,9 @@ module _ (f : Fraction) (up : pos 1 ≤ℤ f.den) where
   pub ceil_reduced : ceil_of (reduced f) ≡ ceil_of f
   ceil_reduced =
       let one = ceil_least (reduced f) reduced_up (ceil_of f)
-        (sym (at_most_reduced (ceil_of f)) ∙ ceil_not_below f up) in
+      (sym (at_most_reduced (ceil_of f)) ∙ ceil_not_below f up) in
       let other = ceil_least f up (ceil_of (reduced f))
-        (at_most_reduced (ceil_of (reduced f)) ∙ ceil_not_below (reduced f) reduced_up) in
+      (at_most_reduced (ceil_of (reduced f)) ∙ ceil_not_below (reduced f) reduced_up) in
       same_number (ceil_of (reduced f)) (ceil_of f) one other
     where
       same_number : (x y : ℤ) → x ≤ℤ y → y ≤ℤ x → x ≡ y
@@ -80,13 +80,13 @@ module _ (f : Fraction) (up : pos 1 ≤ℤ f.den) where
   pub between : (most : ℤ) → pos 0 ≤ℤ f.num → f.num ≤ℤ (most *ℤ f.den) → HasRoundingWithin most f
   between most low high =
       let floor_low = floor_greatest f up (pos 0)
-        (at_most_tested (pos 0 *ℤ f.den) f.num (subst (λ t. t ≤ℤ f.num) (sym (zero_times f.den)) low)) in
+      (at_most_tested (pos 0 *ℤ f.den) f.num (subst (λ t. t ≤ℤ f.num) (sym (zero_times f.den)) low)) in
       let ceil_high = ceil_least f up most (at_most_tested f.num (most *ℤ f.den) high) in
       let under = tested_at_most (floor_of f *ℤ f.den) f.num (floor_not_above f up) in
       let over = tested_at_most f.num (ceil_of f *ℤ f.den) (ceil_not_below f up) in
       let rest = minus_times most (floor_of f) f.den in
       let floor_high = not_negative_factor (most -ℤ floor_of f) f.den (omega (arith, ints, rest, under, high))
-        (omega (arith, ints, up)) in
+      (omega (arith, ints, up)) in
       let ceil_low = not_negative_factor (ceil_of f) f.den (omega (arith, ints, over, low)) (omega (arith, ints, up)) in
       record {
         floor_low = floor_low;
@@ -126,10 +126,10 @@ module _ (p e f : Point) (w : Segment) (m : Meets p e f w) (turned : pos 0 <ℤ 
       let grouped = product_grouped m.size m.size (cross_of e f) in
       let most = size_within p e f w m p_in w_in in
       let one = not_negative_product m.size (m.first_den *ℤ m.second_den -ℤ m.size *ℤ cross_of e f) size_low
-        (let h = m.bounded in omega (arith, ints, h)) in
+      (let h = m.bounded in omega (arith, ints, h)) in
       let one_is = times_minus m.size (m.first_den *ℤ m.second_den) (m.size *ℤ cross_of e f) in
       let two = not_negative_product (pos 80000000000 -ℤ m.size) (m.first_den *ℤ m.second_den)
-        (omega (arith, ints, most)) (let h = area_up in omega (arith, ints, h)) in
+      (omega (arith, ints, most)) (let h = area_up in omega (arith, ints, h)) in
       let two_is = minus_times (pos 80000000000) m.size (m.first_den *ℤ m.second_den) in
       between area area_up (pos 80000000000) low
       (high (m.size *ℤ m.size *ℤ cross_of e f) (m.size *ℤ (m.size *ℤ cross_of e f))
@@ -167,8 +167,7 @@ run_area_up scene p r s =
 pub dens_up : (scene : Scene) (p : Point) (r : Run) → IsSpanned scene p r
     → (pos 1 ≤ℤ (meeting_with scene p r.from r.wall).den) × (pos 1 ≤ℤ (meeting_with scene p r.to r.wall).den)
 dens_up scene p r s =
-    let m = meets p r.from r.to (blocker_at (blockers_of_scene scene) r.wall) s.spans in
-    (
+    let m = meets p r.from r.to (blocker_at (blockers_of_scene scene) r.wall) s.spans in (
       subst (λ (t : Fraction). pos 1 ≤ℤ t.den) (sym m.first_is) (let h = m.first_positive in omega (arith, ints, h)),
       subst (λ (t : Fraction). pos 1 ≤ℤ t.den) (sym m.second_is) (let h = m.second_positive in omega (arith, ints, h)),
     )

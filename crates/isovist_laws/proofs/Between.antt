@@ -54,10 +54,10 @@ lower_between : (e f d : Point) → IsBetween e f d → IsDirected e → IsDirec
     → is_upper f ≡ false → is_upper d ≡ true → ⊥
 lower_between e f d b e_some f_some h k l =
     let up = above_between (neg_ℤ e.x) (neg_ℤ e.y) (neg_ℤ d.x) (neg_ℤ d.y) (neg_ℤ f.x) (neg_ℤ f.y)
-      (lower_is e e_some h) (lower_is f f_some k)
-      (subst (λ t. pos 0 <ℤ t) (sym (both_back e f)) b.turned)
-      (subst (λ t. pos 0 <ℤ t) (sym (both_back e d)) b.after)
-      (subst (λ t. pos 0 <ℤ t) (sym (both_back d f)) b.before) in
+    (lower_is e e_some h) (lower_is f f_some k)
+    (subst (λ t. pos 0 <ℤ t) (sym (both_back e f)) b.turned)
+    (subst (λ t. pos 0 <ℤ t) (sym (both_back e d)) b.after)
+    (subst (λ t. pos 0 <ℤ t) (sym (both_back d f)) b.before) in
     let down = not_down d.x d.y (upper_is d l) in
     absurd (omega (arith, ints, up, down))
 
@@ -96,40 +96,40 @@ neither_by false false d n m = refl
 
 module _ (e f d : Point) (b : IsBetween e f d) (e_some : IsDirected e) (f_some : IsDirected f) (d_some : IsDirected d)
   where
-  halves : Halves (is_upper e) (is_upper f) (is_upper d)
-  halves = record {
-    upper = λ h k l. upper_between e f d b d_some h k l;
-    lower = λ h k l. lower_between e f d b e_some f_some h k l;
-  }
+    halves : Halves (is_upper e) (is_upper f) (is_upper d)
+    halves = record {
+      upper = λ h k l. upper_between e f d b d_some h k l;
+      lower = λ h k l. lower_between e f d b e_some f_some h k l;
+    }
 
-  left : (x y : Point) → pos 0 <ℤ cross_of x y → turns_before x y ≡ turns_by (is_upper x) (is_upper y) true
-  unfolding turns_before
-  left x y up = ap (turns_by (is_upper x) (is_upper y)) (positive_tested (cross_of x y) up)
+    left : (x y : Point) → pos 0 <ℤ cross_of x y → turns_before x y ≡ turns_by (is_upper x) (is_upper y) true
+    unfolding turns_before
+    left x y up = ap (turns_by (is_upper x) (is_upper y)) (positive_tested (cross_of x y) up)
 
-  -- where e comes before f, then d doesn't stand outside
-  pub not_after : turns_before e f ≡ true → turns_before d f ≡ false → ⊥
-  not_after h n =
-      first_by (is_upper e) (is_upper f) (is_upper d) halves (sym (left e f b.turned) ∙ h) (sym (left d f b.before) ∙ n)
+    -- where e comes before f, then d doesn't stand outside
+    pub not_after : turns_before e f ≡ true → turns_before d f ≡ false → ⊥
+    not_after h n =
+        first_by (is_upper e) (is_upper f) (is_upper d) halves (sym (left e f b.turned) ∙ h) (sym (left d f b.before) ∙ n)
 
-  pub not_before : turns_before e f ≡ true → turns_before e d ≡ false → ⊥
-  not_before h n =
-      second_by (is_upper e) (is_upper f) (is_upper d) halves (sym (left e f b.turned) ∙ h) (sym (left e d b.after) ∙ n)
+    pub not_before : turns_before e f ≡ true → turns_before e d ≡ false → ⊥
+    not_before h n =
+        second_by (is_upper e) (is_upper f) (is_upper d) halves (sym (left e f b.turned) ∙ h) (sym (left e d b.after) ∙ n)
 
-  -- where it doesn't, d comes after e or before f
-  pub not_neither : turns_before e f ≡ false → turns_before e d ≡ false → turns_before d f ≡ false → ⊥
-  not_neither h n m =
-      both_ways (turns_before e f) h
-      (left e f b.turned
-      ∙ neither_by (is_upper e) (is_upper f) (is_upper d) (sym (left e d b.after) ∙ n) (sym (left d f b.before) ∙ m))
+    -- where it doesn't, d comes after e or before f
+    pub not_neither : turns_before e f ≡ false → turns_before e d ≡ false → turns_before d f ≡ false → ⊥
+    not_neither h n m =
+        both_ways (turns_before e f) h
+        (left e f b.turned
+        ∙ neither_by (is_upper e) (is_upper f) (is_upper d) (sym (left e d b.after) ∙ n) (sym (left d f b.before) ∙ m))
 
 -- ---- the same way
 
 same_side : (e v x : Point) (a : PointAlike v x) → a.times *ℤ cross_of e v ≡ a.times_other *ℤ cross_of e x
 same_side e v x a =
     let first : a.times *ℤ (e.x *ℤ v.y) ≡ a.times_other *ℤ (e.x *ℤ x.y) =
-      product_moved a.times e.x v.y ∙ ap (λ t. e.x *ℤ t) a.y ∙ product_moved e.x a.times_other x.y in
+    product_moved a.times e.x v.y ∙ ap (λ t. e.x *ℤ t) a.y ∙ product_moved e.x a.times_other x.y in
     let second : a.times *ℤ (e.y *ℤ v.x) ≡ a.times_other *ℤ (e.y *ℤ x.x) =
-      product_moved a.times e.y v.x ∙ ap (λ t. e.y *ℤ t) a.x ∙ product_moved e.y a.times_other x.x in
+    product_moved a.times e.y v.x ∙ ap (λ t. e.y *ℤ t) a.x ∙ product_moved e.y a.times_other x.x in
     let whole = times_minus a.times (e.x *ℤ v.y) (e.y *ℤ v.x) in
     let whole_other = times_minus a.times_other (e.x *ℤ x.y) (e.y *ℤ x.x) in
     omega (arith, ints, first, second, whole, whole_other)

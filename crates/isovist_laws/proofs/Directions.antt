@@ -181,8 +181,8 @@ points_to_corner scene p q stands some none =
     let vectors = vectors_to_corners scene p in
     let all = subst (All (λ x. ties turns_before v x ≡ false)) (corner_directions_are scene p) none in
     let left : front (filter (ties turns_before v) vectors) ≡ [] =
-      sym (ties_in_firsts IsDirected turns_before directions_order v some vectors (vectors_directed scene p))
-      ∙ none_left (ties turns_before v) (in_order turns_before (distinct_by (ties turns_before) vectors)) all in
+    sym (ties_in_firsts IsDirected turns_before directions_order v some vectors (vectors_directed scene p))
+    ∙ none_left (ties turns_before v) (in_order turns_before (distinct_by (ties turns_before) vectors)) all in
     both_ways (list_any (ties turns_before v) vectors)
     (none_passes (ties turns_before v) vectors (front_some (filter (ties turns_before v) vectors) left))
     (among_vectors scene p q stands some)

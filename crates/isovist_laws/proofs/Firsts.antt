@@ -115,9 +115,9 @@ module _ {X : Type 0} (Q : X → Type 0) (before : X → X → Bool) (o : IsWeak
   alike z x y qz qx qy h =
       let n = tied x y h in
       let forth : before z y ≡ before z x = agree_false (before z y) (before z x)
-        (λ e. chain z y x qz qy qx e n.back) (λ e. chain z x y qz qx qy e n.forth) in
+      (λ e. chain z y x qz qy qx e n.back) (λ e. chain z x y qz qx qy e n.forth) in
       let back : before y z ≡ before x z = agree_false (before y z) (before x z)
-        (λ e. chain x y z qx qy qz n.forth e) (λ e. chain y x z qy qx qz n.back e) in
+      (λ e. chain x y z qx qy qz n.forth e) (λ e. chain y x z qy qx qz n.back e) in
       rw (forth, back) refl
 
   itself : (x : X) → ties before x x ≡ true
@@ -202,11 +202,11 @@ module _ {X : Type 0} (Q : X → Type 0) (before : X → X → Bool) (o : IsWeak
       by : (t u : Bool) → before x y ≡ t → before y x ≡ u → (x ≡ y → xs ≡ ys) → x ∷ xs ≡ y ∷ ys
       by true u e f tails =
           let g : filter (ties before x) (y ∷ ys) ≡ [] = none_ties x (y ∷ ys)
-            (before_all x y ys qx qy (All-tail Q y ys ps) e (λ k d l. (rise.0 k d l).not_back)) in
+          (before_all x y ys qx qy (All-tail Q y ys ps) e (λ k d l. (rise.0 k d l).not_back)) in
           let h : [] ≡ x ∷ [] = sym g ∙ at_x in cc
       by false true e f tails =
           let g : filter (ties before y) (x ∷ xs) ≡ [] = none_ties y (x ∷ xs)
-            (before_all y x xs qy qx (All-tail Q x xs qs) f (λ k d l. (up.0 k d l).not_back)) in
+          (before_all y x xs qy qx (All-tail Q x xs qs) f (λ k d l. (up.0 k d l).not_back)) in
           let h : [] ≡ y ∷ [] = sym g ∙ at_y in cc
       by false false e f tails =
           let same_head : x ≡ y = heads (ties_from x y (record { forth = e; back = f })) in

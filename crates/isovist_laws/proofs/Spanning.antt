@@ -157,11 +157,11 @@ module _ (plan : Plan) (p : Point) where
       let w = blocker_at lines k in
       let ends = ends_cornered plan k no_segment at.0 in
       let a_out : pos 0 <ℤ cross_of e (vector p w.a) → pos 0 <ℤ cross_of (vector p w.a) f → ⊥ =
-        λ after before. no_corner_between scene p w.a e f ends.a none
-        (record { turned = seen.turned; after = after; before = before }) in
+      λ after before. no_corner_between scene p w.a e f ends.a none
+      (record { turned = seen.turned; after = after; before = before }) in
       let b_out : pos 0 <ℤ cross_of e (vector p w.b) → pos 0 <ℤ cross_of (vector p w.b) f → ⊥ =
-        λ after before. no_corner_between scene p w.b e f ends.b none
-        (record { turned = seen.turned; after = after; before = before }) in
+      λ after before. no_corner_between scene p w.b e f ends.b none
+      (record { turned = seen.turned; after = after; before = before }) in
       record {
         numbered = at.0;
         spans =
@@ -276,8 +276,8 @@ module _ (plan : Plan) (p : Point) where
       put k spans true (r ∷ runs) at rest =
           let start = at refl in
           let next : SpansFrom s.to r.to k =
-            subst (λ d. SpansFrom d r.to k) start.0
-            (subst (λ n. SpansFrom r.from r.to n) start.1 (All-head (IsSpanned scene p) r runs rest)) in
+          subst (λ d. SpansFrom d r.to k) start.0
+          (subst (λ n. SpansFrom r.from r.to n) start.1 (All-head (IsSpanned scene p) r runs rest)) in
           All-cons (IsSpanned scene p) (run s.from r.to k) runs (joined s.from s.to r.to k spans next)
           (All-tail (IsSpanned scene p) r runs rest)
       put k spans false (r ∷ runs) at rest = All-cons (IsSpanned scene p) (run s.from s.to k) (r ∷ runs) spans rest

@@ -72,15 +72,15 @@ wedge_of_gap a b e f ef_up ab_up a_right b_left a_out b_out =
     let a_low : (cross_of e a +ℤ cross_of f a) <ℤ pos 0 = omega (arith, ints, sum_a, a_right) in
     let b_up : pos 0 <ℤ (cross_of e b +ℤ cross_of f b) = omega (arith, ints, sum_b, b_left) in
     let ea_low : cross_of e a ≤ℤ pos 0 =
-      by_lt_z (pos 0) (cross_of e a)
-      (λ h. absurd (a_out h (omega (arith, ints, h, af, a_low)))) (λ h. h) in
+    by_lt_z (pos 0) (cross_of e a)
+    (λ h. absurd (a_out h (omega (arith, ints, h, af, a_low)))) (λ h. h) in
     let fb_up : pos 0 ≤ℤ cross_of f b =
-      by_lt_z (cross_of f b) (pos 0)
-      (λ h. absurd (b_out (omega (arith, ints, h, b_up)) (omega (arith, ints, h, bf)))) (λ h. h) in
+    by_lt_z (cross_of f b) (pos 0)
+    (λ h. absurd (b_out (omega (arith, ints, h, b_up)) (omega (arith, ints, h, bf)))) (λ h. h) in
     let eb_up = first_sign (cross_of e f) (cross_of a b) (cross_of e a) (cross_of f a) (cross_of e b) (cross_of f b)
-      four ef_up ab_up a_low b_up ea_low fb_up in
+    four ef_up ab_up a_low b_up ea_low fb_up in
     let fa_low = second_sign (cross_of e f) (cross_of a b) (cross_of e a) (cross_of f a) (cross_of e b) (cross_of f b)
-      four ef_up ab_up ea_low fb_up eb_up in
+    four ef_up ab_up ea_low fb_up eb_up in
     record {
       turned = ef_up;
       wide = ab_up;
