@@ -2,7 +2,7 @@
 
 ghost use Rattle.std.specs.Prelude.{◌≡◌, neg_ℤ, ◌*ℤ◌, ◌≤ℤ◌, pos};
 ghost use Rattle.std.specs.Int.{int_div_euclid};
-ghost use Rattle.exact_geom.specs.declared.limits.TheConstants.{MAX_COORDINATE_PART, MAX_CROSS, MAX_FRACTION_PART, MAX_STOP_PART};
+ghost use Rattle.exact_geom.specs.declared.limits.TheConstants.{MAX_CROSS, MAX_FRACTION_PART, MAX_STOP_PART};
 ghost use Rattle.plane_spec.specs.Fractions as fractions;
 ghost use Rattle.plane_spec.specs.Vectors.{IsDirection, IsWithin, cross_of};
 ghost use Rattle.isovist_laws.proofs.Areas.{area_of};

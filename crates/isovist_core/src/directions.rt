@@ -32,7 +32,8 @@ fn heading_to(p: Point, q: Point) -> Heading
 fn put_heading(headings: &mut Vec<Heading>, p: Point, corner: &Corner) -> Result<(), NoMemory>
     requires p_in { InRange p }
     requires corner_in { IsCornerInRange corner.now }
-    ensures { OnOk result (map step_of headings.new.items ≡ map step_of headings.old.items ++ map (isovists.vector_to_corner p) (filter (is_elsewhere p) (corner.now ∷ []))) }
+    ensures { OnOk result (map step_of headings.new.items ≡ map step_of headings.old.items
+        ++ map (isovists.vector_to_corner p) (filter (is_elsewhere p) (corner.now ∷ []))) }
 {
     if !same_point(corner.here, p) {
         headings.push(heading_to(p, corner.here))?;

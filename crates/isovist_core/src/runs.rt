@@ -78,7 +78,8 @@ fn put_sector(
     gap: &Gap,
     wall: Option<u32>,
 ) -> Result<(), NoMemory>
-    ensures { OnOk result (map run_of runs.new.items ≡ put_sector before (pair_of gap.now) wall (map run_of runs.old.items)) }
+    ensures { OnOk result (map run_of runs.new.items ≡ put_sector before (pair_of gap.now) wall
+        (map run_of runs.old.items)) }
 {
     let Some(wall) = wall else {
         return Ok(());

@@ -40,7 +40,8 @@ fn blocker(scene: &Scene, number: usize) -> Wall
 fn meeting_on(scene: &Scene, p: Point, heading: &Heading, number: u32) -> Hit
     requires p_in { InRange p }
     requires numbered { number < length (blockers_of_scene scene.now) }
-    requires turned { cross_of heading.now.step (vector (blocker_at (blockers_of_scene scene.now) number).a (blocker_at (blockers_of_scene scene.now) number).b) ≢ pos 0 }
+    requires turned { let wall = blocker_at (blockers_of_scene scene.now) number in
+        cross_of heading.now.step (vector wall.a wall.b) ≢ pos 0 }
     ensures value { result ≡ meeting_with scene.now p heading.now.step number }
     ensures wall_in { IsSegmentInRange (blocker_at (blockers_of_scene scene.now) number) }
 {
