@@ -1,10 +1,10 @@
 -- Floors and ceilings of runs' triangles, and their sums.
-use Rattle.std.proofs.Common.{◌≡◌, ◌∙◌, ℕ, suc, ◌+◌, ◌-◌, ◌*◌, ◌<◌, ◌≤◌, ℤ, pos, neg_ℤ, ◌+ℤ◌, ◌≤ℤ◌, List, [], ◌∷◌, ◌++◌, map, drop, length, get_or, refl, sym, ap, subst, arith}
+use Rattle.std.proofs.Common.{◌≡◌, ◌∙◌, ℕ, ◌+◌, ◌-◌, ◌*◌, ◌<◌, ◌≤◌, ℤ, pos, neg_ℤ, ◌+ℤ◌, ◌≤ℤ◌, List, ◌∷◌, ◌++◌, map, drop, length, get_or, refl, sym, ap, subst, arith}
 use Rattle.std.proofs.lemmas.Int.{ints}
 use Rattle.std.proofs.lemmas.List.{drop_more, drop_all, get_or_append_left, get_or-append_right, length-append}
 use Rattle.plane_spec.specs.declared.Point.{Point}
 use Rattle.plane_spec.specs.declared.Segment.{Segment}
-use Rattle.plane_spec.specs.Fractions.{Fraction, floor_of, ceil_of}
+use Rattle.plane_spec.specs.Fractions.{floor_of, ceil_of}
 use Rattle.plane_spec.specs.Segments.{IsSegmentInRange}
 use Rattle.plane_spec.specs.Vectors.{InRange, IsWithin}
 use Rattle.sight_spec.specs.Scene.{Scene, scene_of, blockers_of_scene}
@@ -17,7 +17,7 @@ use Rattle.isovist_core.specs.Sums.{area_of_run, triangle_of_run, IsOfPlan, AreS
 use Rattle.isovist_core.specs.declared.totals.IsovistTotals.{IsovistTotals}
 use Rattle.plan_spec.specs.Plan.{Plan}
 use Rattle.sight_spec.specs.Sight.{is_open}
-use Rattle.std.proofs.Common.{true, Some, Option}
+use Rattle.std.proofs.Common.{true, Some}
 use Rattle.std.specs.List.{All}
 use Rattle.list_laws.proofs.Elements.{before_map, map_twice}
 use Rattle.isovist_laws.proofs.Spanning.{runs_spanned}

@@ -1,6 +1,6 @@
 -- Runs sector by sector.
-use Rattle.std.proofs.Common.{◌≡◌, ◌∙◌, ℕ, suc, ◌+◌, ◌-◌, ◌<◌, ◌≤◌, Bool, true, false, cond, List, [], ◌∷◌, ◌++◌, map, take, length, get_or, set, Option, Some, None, refl, sym, ap, subst, arith, min}
-use Rattle.std.specs.Prelude.{◌==◌, int_le, pos, ◌||◌, if◌then◌else◌}
+use Rattle.std.proofs.Common.{◌≡◌, ◌∙◌, ℕ, ◌+◌, ◌-◌, ◌<◌, ◌≤◌, Bool, true, false, List, [], ◌∷◌, ◌++◌, map, take, length, get_or, set, Option, Some, None, refl, sym, ap, subst, arith, min}
+use Rattle.std.specs.Prelude.{int_le, pos}
 use Rattle.std.specs.List.{zip}
 use Rattle.std.proofs.lemmas.Int.{ints}
 use Rattle.std.proofs.lemmas.List.{take_more, take_all, get_or-map, length-map}
@@ -9,9 +9,8 @@ use Rattle.plane_spec.specs.declared.Point.{Point}
 use Rattle.plane_spec.specs.Vectors.{cross_of, turns_left}
 use Rattle.sight_spec.specs.Scene.{Scene}
 use Rattle.sight_spec.specs.Stops.{RayHit, ray_hit}
-use Rattle.sight_spec.specs.Isovist.{Sector, Run, run, sum_of, stops_at_once, wall_by, wall_between, sector_in, sector_by, sectors_by, sectors_of, gaps_of, corner_directions, runs_of}
+use Rattle.sight_spec.specs.Isovist.{Sector, Run, run, wall_by, wall_between, sector_in, sector_by, sectors_by, sectors_of, gaps_of, corner_directions, runs_of}
 use Rattle.sight_spec.proofs.Runs.{ends_with, reaching_to, with_run, with_sector, runs_push}
-use Rattle.int_laws.proofs.Signs.{tested_positive}
 use Rattle.list_laws.proofs.Elements.{map_twice}
 use Rattle.isovist_core.specs.declared.heading.Heading.{Heading}
 use Rattle.isovist_core.specs.declared.ray.Ray.{Ray}

@@ -1,5 +1,5 @@
 -- The directions of corners are what a stable sort of the vectors to corners leaves, without repeats.
-use Rattle.std.proofs.Common.{◌≡◌, ◌∙◌, List, map, filter, get_or, refl, sym, ap, subst}
+use Rattle.std.proofs.Common.{◌≡◌, ◌∙◌, List, map, filter, get_or, refl, sym, ap}
 use Rattle.std.specs.List.{All, dedup}
 use Rattle.std.specs.List.Sorted.{ties, IsSortedBy, IsStableBy}
 use Rattle.std.specs.Cmp.{IsStrictWeakOrder}

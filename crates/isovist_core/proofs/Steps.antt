@@ -1,12 +1,11 @@
 -- The directions of rays that are sent into gaps.
-use Rattle.std.proofs.Common.{◌≡◌, ◌∙◌, ℤ, pos, ◌+ℤ◌, ◌-ℤ◌, ◌*ℤ◌, ◌<ℤ◌, arith, Bool, true, false, refl, sym, ap, subst}
-use Rattle.std.specs.Prelude.{int_lt, int_le, not, if◌then◌else◌}
+use Rattle.std.proofs.Common.{◌≡◌, ℤ, pos, arith, true}
+use Rattle.std.specs.Prelude.{int_lt, int_le, not}
 use Rattle.std.proofs.lemmas.Int.{ints}
 use Rattle.int_laws.proofs.Ring.{times_sum}
 use Rattle.int_laws.proofs.Signs.{tested_positive}
 use Rattle.plane_spec.specs.declared.Point.{Point}
-use Rattle.plane_spec.specs.declared.TheConstants.{MAX_COMPONENT}
-use Rattle.plane_spec.specs.Vectors.{IsWithin, IsDirection, IsDirected, cross_of, point, turns_left}
+use Rattle.plane_spec.specs.Vectors.{IsDirection, IsDirected, cross_of, turns_left}
 use Rattle.sight_spec.specs.Isovist.{sum_of}
 use Rattle.isovist_laws.proofs.Directions.{directed_by_cross}
 use Rattle.isovist_core.specs.Steps.{IsStep}

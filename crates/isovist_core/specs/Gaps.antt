@@ -1,5 +1,5 @@
 -- Gaps between directions, as the code holds them, and where one looks into them.
-use Rattle.std.specs.Prelude.{ℕ, ◌+◌, nat_lt, pos, Bool, List, length, slice_index_or, if◌then◌else◌}
+use Rattle.std.specs.Prelude.{ℕ, ◌+◌, nat_lt, pos, List, length, slice_index_or, if◌then◌else◌}
 use Rattle.plane_spec.specs.declared.Point.{Point}
 use Rattle.plane_spec.specs.Vectors.{point, turns_left}
 use Rattle.sight_spec.specs.Isovist.{sum_of}

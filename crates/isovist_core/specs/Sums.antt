@@ -1,5 +1,5 @@
 -- The triangles of runs, as the code holds these, and their sums.
-use Rattle.std.specs.Prelude.{ℤ, pos, ◌≡◌, ◌≤ℤ◌, ◌*ℤ◌, ℕ, length, List, map, Option, Some, None}
+use Rattle.std.specs.Prelude.{ℤ, pos, ◌≡◌, length, List, Option, Some, None}
 use Rattle.plane_spec.specs.declared.Point.{Point}
 use Rattle.plane_spec.specs.Fractions.{Fraction}
 use Rattle.sight_spec.specs.Scene.{Scene, scene_of}

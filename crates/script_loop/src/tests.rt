@@ -12,7 +12,7 @@ use std::test::Fail;
 struct Dots;
 
 impl Answerer for Dots {
-    ghost use Rattle.std.specs.Prelude.{[], ◌∷◌, if◌then◌else◌, true, false, Unit};
+    ghost use Rattle.std.specs.Prelude.{[], ◌∷◌, if◌then◌else◌, true, false};
     ghost use Rattle.text_spec.specs.Lines.{is_long};
 
     ghost State = { Unit {0} };

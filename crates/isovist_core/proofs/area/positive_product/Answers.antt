@@ -1,4 +1,4 @@
-use Rattle.std.proofs.Common.{◌*ℤ◌, ◌*◌, ◌^◌, lit<, lit≤, arith}
+use Rattle.std.proofs.Common.{◌*ℤ◌, ◌^◌, lit<, lit≤, arith}
 use Rattle.std.specs.Prelude.{FitsSigned}
 use Rattle.std.proofs.lemmas.Int.{to_z-of_z, fits_signed_mul, ints}
 use mir.Syntax.{w128}

@@ -1,6 +1,6 @@
 use Rattle.std.proofs.Common.{ap, map, ◌∙◌}
 use Rattle.isovist_core.specs.Headings.{step_of}
-use Rattle.isovist_core.specs.Gaps.{direction_at, next_of}
+use Rattle.isovist_core.specs.Gaps.{direction_at}
 use Rattle.isovist_core.proofs.Lists.{step_at}
 use Rattle.isovist_core.proofs.gaps.gap_from.Goals as goal
 

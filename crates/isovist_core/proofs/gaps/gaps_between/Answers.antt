@@ -1,7 +1,7 @@
 use Rattle.std.proofs.Common.{map}
 use Rattle.std.proofs.lemmas.List.{map_push, length-map}
 use Rattle.isovist_core.specs.Headings.{step_of}
-use Rattle.isovist_core.specs.Gaps.{pair_of, direction_at, next_of}
+use Rattle.isovist_core.specs.Gaps.{pair_of}
 use Rattle.isovist_core.proofs.Lists.{gaps_begin, gaps_step, gaps_end}
 use Rattle.isovist_core.proofs.gaps.gaps_between.Goals as goal
 

@@ -1,4 +1,4 @@
-use Rattle.std.proofs.Common.{refl, ap, ◌∙◌}
+use Rattle.std.proofs.Common.{refl}
 use Rattle.std.proofs.lemmas.List.{map_more, take_all}
 use Rattle.list_laws.proofs.Elements.{map_twice}
 use Rattle.sight_spec.specs.Stops.{ray_hit}

@@ -1,6 +1,6 @@
 use Rattle.std.proofs.Common.{refl, sym, ap, ◌∙◌, map}
 use Rattle.isovist_core.specs.Sightings.{run_of}
-use Rattle.isovist_core.proofs.Sectors.{no_runs, runs_step, last_step, all_sectors, sectors_in}
+use Rattle.isovist_core.proofs.Sectors.{no_runs, runs_step, last_step, all_sectors}
 use Rattle.sight_spec.specs.Isovist.{runs_of}
 use Rattle.isovist_core.proofs.runs.runs_by.Goals as goal
 
