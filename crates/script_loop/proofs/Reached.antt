@@ -96,7 +96,7 @@ reached-end step first now old new script middle left before after refused bytes
 pub reached-failed : {S : Type 0} (step : S → ℕ → List ℕ → LineStep S) (first now : S) (old new : LineReader)
     (script middle left before after : Option (List ℕ)) (refused : Bool) (bytes part : List ℕ) (lines : List (List ℕ)) (limit : ℕ)
     → Reached step first now old script middle before after refused bytes lines → Stopped old new middle left part
-    → bytes_read old + length part ≤ limit → WholeAnswered step limit first script left before after
+    → bytes_read old + length part ≤ limit → WholeAnswered step limit first now script left before after
 reached-failed step first now old new script middle left before after refused bytes part lines limit r stopped within =
     let read = has_read-part old new script middle left bytes lines part r.reading stopped in
     record {
@@ -104,6 +104,7 @@ reached-failed step first now old new script middle left before after refused by
       taken = read.0;
       within = omega (arith, r.reading.count, within, length-append bytes part);
       written = r.written ∙ ap (λ ls. appended_to before (replies_by step first 1 ls)) (sym read.1);
+      leaves = r.leaves ∙ ap (state_after step first 1) (sym read.1);
     }
 
 -- a byte past the limit
@@ -111,7 +112,7 @@ pub reached-over : {S : Type 0} (step : S → ℕ → List ℕ → LineStep S) (
     (script middle rest left before after : Option (List ℕ)) (refused : Bool) (bytes part extra : List ℕ) (lines : List (List ℕ)) (limit : ℕ)
     → Reached step first now old script middle before after refused bytes lines → Stopped old new middle rest part
     → bytes_read old + length part ≡ limit → length extra ≡ 1 → IsPrefix rest extra left
-    → WithinAnswered step limit first script left before after
+    → WithinAnswered step limit first now script left before after
 reached-over step first now old new script middle rest left before after refused bytes part extra lines limit r stopped full one taken =
     record {
       bytes = (bytes ++ part) ++ extra;
@@ -119,6 +120,7 @@ reached-over step first now old new script middle rest left before after refused
       beyond = omega (arith, within, one, length-append (bytes ++ part) extra);
       written =
           r.written ∙ ap (λ ls. appended_to before (replies_by step first 1 ls)) (sym (ap whole_lines_of first_part ∙ read.1));
+      leaves = r.leaves ∙ ap (state_after step first 1) (sym (ap whole_lines_of first_part ∙ read.1));
     }
   where
     read : IsPrefix script (bytes ++ part) rest × (whole_lines_of (bytes ++ part) ≡ lines)

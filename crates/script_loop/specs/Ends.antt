@@ -18,21 +18,24 @@ pub record AllAnswered {S : Type 0} (step : S → ℕ → List ℕ → LineStep 
   pub leaves : last ≡ state_after step first 1 (lines_of text)
   pub refusal : refused ≡ has_refusal_by step first 1 (lines_of text)
 
--- exactly the replies to the whole lines of the bytes that were taken were written
-pub record WholeAnswered {S : Type 0} (step : S → ℕ → List ℕ → LineStep S) (limit : ℕ) (first : S)
+-- exactly the replies to the whole lines of the bytes that were taken were written; the state that these lines leave
+pub record WholeAnswered {S : Type 0} (step : S → ℕ → List ℕ → LineStep S) (limit : ℕ) (first last : S)
     (script left before after : Option (List ℕ)) : Type 0 where
   pub bytes : List ℕ
   pub taken : IsPrefix script bytes left
   pub within : length bytes ≤ limit
   pub written : after ≡ appended_to before (replies_by step first 1 (whole_lines_of bytes))
+  pub leaves : last ≡ state_after step first 1 (whole_lines_of bytes)
 
--- one byte more than the limit was taken, and exactly the replies to the lines whose newline is within the limit were written
-pub record WithinAnswered {S : Type 0} (step : S → ℕ → List ℕ → LineStep S) (limit : ℕ) (first : S)
+-- one byte more than the limit was taken, and exactly the replies to the lines whose newline is within the limit were
+-- written; the state that these lines leave
+pub record WithinAnswered {S : Type 0} (step : S → ℕ → List ℕ → LineStep S) (limit : ℕ) (first last : S)
     (script left before after : Option (List ℕ)) : Type 0 where
   pub bytes : List ℕ
   pub taken : IsPrefix script bytes left
   pub beyond : length bytes ≡ limit + 1
   pub written : after ≡ appended_to before (replies_by step first 1 (whole_lines_of (take limit bytes)))
+  pub leaves : last ≡ state_after step first 1 (whole_lines_of (take limit bytes))
 
 -- a prefix of the replies to the whole lines of the bytes that were taken was written; or nothing is left of the script, and a
 -- prefix of the replies to all its lines was
@@ -50,10 +53,10 @@ abbrev pub Leaves : {S : Type 0} → (S → ℕ → List ℕ → LineStep S) →
     → Option (List ℕ) → Option (List ℕ) → ScriptEnd → Type 0
 Leaves step limit first last script left before after (All refused) =
     AllAnswered step limit first last script left before after refused
-Leaves step limit first last script left before after Failed = WholeAnswered step limit first script left before after
+Leaves step limit first last script left before after Failed = WholeAnswered step limit first last script left before after
 Leaves step limit first last script left before after Unwritten = PartAnswered step limit first script left before after
 Leaves step limit first last script left before after NoMemory = PartAnswered step limit first script left before after
-Leaves step limit first last script left before after Over = WithinAnswered step limit first script left before after
+Leaves step limit first last script left before after Over = WithinAnswered step limit first last script left before after
 
 -- which count of faults rose, if any: the script's, and the output's, each before and after
 abbrev pub Counts : ℕ → ℕ → ℕ → ℕ → ScriptEnd → Type 0

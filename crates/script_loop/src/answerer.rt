@@ -27,7 +27,8 @@ pub trait Answerer {
     ghost step: { State → ℕ → List ℕ → LineStep State };
 
     /// Answers a line on `out`, shown without its newline and a carriage return before it, or `None` where it was too long
-    /// and is skipped; whether it is refused. After a fault a prefix of the reply was written.
+    /// and is skipped; whether it is refused. After a fault a prefix of the reply was written,
+    /// and any state is left.
     fn answer<O: Sink>(
         &mut self,
         number: u64,

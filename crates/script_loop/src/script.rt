@@ -13,9 +13,9 @@ pub enum ScriptEnd {
     All(bool),
     /// The script failed; its count of faults rose. All lines that came whole were answered.
     Failed,
-    /// The sink failed; its count of faults rose.
+    /// The sink failed; its count of faults rose. Of the answerer's state nothing is said then.
     Unwritten,
-    /// There is no memory.
+    /// There is no memory. Of the answerer's state nothing is said then.
     NoMemory,
     /// The script is longer than the limit. All lines whose newline is within it were answered.
     Over,

@@ -1,13 +1,13 @@
 //! A script answered line by line, with lines of all endings, in pieces, and with faults.
 
-ghost use Rattle.std.specs.Prelude.{IsTrue, ◌≡◌};
+ghost use Rattle.std.specs.Prelude.{◌<◌, ◌≤◌, ◌^◌};
 
 use crate::answerer::{AnswerFault, Answerer};
 use crate::script::{ScriptEnd, answer_script};
 use dm_io::{MemSink, MemSource, Sink, put_all};
 use std::test::Fail;
 
-/// Answers a line with a dot, and refuses one that is too long with a stroke.
+/// Answers a line with a dot, and refuses one that is too long with an exclamation mark.
 #[derive(Drop)]
 struct Dots;
 
@@ -35,42 +35,68 @@ impl Answerer for Dots {
     }
 }
 
-/// A script, how many bytes a take gives, which take fails, the limit; how it ends, and what is written.
+/// Answers a script of which a take gives `most` bytes, where the calls of a number fail: how that ends, and what is written.
+fn answered(
+    rt: &HostRuntime,
+    text: &[u8],
+    most: usize,
+    limit: u64,
+    script_fails: &[u64],
+    out_fails: &[u64],
+) -> Result<(ScriptEnd, MemSink), Fail>
+    requires most { 1 ≤ most }
+    requires limit { limit < 2 ^ 63 }
+{
+    let mut bytes = Vec::new(rt.alloc());
+    bytes.extend_from_slice(text)?;
+    let mut failing = Vec::new(rt.alloc());
+    failing.extend_from_slice(script_fails)?;
+    let mut script = MemSource::new(bytes, most, failing);
+    let mut failing = Vec::new(rt.alloc());
+    failing.extend_from_slice(out_fails)?;
+    let mut out = MemSink::new(rt.alloc(), 8, 8, failing)?;
+    let end = answer_script(&mut Dots, limit, &mut script, &mut out);
+    Ok((end, out))
+}
+
+/// A script, how many bytes a take gives, the limit, which takes fail, which puts fail; how it ends, and what is written.
 type Row = (
     &'static [u8],
     usize,
-    Option<u64>,
     u64,
+    &'static [u64],
+    &'static [u64],
     ScriptEnd,
     &'static [u8],
 );
 
 #[test]
 fn each_line_is_answered_once(rt: HostRuntime) -> Result<(), Fail> {
-    let table: [Row; 8] = [
-        (b"", 1, None, 9, ScriptEnd::All(false), b""),
-        (b"a", 1, None, 9, ScriptEnd::All(false), b"."),
-        (b"a\n", 4096, None, 9, ScriptEnd::All(false), b"."),
-        (b"a\r\n\nb", 1, None, 9, ScriptEnd::All(false), b"..."),
-        (b"a\nb\nc", 2, None, 5, ScriptEnd::All(false), b"..."),
-        (b"a\nb\nc", 2, None, 4, ScriptEnd::Over, b".."),
-        (b"a\nb\nc", 1, Some(3), 9, ScriptEnd::Failed, b"."),
-        (b"a\nb\nc", 1, Some(0), 9, ScriptEnd::Failed, b""),
+    let table: [Row; 9] = [
+        (b"", 1, 9, &[], &[], ScriptEnd::All(false), b""),
+        (b"a", 1, 9, &[], &[], ScriptEnd::All(false), b"."),
+        (b"a\n", 4096, 9, &[], &[], ScriptEnd::All(false), b"."),
+        (b"a\r\n\nb", 1, 9, &[], &[], ScriptEnd::All(false), b"..."),
+        (b"a\nb\nc", 2, 5, &[], &[], ScriptEnd::All(false), b"..."),
+        (b"a\nb\nc", 2, 4, &[], &[], ScriptEnd::Over, b".."),
+        (b"a\nb\nc", 1, 9, &[3], &[], ScriptEnd::Failed, b"."),
+        (b"a\nb\nc", 1, 9, &[0], &[], ScriptEnd::Failed, b""),
+        (b"a\nb\nc", 1, 9, &[], &[1], ScriptEnd::Unwritten, b"."),
     ];
-    for (text, most, fails, limit, wanted, written) in table {
-        let mut bytes = Vec::new(rt.alloc());
-        bytes.extend_from_slice(text)?;
-        let mut failing = Vec::new(rt.alloc());
-        if let Some(call) = fails {
-            failing.push(call)?;
-        }
-        let mut script = MemSource::new(bytes, most, failing);
-        let mut out = MemSink::new(rt.alloc(), 8, 8, Vec::new(rt.alloc()))?;
-        assert_eq!(rt;
-            answer_script(&mut Dots, limit, &mut script, &mut out),
-            wanted
-        );
+    for (text, most, limit, script_fails, out_fails, wanted, written) in table {
+        let (end, out) = answered(&rt, text, most, limit, script_fails, out_fails)?;
+        assert_eq!(rt; end, wanted);
         assert!(rt; out.bytes() == written);
     }
+    Ok(())
+}
+
+#[test]
+fn a_line_that_is_too_long_is_refused(rt: HostRuntime) -> Result<(), Fail> {
+    let mut text = vec![in rt.alloc(); b'a'; 20001]?;
+    text.extend_from_slice(b"\nb\n")?;
+    let (end, out) = answered(&rt, &text, 4096, 30000, &[], &[])?;
+    assert_eq!(rt; end, ScriptEnd::All(true));
+    assert!(rt; out.bytes() == b"!.".as_slice());
     Ok(())
 }

@@ -38,9 +38,9 @@ ghost use Rattle.station_laws.specs.Grounds.{HasCornerAt, IsFreeOfCorners, IsGro
 /// What a station stands on, the first corner at it, else a wall through it, else nothing, decides which directions
 /// begin blocked.
 pub fn the_ground_decides_what_begins_blocked()
-    ensures { (plan : Plan) (p d : Point) (ground : Ground) → is_sound plan ≡ true
-        → IsGroundOf (scene_of plan) p ground
-        → begins_blocked (scene_of plan) p d ≡ is_led_into ground d }
+    ensures { (plan : Plan) (p d : Point) (under : Ground) → is_sound plan ≡ true
+        → IsGroundOf (scene_of plan) p under
+        → begins_blocked (scene_of plan) p d ≡ is_led_into under d }
 {}
 
 /// At both ends of each wall and screen that is seen from p stands a corner of the scene.
