@@ -1,0 +1,3 @@
+mod BoxNames
+mod BoxByBox
+mod Roots
