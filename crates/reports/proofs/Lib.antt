@@ -1,0 +1,5 @@
+mod CsvRecords
+mod FieldAt
+mod JoinedFields
+mod PlainFields
+mod RowByRow
