@@ -1,4 +1,5 @@
 mod CsvRecords
+mod Elements
 mod FieldAt
 mod JoinedFields
 mod PlainFields

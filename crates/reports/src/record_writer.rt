@@ -51,7 +51,7 @@ fn add_as_text<O: Sink>(
 }
 
 /// Puts the records in csv form that gathered.
-fn put_csv<O: Sink>(csv: &mut CsvText, out: &mut O) -> Result<(), ReportFault>
+pub fn put_csv<O: Sink>(csv: &mut CsvText, out: &mut O) -> Result<(), ReportFault>
     ensures empty { csv.new ≡ [] }
     ensures all { OnOk result (O.written out.new ≡ appended_to (O.written out.old) csv.old) }
     ensures prefix { OnErr result (WritesPrefix (O.written out.old) (O.written out.new) csv.old) }

@@ -1,6 +1,6 @@
 //! Tables: a record that begins one, rows, and a record that ends it with their number.
 
-ghost use Rattle.std.specs.Prelude.{◌≡◌, ◌++◌, ◌<◌, ◌^◌, ℕ, List, Bool, true, IfOk, IfSome, OnErr, OnOk, codes, ◌∷◌, length, option_map};
+ghost use Rattle.std.specs.Prelude.{◌≡◌, ◌++◌, [], ◌<◌, ◌^◌, ℕ, List, Bool, true, IfOk, IfSome, OnErr, OnOk, codes, ◌∷◌, length, option_map};
 ghost use Rattle.dm_io.specs.Streams.{WritesPrefix, appended_to};
 ghost use Rattle.dm_io.specs.OutputBuffer.{WritesAndBuffers};
 ghost use Rattle.report_spec.specs.Records.{records_bytes, table, table_with_total};
@@ -88,6 +88,32 @@ fn add_total<O: Sink>(
     }
 }
 
+/// Puts a table by its rows, with the record of totals where there is one. `row` is memory for a record.
+fn write_table<O: Sink, R: Rows>(
+    writer: &mut RecordWriter,
+    row: &mut Record,
+    out: &mut O,
+    kind: &[u8],
+    rows: &mut R,
+    total: Option<&Record>,
+) -> Result<(), ReportFault>
+    requires empty { writer.old.bytes ≡ [] }
+    requires kind { is_plain kind.now ≡ true }
+    requires few { length (R.left rows.old) < 2 ^ 64 }
+    requires total { IfSome total (λ t. is_visible t.now ≡ true) }
+    ensures all { OnOk result (O.written out.new ≡ appended_to (O.written out.old) (records_bytes writer.old.form (table_by kind.now (R.left rows.old) (option_map (λ t. t.now) total.entry)))) }
+    ensures prefix { OnErr result (WritesPrefix (O.written out.old) (O.written out.new) (records_bytes writer.old.form (table_by kind.now (R.left rows.old) (option_map (λ t. t.now) total.entry)))) }
+    ensures faults { Counts result (O.faults out.old) (O.faults out.new) }
+{
+    make_head(row, kind)?;
+    writer.add(out, row)?;
+    let count = add_rows(writer, out, row, rows)?;
+    add_total(writer, out, total)?;
+    make_end(row, count)?;
+    writer.add(out, row)?;
+    writer.flush(out)
+}
+
 /// Prints a table by its rows, with the record of totals where there is one.
 fn put_table_by<O: Sink, R: Rows>(
     alloc: Global,
@@ -106,13 +132,7 @@ fn put_table_by<O: Sink, R: Rows>(
 {
     let mut writer = RecordWriter::new(alloc, form);
     let mut row = Record::new(alloc);
-    make_head(&mut row, kind)?;
-    writer.add(out, &row)?;
-    let count = add_rows(&mut writer, out, &mut row, rows)?;
-    add_total(&mut writer, out, total)?;
-    make_end(&mut row, count)?;
-    writer.add(out, &row)?;
-    writer.flush(out)
+    write_table(&mut writer, &mut row, out, kind, rows, total)
 }
 
 /// Prints a table of a kind: the record that begins it, the rows that are left, and the record that ends it with their
