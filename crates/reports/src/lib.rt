@@ -6,6 +6,7 @@
 //! | [`put_edges`] | the edges of a graph |
 //! | [`put_points`], [`put_depth`] | numbered points with their measures, or with their depths |
 //! | [`put_lines`] | the measures of axial lines |
+//! | [`put_turns`] | the turn depths of the pieces of routes |
 //! | [`put_plan`] | the lines of a plan's text |
 //! | [`put_trial`] | the record of a trial |
 //! | [`put_table`], [`put_table_with_total`] | any table, by its rows |
@@ -37,6 +38,7 @@ mod record_writer;
 mod replies;
 mod row_text;
 mod table;
+mod turns;
 mod words;
 
 pub use edges::put_edges;
@@ -47,4 +49,5 @@ pub use points::{put_depth, put_points};
 pub use record::Record;
 pub use replies::{put_ok, put_refused, put_trial};
 pub use table::{Rows, put_table, put_table_with_total};
+pub use turns::put_turns;
 pub use words::reason_parts;
