@@ -3,4 +3,5 @@ mod Elements
 mod FieldAt
 mod JoinedFields
 mod PlainFields
+mod RouteNames
 mod RowByRow

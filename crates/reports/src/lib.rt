@@ -5,7 +5,9 @@
 //! | [`put_ok`], [`put_refused`] | the reply to a line of a script |
 //! | [`put_edges`] | the edges of a graph |
 //! | [`put_points`], [`put_depth`] | numbered points with their measures, or with their depths |
-//! | [`put_lines`] | the measures of axial lines |
+//! | [`put_isovist`] | the triangles of an isovist |
+//! | [`put_axial`], [`put_lines`] | axial lines, and their measures |
+//! | [`put_segments`] | the pieces of routes |
 //! | [`put_turns`] | the turn depths of the pieces of routes |
 //! | [`put_plan`] | the lines of a plan's text |
 //! | [`put_trial`] | the record of a trial |
@@ -26,9 +28,11 @@
 //! After an error a prefix of the table was printed; `Write` comes only where the sink's count of faults rose.
 #![tactic(auto)]
 
+mod axial;
 mod csv_text;
 mod edges;
 mod fault;
+mod isovists;
 mod lines;
 mod lists;
 mod plans;
@@ -37,17 +41,21 @@ mod record;
 mod record_writer;
 mod replies;
 mod row_text;
+mod segments;
 mod table;
 mod turns;
 mod words;
 
+pub use axial::put_axial;
 pub use edges::put_edges;
 pub use fault::ReportFault;
+pub use isovists::put_isovist;
 pub use lines::put_lines;
 pub use plans::put_plan;
 pub use points::{put_depth, put_points};
 pub use record::Record;
 pub use replies::{put_ok, put_refused, put_trial};
+pub use segments::put_segments;
 pub use table::{Rows, put_table, put_table_with_total};
 pub use turns::put_turns;
 pub use words::reason_parts;
