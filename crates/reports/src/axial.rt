@@ -53,7 +53,8 @@ impl<'a> Rows for AxialRows<'a> {
     }
 }
 
-/// Prints the table of axial lines in the order of their numbers: number, the numbers of both corners, and the two ends.
+/// Prints the table of axial lines in the order of their numbers: number, the numbers of both corners, and the two
+/// ends.
 ///
 /// Cost: one pass over the lines, and a call of the sink for each 64 KiB; memory for one row, and in csv form for some
 /// thousand records.

@@ -53,8 +53,8 @@ impl<'a> Rows for EdgeRows<'a> {
 
 /// Prints the table of the edges of a graph, each once, its smaller node first, in order.
 ///
-/// Cost: two passes over the words of the graph and one over its edges, and a call of the sink for each 64 KiB; memory for
-/// one row, and in csv form for some thousand records.
+/// Cost: two passes over the words of the graph and one over its edges, and a call of the sink for each 64 KiB; memory
+/// for one row, and in csv form for some thousand records.
 pub fn put_edges<O: Sink>(
     alloc: Global,
     out: &mut O,

@@ -64,8 +64,8 @@ impl<'a> Rows for TriangleRows<'a> {
 /// Prints the table of an isovist: its triangles, and then the sums of the floors and of the ceilings of their doubled
 /// areas.
 ///
-/// Cost: one pass over the triangles, and a call of the sink for each 64 KiB; memory for one row, and in csv form for some
-/// thousand records.
+/// Cost: one pass over the triangles, and a call of the sink for each 64 KiB; memory for one row, and in csv form for
+/// some thousand records.
 #[tactic(auto, unfolding(report_spec::specs::Tables::isovist_table))]
 pub fn put_isovist<O: Sink>(
     alloc: Global,

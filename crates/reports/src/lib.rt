@@ -24,8 +24,8 @@
 //! ```
 //!
 //! What is printed is what the tables over values in `specs/Tables.antt` and the replies in `specs/Replies.antt` of
-//! `report_spec` say of the arguments. A new table costs its rows: a type with [`Rows`], whose `next_row` makes one row.
-//! After an error a prefix of the table was printed; `Write` comes only where the sink's count of faults rose.
+//! `report_spec` say of the arguments. A new table costs its rows: a type with [`Rows`], whose `next_row` makes one
+//! row. After an error a prefix of the table was printed; `Write` comes only where the sink's count of faults rose.
 #![tactic(auto)]
 
 mod axial;

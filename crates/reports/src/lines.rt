@@ -51,8 +51,8 @@ impl<'a> Rows for LineRows<'a> {
     }
 }
 
-/// Prints the table of what is measured at lines, in the order of their numbers: number, connectivity, reached, total and
-/// mean depth and relative asymmetry.
+/// Prints the table of what is measured at lines, in the order of their numbers: number, connectivity, reached, total
+/// and mean depth and relative asymmetry.
 ///
 /// Cost: one pass over the lines, and a call of the sink for each 64 KiB; memory for one row, and in csv form for some
 /// thousand records.

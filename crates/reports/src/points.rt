@@ -98,8 +98,8 @@ impl<'a> Rows for DepthRows<'a> {
     }
 }
 
-/// Prints the table of numbered points, as those that are open: number, x, y, connectivity, reached, total and mean depth
-/// and relative asymmetry. The measures are those of all nodes, each at its number.
+/// Prints the table of numbered points, as those that are open: number, x, y, connectivity, reached, total and mean
+/// depth and relative asymmetry. The measures are those of all nodes, each at its number.
 ///
 /// Cost: one pass over the points, and a call of the sink for each 64 KiB; memory for one row, and in csv form for some
 /// thousand records.

@@ -15,8 +15,8 @@ use std::alloc::Global;
 use std::marker::Model;
 use text_spec::{Name, NoMemory};
 
-/// A record that is made field by field, in memory that is used again for the next one. No field needs quotes in csv form.
-/// Contracts see the list of the fields.
+/// A record that is made field by field, in memory that is used again for the next one. No field needs quotes in csv
+/// form. Contracts see the list of the fields.
 ///
 /// A call that answers [`NoMemory`] leaves any fields.
 #[derive(Drop)]

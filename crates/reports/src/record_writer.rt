@@ -16,7 +16,8 @@ use options_spec::Form;
 use std::alloc::Global;
 use std::marker::Model;
 
-/// Records in a form, which gather and go to a sink in pieces of 64 KiB. Contracts see the form, and the bytes that wait.
+/// Records in a form, which gather and go to a sink in pieces of 64 KiB. Contracts see the form, and the bytes that
+/// wait.
 #[derive(Drop)]
 pub struct RecordWriter {
     form: Form,
@@ -89,8 +90,8 @@ impl RecordWriter {
         }
     }
 
-    /// Adds a record behind the bytes that wait, and puts these where they are many. After an error a prefix of all that
-    /// was to be put was written.
+    /// Adds a record behind the bytes that wait, and puts these where they are many. After an error a prefix of all
+    /// that was to be put was written.
     pub fn add<O: Sink>(&mut self, out: &mut O, row: &Record) -> Result<(), ReportFault>
         requires { is_visible row.now ≡ true }
         ensures form { self.new.form ≡ self.old.form }

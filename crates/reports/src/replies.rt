@@ -110,8 +110,8 @@ pub fn put_ok<O: Sink>(
     put_record(alloc, out, form, &row)
 }
 
-/// Prints the reply to a line that is refused: `refused N WHY`, where WHY is a word, and the name or the limit that it is
-/// about.
+/// Prints the reply to a line that is refused: `refused N WHY`, where WHY is a word, and the name or the limit that it
+/// is about.
 ///
 /// Cost: a call of the sink; memory for the record.
 pub fn put_refused<O: Sink>(

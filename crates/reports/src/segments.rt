@@ -95,8 +95,8 @@ impl<'a> Rows for SegmentRows<'a> {
     }
 }
 
-/// Prints the table of the pieces of a plan's routes in the order of their numbers: number, the route's name, both ends in
-/// the order along the route, and how many neighbours it has.
+/// Prints the table of the pieces of a plan's routes in the order of their numbers: number, the route's name, both
+/// ends in the order along the route, and how many neighbours it has.
 ///
 /// Cost: one pass over the pieces, and a call of the sink for each 64 KiB; memory for one row, and in csv form for some
 /// thousand records.

@@ -156,8 +156,8 @@ pub fn put_table<O: Sink, R: Rows>(
     put_table_by(alloc, out, form, kind, rows, None)
 }
 
-/// Prints a table of a kind as [`put_table`] does, with a record of totals after the rows, which isn't counted. Its first
-/// field is `total`.
+/// Prints a table of a kind as [`put_table`] does, with a record of totals after the rows, which isn't counted. Its
+/// first field is `total`.
 pub fn put_table_with_total<O: Sink, R: Rows>(
     alloc: Global,
     out: &mut O,

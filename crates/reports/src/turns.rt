@@ -112,8 +112,8 @@ impl<'a> Rows for TurnRows<'a> {
     }
 }
 
-/// Prints the table of turn depths in the order of the pieces: number, turn depth or `-`; then how many pieces have one, the
-/// sum of these, and their mean over the pieces other than the source.
+/// Prints the table of turn depths in the order of the pieces: number, turn depth or `-`; then how many pieces have
+/// one, the sum of these, and their mean over the pieces other than the source.
 ///
 /// Cost: three passes over the depths, and a call of the sink for each 64 KiB; memory for one row, and in csv form for
 /// some thousand records.

@@ -39,7 +39,8 @@ fn grid(c: u32) -> GridSpec
     }
 }
 
-/// The items of the trial plan of `n` boxes: a square room, a grid of four points a cell, and the boxes. They are accepted.
+/// The items of the trial plan of `n` boxes: a square room, a grid of four points a cell, and the boxes. They are
+/// accepted.
 ///
 /// Cost: one pass over the boxes, and memory for the items.
 pub fn trial(alloc: Global, n: u32) -> Result<PlanData, NoMemory>
