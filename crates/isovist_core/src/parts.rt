@@ -2,6 +2,8 @@
 
 ghost use Rattle.std.specs.Prelude.{◌≡◌};
 
+use crate::fault::IsovistFault;
+use crate::totals::IsovistTotals;
 use crate::triangle::Triangle;
 use std::marker::Model;
 
@@ -23,6 +25,17 @@ impl Model for IsovistParts {
 }
 
 impl IsovistParts {
+    /// The isovist of these triangles, whose sums these are.
+    pub(crate) fn of(triangles: Vec<Triangle>, floor: i128, ceil: i128) -> IsovistParts
+        ensures { result ≡ record { triangles = triangles.items; floor = floor; ceil = ceil } }
+    {
+        IsovistParts {
+            triangles,
+            floor,
+            ceil,
+        }
+    }
+
     /// The triangles, counterclockwise from (1,0).
     pub fn triangles(&self) -> &[Triangle]
         ensures { result.now ≡ self.now.triangles }
@@ -47,8 +60,10 @@ impl IsovistParts {
 
 fn is_shared<T: Send + Sync>() {}
 
-/// Both types may be moved to another thread and shared between threads.
+/// Every type that this crate offers may be moved to another thread and shared between threads.
 pub fn types_are_shared() {
     is_shared::<Triangle>();
     is_shared::<IsovistParts>();
+    is_shared::<IsovistTotals>();
+    is_shared::<IsovistFault>();
 }

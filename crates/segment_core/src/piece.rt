@@ -4,7 +4,7 @@ use exact_geom::{Point, RPoint};
 use std::marker::Model;
 
 /// A part of a route between two cuts or ends: the number of the route, counted from 0 in plan order, the points between
-/// which the part lies, in the route's direction, and that direction, from the route's first point to its last in the
+/// which the part lies, in the order along the route, and the vector from the route's first point to its second, in the
 /// plan's own unit.
 #[derive(Clone, Copy, Debug, PartialEq, Eq)]
 pub struct Piece {

@@ -1,15 +1,15 @@
 -- Marks of nodes with their depths.
 use Rattle.graph_laws.proofs.SameGraphs.{joins_no_other}
-use Rattle.std.proofs.Common.{◌≡◌, ◌≢◌, ℕ, suc, ◌+◌, ◌*◌, ◌/◌, ◌%◌, ◌<◌, ◌≤◌, Bool, true, false, List, length, get_or, set, Option, None, Some, refl, sym, ap, ◌∙◌, inl, inr, arith}
-use Rattle.std.proofs.lemmas.Bool.{cases_eq, cases_lt, cases_Bool}
+use Rattle.std.proofs.Common.{◌≡◌, ◌≢◌, ℕ, ◌+◌, ◌*◌, ◌/◌, ◌%◌, ◌<◌, ◌≤◌, Bool, true, false, List, length, get_or, set, Option, None, Some, refl, sym, ap, ◌∙◌, inl, inr, arith}
+use Rattle.std.proofs.lemmas.Bool.{cases_eq, cases_lt}
 use Rattle.std.proofs.lemmas.List.{get_or-set_same, get_or-set_other, length-set}
 use Rattle.std.proofs.lemmas.Nat.Bits.{bit_at-zero}
-use Rattle.std.proofs.Common.{cond, eqb, ltb}
+use Rattle.std.proofs.Common.{cond, ltb}
 use Rattle.std.proofs.lemmas.Bool.{eq-eqb, ne_eqb, lt-ltb, le-ltb}
 use Rattle.std.proofs.lemmas.List.FromFn.{fill_by_all}
 use Rattle.graph_spec.specs.Graphs.{IsSimpleGraph, Graph, depth_of, depths_of}
-use Rattle.vga_grid.specs.Rows.{width, bit_of}
-use Rattle.step_depth.specs.Levels.{Level, IsMarked, IsClosed, is_at, is_beyond}
+use Rattle.vga_grid.specs.Rows.{bit_of}
+use Rattle.step_depth.specs.Levels.{IsMarked, IsClosed, is_at, is_beyond}
 use Rattle.step_depth.proofs.Layers.{none_or_some, source_depth, at_source}
 use Rattle.step_depth.proofs.Spreading.{Spreading, reached_within, total_within}
 

@@ -3,7 +3,7 @@ use Rattle.graph_laws.proofs.SameGraphs.{joins_no_other}
 use Rattle.std.specs.Prelude.{not}
 use Rattle.std.proofs.Common.{◌≡◌, ◌≢◌, ℕ, zero, suc, ◌+◌, ◌-◌, ◌*◌, ◌<◌, ◌≤◌, Bool, true, false, ◌&&◌, cond, eqb, ltb, List, length, Option, None, Some, is_some, unwrap_or, refl, sym, ap, ◌∙◌, inl, inr, arith, subst}
 use Rattle.std.proofs.lemmas.Bool.{cases_eq, cases_lt, cases_Bool, eq-eqb, ne_eqb, eqb-true, lt-ltb, le-ltb}
-use Rattle.std.specs.List.{sum_by, count_by, range_with_len}
+use Rattle.std.specs.List.{sum_by, count_by}
 use Rattle.graph_spec.specs.Graphs.{IsSimpleGraph, Graph, nodes, depth_of, depths_of, total_depth}
 use Rattle.vga_grid.specs.declared.limits.TheConstants.{MAX_NODES}
 use Rattle.vga_grid.specs.Rows.{width, bit_of}

@@ -1,12 +1,19 @@
 -- What a step from one level to the next does.
-use Rattle.std.specs.Prelude.{◌≡◌, ℕ, ◌<◌, ◌≤◌, ◌&&◌, ◌==◌, Bool, true, false, nat_lt, List, slice_index, slice_index_or, Option, None, Some}
+use Rattle.std.specs.Prelude.{◌≡◌, ℕ, ◌+◌, ◌*◌, ◌<◌, ◌&&◌, ◌==◌, Bool, true, false, nat_lt, List, slice_index, slice_index_or, Option, None, Some}
 use Rattle.graph_spec.specs.Graphs.{Graph, depth_of}
+use Rattle.vga_grid.specs.Sets.{is_set}
 
 -- of the missing nodes those remain that are no neighbours of the first nodes of the list; no other is gone but neighbours of listed nodes
 pub record IsPushed (joins : ℕ → ℕ → Bool) (list : List ℕ) (listed done : ℕ) (before after : ℕ → Bool) : Type 0 where
   pub fewer : (v : ℕ) → after v ≡ true → before v ≡ true
   pub found : (v : ℕ) → before v ≡ true → after v ≡ false → (t : ℕ) × (t < listed) × (joins (slice_index list t) v ≡ true)
   pub pushed : (t v : ℕ) → t < done → joins (slice_index list t) v ≡ true → after v ≡ false
+
+-- of the missing nodes those remain that are no neighbours of the nodes of word k; no other is gone
+pub record IsWordPushed (joins : ℕ → ℕ → Bool) (k word : ℕ) (before after : ℕ → Bool) : Type 0 where
+  pub fewer : (v : ℕ) → after v ≡ true → before v ≡ true
+  pub found : (v : ℕ) → before v ≡ true → after v ≡ false → (b : ℕ) × (b < 64) × (is_set word b ≡ true) × (joins (64 * k + b) v ≡ true)
+  pub pushed : (b v : ℕ) → b < 64 → is_set word b ≡ true → joins (64 * k + b) v ≡ true → after v ≡ false
 
 -- no missing nodes are gone but neighbours of the front
 pub record IsPart (joins : ℕ → ℕ → Bool) (front before after : ℕ → Bool) : Type 0 where

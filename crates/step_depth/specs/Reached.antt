@@ -1,5 +1,5 @@
 -- What a node reaches, as a value.
-use Rattle.std.specs.Prelude.{◌≡◌, ℕ, ◌-◌, ◌*◌, List, map, count_by, is_some, min}
+use Rattle.std.specs.Prelude.{ℕ, ◌-◌, ◌*◌, List, map, count_by, is_some, min}
 use Rattle.std.specs.List.{range_with_len}
 use Rattle.graph_spec.specs.Graphs.{Graph, Measures, nodes, depths_of, total_depth, measures_of}
 use Rattle.step_depth.specs.declared.reach.Reach.{Reach}

@@ -4,12 +4,12 @@ ghost use Rattle.std.specs.Prelude.{◌≡◌, ◌≢◌, ℕ, ◌+◌, ◌*◌,
 ghost use Rattle.graph_spec.specs.Graphs.{nodes, depths_of, total_depth};
 ghost use Rattle.vga_grid.specs.Rows.{width, bit_of, is_joined, graph_of};
 ghost use Rattle.vga_grid.specs.Sets.{is_set, size};
-ghost use Rattle.step_depth.specs.Levels.{IsPushed, IsPart, IsLooked, IsClosed, Level};
+ghost use Rattle.step_depth.specs.Levels.{IsPushed, IsWordPushed, IsPart, IsLooked, IsClosed, Level};
 
 use crate::reach::Reach;
 use crate::sets::{
-    assign_without, cleared, complement, count, gather, has, lowest, meet, remove, take_four_out,
-    take_out,
+    assign_without, cleared, complement, count, gather, has, lowest, meet, next_word, remove,
+    take_four_out, take_out,
 };
 use vga_grid::BitGraph;
 
@@ -110,6 +110,37 @@ fn pull(graph: &BitGraph, front: &[u64], missing: &mut [u64])
     }
 }
 
+/// Takes the neighbours of the nodes of word `k` out of what is missing.
+fn push_word(graph: &BitGraph, missing: &mut [u64], k: usize, word: u64)
+    requires within { k < width graph.now.count }
+    requires nodes { (b : ℕ) → b < 64 → is_set word b ≡ true → 64 * k + b < graph.now.count }
+    requires sized { length missing.old ≡ width graph.now.count }
+    ensures { IsWordPushed (is_joined graph.now) k word (bit_of missing.old) (bit_of missing.new) }
+{
+    let _n = graph.len();
+    let mut rest = word;
+    while rest != 0 {
+        let b = lowest(rest);
+        rest = cleared(rest, b);
+        take_out(missing, graph.row(64 * k as u32 + b));
+    }
+}
+
+/// Takes the neighbours of the front out of what is missing, row by row: where the front is small, this is the fastest.
+fn push_each(graph: &BitGraph, front: &[u64], missing: &mut [u64])
+    requires front { length front.now ≡ width graph.now.count }
+    requires front_nodes { (u : ℕ) → bit_of front.now u ≡ true → u < graph.now.count }
+    requires sized { length missing.old ≡ width graph.now.count }
+    ensures { IsLooked (is_joined graph.now) (bit_of front.now) (bit_of missing.old) (bit_of missing.new) }
+{
+    let _n = graph.len();
+    let mut k = next_word(front, 0);
+    while k < front.len() {
+        push_word(graph, missing, k, front[k]);
+        k = next_word(front, k + 1);
+    }
+}
+
 /// Takes neighbours of the front out of what is missing, by rows of the front from all over it, as long as they find much.
 /// Answers whether all are taken out.
 fn push_rounds(
@@ -119,6 +150,7 @@ fn push_rounds(
     rest: &mut [u64],
     list: &mut [u32],
     todo: u32,
+    size: u32,
 ) -> bool
     requires front { length front.now ≡ width graph.now.count }
     requires front_nodes { (u : ℕ) → bit_of front.now u ≡ true → u < graph.now.count }
@@ -131,7 +163,7 @@ fn push_rounds(
     let _n = graph.len();
     rest.copy_from_slice(front);
     let mut before = todo;
-    let mut rows = count(front);
+    let mut rows = size;
     for _ in 0..64 {
         let n = gather(rest, list);
         if n == 0 {
@@ -152,7 +184,8 @@ fn push_rounds(
 }
 
 /// Takes out of what is missing each node with a neighbour in the front: by rows of the front as long as they find much,
-/// and then by the rows of what is still missing.
+/// and then by the rows of what is still missing. How many are missing (`todo`) and in the front (`size`) decides no more
+/// than which way is taken.
 pub(crate) fn look(
     graph: &BitGraph,
     front: &[u64],
@@ -160,6 +193,7 @@ pub(crate) fn look(
     rest: &mut [u64],
     list: &mut [u32],
     todo: u32,
+    size: u32,
 )
     requires front { length front.now ≡ width graph.now.count }
     requires front_nodes { (u : ℕ) → bit_of front.now u ≡ true → u < graph.now.count }
@@ -169,7 +203,9 @@ pub(crate) fn look(
     requires list { length list.old ≡ width graph.now.count + 16 }
     ensures { IsLooked (is_joined graph.now) (bit_of front.now) (bit_of missing.old) (bit_of missing.new) }
 {
-    if !push_rounds(graph, front, missing, rest, list, todo) {
+    if size <= 8 {
+        push_each(graph, front, missing);
+    } else if !push_rounds(graph, front, missing, rest, list, todo, size) {
         pull(graph, front, missing);
     }
 }
@@ -228,9 +264,10 @@ fn levels(
     let mut reached = 1 + degree;
     let mut total = u64::from(degree);
     let mut todo = count(left);
+    let mut size = degree;
     while todo > 0 {
         next.copy_from_slice(left);
-        look(graph, front, next, rest, list, todo);
+        look(graph, front, next, rest, list, todo, size);
         let missing = count(next);
         let found = todo - missing;
         if found == 0 {
@@ -242,6 +279,7 @@ fn levels(
         assign_without(front, left, next);
         left.copy_from_slice(next);
         todo = missing;
+        size = found;
     }
     Found { reached, total }
 }

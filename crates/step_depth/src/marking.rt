@@ -99,7 +99,7 @@ fn mark_levels(
     let mut todo = count(left);
     while todo > 0 {
         next.copy_from_slice(left);
-        look(graph, front, next, rest, list, todo);
+        look(graph, front, next, rest, list, todo, count(front));
         let missing = count(next);
         if todo - missing == 0 {
             return;

@@ -132,6 +132,32 @@ pub(crate) fn count(set: &[u64]) -> u32
     sum
 }
 
+/// Whether four words are 0.
+fn are_four_empty(set: &[u64], k: usize) -> bool
+    requires { k + 4 ≤ length set.now }
+    ensures { result ≡ true → (j : ℕ) → k ≤ j → j < k + 4 → slice_index set.now j ≡ 0 }
+{
+    (set[k] | set[k + 1]) | (set[k + 2] | set[k + 3]) == 0
+}
+
+/// The first word from `from` on that isn't 0, or how many words there are.
+pub(crate) fn next_word(set: &[u64], from: usize) -> usize
+    requires small { length set.now ≤ 256 }
+    requires from { from ≤ length set.now }
+    ensures low { from ≤ result }
+    ensures high { result ≤ length set.now }
+    ensures skipped { (k : ℕ) → from ≤ k → k < result → slice_index set.now k ≡ 0 }
+{
+    let mut k = from;
+    while k + 4 <= set.len() && are_four_empty(set, k) {
+        k += 4;
+    }
+    while k < set.len() && set[k] == 0 {
+        k += 1;
+    }
+    k
+}
+
 /// The bits that four words share.
 fn four_meet(a: &[u64], b: &[u64], k: usize) -> u64
     requires a { k + 4 ≤ length a.now }

@@ -1,8 +1,8 @@
-use Rattle.std.proofs.Common.{◌≡◌, ℕ, ◌+◌, ◌-◌, ◌*◌, ◌<◌, ◌≤◌, ◌∙◌, sym, ap, length, arith, Bool, List, subst, suc, refl, ◌&&◌}
+use Rattle.std.proofs.Common.{◌≡◌, ℕ, ◌+◌, ◌-◌, ◌*◌, ◌<◌, ◌∙◌, arith, Bool, List, subst, suc, refl, ◌&&◌}
 use Rattle.std.specs.Prelude.{not}
-use Rattle.vga_grid.specs.Rows.{width, bit_of, is_joined, graph_of}
+use Rattle.vga_grid.specs.Rows.{bit_of, is_joined, graph_of}
 use Rattle.vga_grid.specs.Sets.{size}
-use Rattle.step_depth.specs.Levels.{IsLooked, IsClosed}
+use Rattle.step_depth.specs.Levels.{IsLooked}
 use Rattle.step_depth.proofs.Spreading.{finished, closed_after, left_empty, nothing, next_reached_small, next_total_small, spreading_next, spreading_first, front_nodes, left_nodes, found_count, reached_small}
 use Rattle.step_depth.proofs.levels.levels.Goals as goal
 

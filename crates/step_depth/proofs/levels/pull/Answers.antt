@@ -1,8 +1,7 @@
-use Rattle.std.proofs.Common.{ℕ, ◌≡◌, ◌+◌, ◌*◌, ◌/◌, ◌%◌, ◌<◌, ◌∙◌, sym, get_or, true, length, arith}
+use Rattle.std.proofs.Common.{◌≡◌, ◌+◌, ◌*◌, ◌/◌, ◌%◌, ◌<◌, ◌∙◌, true, length, arith}
 use Rattle.std.proofs.lemmas.List.{length-set}
 use Rattle.vga_grid.specs.Rows.{bit_of, is_joined}
-use Rattle.vga_grid.specs.Sets.{is_set}
-use Rattle.vga_grid.proofs.Changes.{at_word, past}
+use Rattle.vga_grid.proofs.Changes.{past}
 use Rattle.step_depth.proofs.Pulling.{empty_pulled, word_pulled, all_pulled}
 use Rattle.step_depth.proofs.levels.pull.Goals.{then-word-ne0, else-word-ne0}
 use Rattle.step_depth.proofs.levels.pull.Goals as goal

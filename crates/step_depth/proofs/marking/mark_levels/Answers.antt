@@ -1,11 +1,11 @@
 use Rattle.std.specs.Prelude.{not}
-use Rattle.std.proofs.Common.{◌≡◌, ℕ, ◌+◌, ◌-◌, ◌*◌, ◌<◌, ◌≤◌, ◌∙◌, ◌&&◌, Bool, eqb, sym, ap, length, refl, arith, List, subst}
+use Rattle.std.proofs.Common.{◌≡◌, ℕ, ◌+◌, ◌∙◌, ◌&&◌, Bool, eqb, ap, length, refl, arith, List, subst}
 use Rattle.std.proofs.lemmas.Bool.{lt-ltb}
 use Rattle.vga_grid.specs.Rows.{width, bit_of, is_joined, graph_of}
 use Rattle.vga_grid.specs.Sets.{size}
 use Rattle.step_depth.specs.Levels.{IsLooked}
 use Rattle.step_depth.proofs.Spreading.{reached_within, total_within, left_empty, nothing, spreading_next, front_nodes, left_nodes, found_count, level_one}
-use Rattle.step_depth.proofs.Marks.{Marking, marks_first, marks_more, all_marked, spreading_again, all_closed}
+use Rattle.step_depth.proofs.Marks.{marks_first, marks_more, all_marked, spreading_again, all_closed}
 use Rattle.step_depth.proofs.marking.mark_levels.Goals as goal
 
 -- a look that began with a copy

@@ -1,4 +1,4 @@
-use Rattle.std.proofs.Common.{◌≡◌, ◌*◌, ◌∙◌, ap, map}
+use Rattle.std.proofs.Common.{◌*◌, ◌∙◌, ap, map}
 use Rattle.rayon.proofs.ListFacts.{IfOk-then}
 use Rattle.vga_grid.specs.Rows.{graph_of}
 use Rattle.step_depth.specs.Measured.{measured}

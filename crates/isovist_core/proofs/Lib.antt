@@ -1,0 +1,5 @@
+pub mod Sorting
+pub mod Lists
+pub mod Steps
+pub mod Sectors
+pub mod Rounded

@@ -1,0 +1,21 @@
+use Rattle.std.proofs.Common.{ap, ◌∙◌, rules}
+use Rattle.std.specs.Prelude.{FitsSigned}
+use Rattle.std.proofs.lemmas.Int.{to_z-of_z}
+use mir.Syntax.{w128}
+use Rattle.plane_spec.specs.Fractions.{floor_of}
+use Rattle.isovist_core.proofs.Rounded.{floor_value, floor_within}
+use Rattle.isovist_core.proofs.sums.floor_of_run.Goals as goal
+
+pub returns : goal.returns
+returns c =
+    let fits : FitsSigned w128 c.floor.result = search rules in
+    let is = c.floor.ensures ∙ ap floor_of c.area_of_run.ensures.value in
+    rw (to_z-of_z w128 c.floor.result fits)
+    (record {
+      value =
+          floor_value c.args.scene.now c.args.p c.args.run.now c.requires.spanned c.requires.p_in
+          c.area_of_run.ensures.wall_in c.floor.result is;
+      bounded =
+          floor_within c.args.scene.now c.args.p c.args.run.now c.requires.spanned c.requires.p_in
+          c.area_of_run.ensures.wall_in c.floor.result is;
+    })

@@ -1,0 +1,6 @@
+pub mod Steps
+pub mod Headings
+pub mod Gaps
+pub mod Sightings
+pub mod Areas
+pub mod Sums

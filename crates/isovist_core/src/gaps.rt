@@ -1,0 +1,116 @@
+//! The gaps between directions, and the rays that are sent into them.
+
+ghost use Rattle.std.specs.Prelude.{◌≡◌, ◌<◌, ◌+ℤ◌, length, IfOk, map, true};
+ghost use Rattle.sight_spec.specs.Isovist as isovists;
+ghost use Rattle.sight_spec.specs.Isovist.{gaps_of};
+ghost use Rattle.plane_spec.specs.Vectors.{IsDirection, IsWithin, turns_left};
+ghost use Rattle.plane_spec.specs.declared.TheConstants.{MAX_COMPONENT};
+ghost use Rattle.exact_geom.specs.declared.limits.TheConstants.{MAX_DIFFERENCE};
+ghost use Rattle.isovist_core.specs.Steps.{IsStep};
+ghost use Rattle.isovist_core.specs.Headings.{step_of};
+ghost use Rattle.isovist_core.specs.Gaps.{direction_at, next_of, pair_of, look_of, way_of};
+
+use crate::gap::Gap;
+use crate::heading::Heading;
+use crate::ray::Ray;
+use exact_geom::turns_left;
+use plane_spec::Point;
+use std::alloc::Global;
+use text_spec::NoMemory;
+
+/// The direction after the `k`-th: after the last one comes the first.
+fn next_heading(headings: &[Heading], k: usize) -> Heading
+    requires { k < length headings.now }
+    ensures { result.step ≡ next_of (map step_of headings.now) k }
+{
+    if k + 1 < headings.len() {
+        headings[k + 1]
+    } else {
+        headings[0]
+    }
+}
+
+/// The gap that begins at the `k`-th direction.
+fn gap_from(headings: &[Heading], k: usize) -> Gap
+    requires { k < length headings.now }
+    ensures { pair_of result ≡ (direction_at (map step_of headings.now) k, next_of (map step_of headings.now) k) }
+{
+    Gap {
+        from: headings[k],
+        to: next_heading(headings, k),
+    }
+}
+
+/// The gaps from each direction to the next, and from the last to the first.
+pub(crate) fn gaps_between(alloc: Global, headings: &[Heading]) -> Result<Vec<Gap>, NoMemory>
+    ensures { IfOk result (λ gaps. map pair_of gaps.items ≡ gaps_of (map step_of headings.now)) }
+{
+    let mut gaps = Vec::new(alloc);
+    for k in 0..headings.len() {
+        gaps.push(gap_from(headings, k))?;
+    }
+    Ok(gaps)
+}
+
+/// The sum of a component of two directions.
+fn plus(a: i64, b: i64) -> i64
+    requires a_in { IsWithin MAX_DIFFERENCE a }
+    requires b_in { IsWithin MAX_DIFFERENCE b }
+    ensures value { result ≡ a +ℤ b }
+    ensures within { IsWithin MAX_COMPONENT result }
+{
+    a + b
+}
+
+/// The sum of two directions.
+fn sum_of(e: Point, f: Point) -> Point
+    requires e_in { IsStep e }
+    requires f_in { IsStep f }
+    ensures value { result ≡ isovists.sum_of e f }
+    ensures direction { IsDirection result }
+{
+    Point {
+        x: plus(e.x, f.x),
+        y: plus(e.y, f.y),
+    }
+}
+
+/// The ray in the direction of the sum of two directions, of which the second is left of the first.
+fn ray_between(gap: &Gap) -> Ray
+    requires { turns_left gap.now.from.step gap.now.to.step ≡ true }
+    ensures { result.way ≡ isovists.sum_of gap.now.from.step gap.now.to.step }
+{
+    Ray {
+        way: sum_of(gap.from.step, gap.to.step),
+    }
+}
+
+/// The ray in a direction.
+fn ray_along(heading: &Heading) -> Ray
+    ensures { result.way ≡ heading.now.step }
+{
+    Ray { way: heading.step }
+}
+
+/// The ray that is sent into a gap: in the direction of the sum. Where the gap is a half turn or more, its ray doesn't
+/// matter, and goes in the first direction.
+fn look_into(gap: &Gap) -> Ray
+    ensures { result.way ≡ look_of (pair_of gap.now) }
+{
+    if turns_left(gap.from.step, gap.to.step) {
+        ray_between(gap)
+    } else {
+        ray_along(&gap.from)
+    }
+}
+
+/// The rays that are sent into gaps.
+pub(crate) fn looks_into(alloc: Global, gaps: &[Gap]) -> Result<Vec<Ray>, NoMemory>
+    ensures { IfOk result (λ rays. map way_of rays.items ≡ map (λ gap. look_of (pair_of gap)) gaps.now) }
+{
+    let mut rays = Vec::new(alloc);
+    for gap in gaps {
+        rays.push(look_into(gap))?;
+    }
+    Ok(rays)
+}

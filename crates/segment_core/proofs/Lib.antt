@@ -1,0 +1,15 @@
+pub mod Table
+pub mod Numbers
+pub mod Least
+pub mod Places
+pub mod Easing
+pub mod Searching
+pub mod Ratios
+pub mod Tails
+pub mod Numbering
+pub mod Reversed
+pub mod Filling
+pub mod Cutting
+pub mod SortedEnds
+pub mod Counting
+pub mod InRange
