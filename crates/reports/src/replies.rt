@@ -95,12 +95,7 @@ fn make_refused(row: &mut Record, line: u64, reason: &Reason) -> Result<(), NoMe
 /// Prints the reply to a line that is done: `ok N`.
 ///
 /// Cost: a call of the sink; memory for the record.
-pub fn put_ok<O: Sink>(
-    alloc: Global,
-    out: &mut O,
-    form: Form,
-    line: u64,
-) -> Result<(), ReportFault>
+pub fn put_ok<O: Sink>(alloc: Global, out: &mut O, form: Form, line: u64) -> Result<(), ReportFault>
     ensures all { OnOk result (O.written out.new ≡ appended_to (O.written out.old) (record_bytes form (ok_record line))) }
     ensures prefix { OnErr result (WritesPrefix (O.written out.old) (O.written out.new) (record_bytes form (ok_record line))) }
     ensures faults { Counts result (O.faults out.old) (O.faults out.new) }

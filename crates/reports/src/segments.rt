@@ -41,7 +41,11 @@ fn add_route_name(row: &mut Record, plan: &Plan, route: u32) -> Result<(), NoMem
 fn neighbours_at(neighbours: &[u32], k: usize) -> u32
     ensures { result ≡ get_or neighbours.now k 0 }
 {
-    if k < neighbours.len() { neighbours[k] } else { 0 }
+    if k < neighbours.len() {
+        neighbours[k]
+    } else {
+        0
+    }
 }
 
 /// The row of a piece.
