@@ -1,5 +1,5 @@
 -- The name of a route by its number.
-use Rattle.std.proofs.Common.{◌≡◌, ◌≤◌, ◌+◌, ◌-◌, ℕ, zero, suc, true, nat_le, List, [], ◌∷◌, ◌++◌, drop, length, get_or, refl, sym, ap, ◌∙◌, arith}
+use Rattle.std.proofs.Common.{◌≡◌, ◌≤◌, ◌-◌, ℕ, zero, suc, true, nat_le, List, [], ◌∷◌, ◌++◌, drop, length, get_or, refl, sym, ap, arith}
 use Rattle.plan_spec.specs.declared.item.Route.{Route}
 use Rattle.report_spec.specs.Tables.{route_name}
 

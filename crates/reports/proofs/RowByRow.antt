@@ -1,8 +1,8 @@
 -- Rows that are added one after the other, and a table that is put: what begins it, its rows, its totals, what ends it.
-use Rattle.std.proofs.Common.{◌≡◌, ◌≤◌, ◌+◌, ℕ, Bool, true, false, List, [], ◌∷◌, ◌++◌, length, take, Option, Result, Ok, Err, OnErr, flat_map, refl, sym, ap, ◌∙◌, arith}
+use Rattle.std.proofs.Common.{◌≡◌, ℕ, Bool, true, false, List, [], ◌∷◌, ◌++◌, length, Option, Result, Ok, Err, OnErr, sym, ap, ◌∙◌, arith}
 use Rattle.std.proofs.lemmas.List.Concat.{flat_map-append}
 use Rattle.options_spec.specs.declared.options.Form.{Form}
-use Rattle.dm_io.specs.Streams.{WritesPrefix, appended_to}
+use Rattle.dm_io.specs.Streams.{WritesPrefix}
 use Rattle.dm_io.specs.OutputBuffer.{WritesAndBuffers}
 use Rattle.dm_io.proofs.Known.{appended_to-nothing}
 use Rattle.dm_io.proofs.Pieces.{keeps-end, keeps-more, keeps_all-prefix}

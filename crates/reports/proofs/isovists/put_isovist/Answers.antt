@@ -1,4 +1,4 @@
-use Rattle.std.proofs.Common.{◌≡◌, ◌∙◌, ◌∷◌, [], List, ℕ, ap, codes, map, subst}
+use Rattle.std.proofs.Common.{◌∙◌, ◌∷◌, [], List, ℕ, ap, codes, map, subst}
 use Rattle.std.specs.Fmt.{signed_decimal}
 use Rattle.std.proofs.lemmas.Result.{on_err_weaker, on_ok_weaker}
 use Rattle.dm_io.specs.Streams.{WritesPrefix, appended_to}

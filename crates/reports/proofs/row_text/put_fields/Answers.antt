@@ -1,4 +1,4 @@
-use Rattle.std.proofs.Common.{◌≡◌, ◌∙◌, ◌<◌, ◌≤◌, length, sym, arith}
+use Rattle.std.proofs.Common.{◌∙◌, ◌<◌, ◌≤◌, length, sym, arith}
 use Rattle.reports.proofs.JoinedFields.{all_put, first_put, next_put}
 use Rattle.reports.proofs.row_text.put_fields.Goals as goal
 

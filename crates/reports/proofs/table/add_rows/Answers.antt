@@ -1,4 +1,4 @@
-use Rattle.std.proofs.Common.{◌≡◌, ◌∙◌, ap, length, arith}
+use Rattle.std.proofs.Common.{◌∙◌, ap, length, arith}
 use Rattle.dm_io.proofs.Pieces.{keeps-more, keeps-prefix}
 use Rattle.report_spec.specs.Records.{record_bytes, records_bytes}
 use Rattle.reports.proofs.RowByRow.{made, on_err-always, part}

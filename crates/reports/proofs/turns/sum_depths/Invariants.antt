@@ -1,4 +1,4 @@
-use Rattle.std.proofs.Common.{◌≡◌, ◌≤◌, ◌*◌, ◌^◌, take}
+use Rattle.std.proofs.Common.{◌≡◌, ◌≤◌, ◌*◌, take}
 use Rattle.graph_spec.specs.Graphs.{total_depth}
 use Rattle.reports.proofs.turns.sum_depths.Given as goal
 

@@ -1,4 +1,4 @@
-use Rattle.std.proofs.Common.{◌≡◌, ◌≢◌, ◌∙◌, ◌++◌, ap}
+use Rattle.std.proofs.Common.{◌≢◌, ◌∙◌, ◌++◌, ap}
 use Rattle.csv.specs.Writing.{writer_setup}
 use Rattle.csv.specs.declared.writer.QuoteStyle.TheVariants as style
 use Rattle.reports.specs.Gathered.{csv_bytes}

@@ -1,4 +1,3 @@
-use Rattle.std.proofs.Common.{◌≡◌, ◌<◌, ◌∙◌, length}
 use Rattle.csv.specs.Records.{fields_of}
 use Rattle.reports.proofs.FieldAt.{there, value_there}
 use Rattle.reports.proofs.record.Record.field.Goals as goal
