@@ -1,7 +1,0 @@
-mod CsvRecords
-mod Elements
-mod FieldAt
-mod JoinedFields
-mod PlainFields
-mod RouteNames
-mod RowByRow

@@ -1,4 +1,0 @@
-pub mod Causes
-pub mod Faults
-pub mod Gathered
-pub mod Rows
