@@ -1,5 +1,5 @@
 //! Laws of the walls and screens of a sound plan as they are seen from a station: wherever one direction spans two of
-//! them they are apart, and none passes through an end of another.
+//! them they are apart, and none is in line with an end of another that the station isn't in line with.
 //!
 //! ```text
 //!        ●                 Of a sound plan no two edges touch, but for those that follow each other round a polygon,

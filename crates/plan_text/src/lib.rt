@@ -12,6 +12,7 @@
 //! | [`ReadPlanFault`], [`ReadLineFault`] | why bytes aren't read |
 //! | [`Line`], [`Query`], [`TextWhy`], [`LineNumbers`] | what is read from a line |
 //! | [`Edit`], [`GridSpec`], [`Item`], [`Items`], [`PlanData`], [`Point`], [`Points`], [`Name`] | what plans and edits are made of |
+//! | [`natural`] | the number that a word of digits stands for |
 //! | [`NoMemory`] | what is answered where there is no memory |
 //! | [`MAX_PLAN_BYTES`] | how many bytes the text of a plan may have |
 //!
@@ -32,6 +33,7 @@ mod words;
 
 pub use faults::{ReadLineFault, ReadPlanFault};
 pub use grammar_spec::{Line, LineNumbers, MAX_PLAN_BYTES, Query, TextWhy};
+pub use numbers::natural;
 pub use plan_spec::{Edit, GridSpec, Item, Items, PlanData, Points};
 pub use plane_spec::Point;
 pub use plans::{PlanText, read_plan};

@@ -5,9 +5,9 @@ ghost use Rattle.text_spec.specs.Numbers.{natural_of, number_of};
 
 use text_spec::MAX_DIGITS;
 
-/// 1 to 9 digits as a number.
+/// The number that a word of 1 to 9 digits stands for, or `None` where it is none.
 #[tactic(auto, unfolding(text_spec::specs::Numbers::natural_of))]
-fn natural(digits: &[u8]) -> Option<u32>
+pub fn natural(digits: &[u8]) -> Option<u32>
     ensures { result ≡ natural_of digits.now }
 {
     if digits.is_empty() || digits.len() > MAX_DIGITS {

@@ -17,7 +17,7 @@ use Rattle.round_laws.specs.Rounds.{Numbered, Holds, is_number}
 
 -- ---- lists
 
-All-insert : {X : Type 0} (P : X → Type 0) (xs : List X) (i : ℕ) (y : X) → All P xs → i ≤ length xs → P y
+pub All-insert : {X : Type 0} (P : X → Type 0) (xs : List X) (i : ℕ) (y : X) → All P xs → i ≤ length xs → P y
     → All P (insert xs i y)
 All-insert {X} P xs i y all inside own k d lt = by_lt k i
     (λ low. subst P (sym (get_or-insert_below xs i y d k low inside)) (all k d (omega (arith, low, inside))))
@@ -35,7 +35,7 @@ All-insert {X} P xs i y all inside own k d lt = by_lt k i
     within_is : (n k l m : ℕ) → m ≡ l + 1 → k < m → n + 1 ≡ k → n < l
     within_is n k l m e h f = omega (arith, e, h, f)
 
-All-remove : {X : Type 0} (P : X → Type 0) (xs : List X) (i : ℕ) → All P xs → i < length xs → All P (remove xs i)
+pub All-remove : {X : Type 0} (P : X → Type 0) (xs : List X) (i : ℕ) → All P xs → i < length xs → All P (remove xs i)
 All-remove {X} P xs i all inside k d lt = by_lt k i
     (λ low. subst P (sym (get_or-remove_below xs i d k low inside)) (all k d (omega (arith, low, inside))))
     (λ high. subst P (sym (get_or-remove_above xs i d k high inside))
@@ -191,7 +191,7 @@ any_remove {X} test xs i d inside alone = any_is test (remove xs i) d (list_any 
 -- ---- each once
 
 -- nothing is in front of itself
-never_itself : (s : Seen) → is_in_front s s ≡ false
+pub never_itself : (s : Seen) → is_in_front s s ≡ false
 unfolding is_in_front
 never_itself s = by_sides (side_of s s.from) (side_of s s.to) from_is to_is
   where

@@ -20,6 +20,7 @@ use Rattle.front_laws.specs.Seen.{Seen}
 use Rattle.round_laws.proofs.Steps.{held_on, first_between, first_at}
 use Rattle.round_laws.proofs.Without.{first_without}
 use Rattle.round_laws.specs.Rounds.{front_after, from_place, to_place, EndNowhere, Numbered, HoldsBefore}
+use Rattle.round_laws.specs.Rounds.{AreRadialsBelow}
 use Rattle.round_laws.specs.Rounds.{first_held, IsRound, HoldsAt, AreWalls, AreCoveredIn, AreHidden}
 use Rattle.sweep_laws.specs.First.{IsFirst}
 use Rattle.sweep_laws.specs.Groups.{no_corner, is_ahead, is_behind}
@@ -221,6 +222,48 @@ at_place : {P : Type 0} (m n : ℕ) → m < n + 1 → (m < n → P) → (m ≡ n
 at_place m n h f g = by_lt m n f (λ le. g (omega (arith, h, le)))
 
 -- a group of corners with a sector that tells of it
+pub sector_added : (scene : Scene) (p : Point) (arc : Arc) (kept : ℕ → Bool) (before : Option Front)
+    (sectors : List Sector) (s : Sector) (active at after : List Numbered) → AreWalls scene p
+    → AreCoveredIn scene p arc kept
+    → AreRadialsBelow scene p arc before sectors s.place active
+    → HoldsAt p (blockers_of_scene scene) kept s.place at
+    → HoldsBefore p (blockers_of_scene scene) kept (s.place + 1) after
+    → s.on ≡ option_map (front_of scene p) (first_held at) → s.after ≡ option_map (front_of scene p) (first_held after)
+    → ((d : Point) → IsDirection d → IsDirected d → is_in_arc arc d ≡ true → place_of d ≡ s.place
+    → IsReached p (is_ahead p d) scene.corners (first_held at) s.ahead)
+    → ((d : Point) → IsDirection d → IsDirected d → is_in_arc arc d ≡ true → place_of d ≡ s.place
+    → IsReached p (is_behind p d) scene.corners (first_held at) s.behind)
+    → IsRound scene p arc kept before (sectors ++ s ∷ []) (s.place + 1) after
+sector_added scene p arc kept before sectors s active at after walls covered r held_at held_after on_is after_is
+    ahead behind = record {
+      radials = record {
+        tells = λ d d_in d_some within lt. at_place (place_of d) s.place lt
+            (λ below. subst (IsRadial scene p d) (sym (radial_below_last before sectors s (place_of d) below))
+            (r.tells d d_in d_some within below))
+            (λ e. subst (IsRadial scene p d) (sym (radial_last before sectors s r.below)
+            ∙ ap (radial_by before (sectors ++ s ∷ [])) (sym e))
+            (record {
+              first = first_held at;
+              is_first = first_without scene p d kept (first_held at)
+                  (first_at p d (blockers_of_scene scene) kept at d_in d_some walls.blockers (walls.apart d)
+                  (subst (λ n. HoldsAt p (blockers_of_scene scene) kept n at) (sym e) held_at))
+                  (covered d d_in d_some within);
+              front = on_is;
+              ahead = ahead d d_in d_some within e;
+              behind = behind d d_in d_some within e;
+            }));
+        order = order_last sectors s r.order r.below;
+        below = all_last (λ t. t.place < s.place + 1) sectors s (weaker_below sectors s.place r.below)
+            (own s.place);
+        front = front_last before sectors s ∙ after_is;
+      };
+      held = held_after;
+    }
+  where
+    own : (n : ℕ) → n < n + 1
+    own n = omega arith
+
+-- the same, from a round
 pub round_with_sector : (scene : Scene) (p : Point) (arc : Arc) (kept : ℕ → Bool) (before : Option Front)
     (sectors : List Sector) (s : Sector) (active at after : List Numbered) → AreWalls scene p
     → AreCoveredIn scene p arc kept
@@ -234,35 +277,41 @@ pub round_with_sector : (scene : Scene) (p : Point) (arc : Arc) (kept : ℕ → 
     → IsReached p (is_behind p d) scene.corners (first_held at) s.behind)
     → IsRound scene p arc kept before (sectors ++ s ∷ []) (s.place + 1) after
 round_with_sector scene p arc kept before sectors s active at after walls covered r held_at held_after on_is after_is
-    ahead behind = record {
+    ahead behind =
+    sector_added scene p arc kept before sectors s active at after walls covered r.radials held_at held_after on_is
+    after_is ahead behind
+
+-- a group behind the first changes nothing
+pub no_sector_added : (scene : Scene) (p : Point) (arc : Arc) (kept : ℕ → Bool) (before : Option Front)
+    (sectors : List Sector) (place : ℕ) (active at after : List Numbered) → AreWalls scene p
+    → AreCoveredIn scene p arc kept
+    → AreRadialsBelow scene p arc before sectors place active
+    → HoldsAt p (blockers_of_scene scene) kept place at → HoldsBefore p (blockers_of_scene scene) kept (place + 1) after
+    → first_held at ≡ first_held active → first_held after ≡ first_held active
+    → ((d : Point) → IsDirection d → IsDirected d → is_in_arc arc d ≡ true → place_of d ≡ place
+    → AreHidden scene p d (first_held at))
+    → IsRound scene p arc kept before sectors (place + 1) after
+no_sector_added scene p arc kept before sectors place active at after walls covered r held_at held_after at_is
+    after_is hidden = record {
       radials = record {
-        tells = λ d d_in d_some within lt. at_place (place_of d) s.place lt
-            (λ below. subst (IsRadial scene p d) (sym (radial_below_last before sectors s (place_of d) below))
-            (r.radials.tells d d_in d_some within below))
-            (λ e. subst (IsRadial scene p d) (sym (radial_last before sectors s r.radials.below)
-            ∙ ap (radial_by before (sectors ++ s ∷ [])) (sym e))
-            (record {
-              first = first_held at;
-              is_first = first_without scene p d kept (first_held at)
-                  (first_at p d (blockers_of_scene scene) kept at d_in d_some walls.blockers (walls.apart d)
-                  (subst (λ n. HoldsAt p (blockers_of_scene scene) kept n at) (sym e) held_at))
-                  (covered d d_in d_some within);
-              front = on_is;
-              ahead = ahead d d_in d_some within e;
-              behind = behind d d_in d_some within e;
-            }));
-        order = order_last sectors s r.radials.order r.radials.below;
-        below = all_last (λ t. t.place < s.place + 1) sectors s (weaker_below sectors s.place r.radials.below)
-            (own s.place);
-        front = front_last before sectors s ∙ after_is;
+        tells = λ d d_in d_some within lt. at_place (place_of d) place lt
+            (λ below. r.tells d d_in d_some within below)
+            (λ e. subst (IsRadial scene p d) (sym (radial_after before sectors place r.below)
+            ∙ ap (radial_by before sectors) (sym e))
+            (first_reached scene p d (front_after before sectors) (first_held at)
+            (first_without scene p d kept (first_held at)
+            (first_at p d (blockers_of_scene scene) kept at d_in d_some walls.blockers (walls.apart d)
+            (subst (λ n. HoldsAt p (blockers_of_scene scene) kept n at) (sym e) held_at))
+            (covered d d_in d_some within))
+            (r.front ∙ ap (option_map (front_of scene p)) (sym at_is)) (hidden d d_in d_some within e)));
+        order = r.order;
+        below = weaker_below sectors place r.below;
+        front = r.front ∙ ap (option_map (front_of scene p)) (sym after_is);
       };
       held = held_after;
     }
-  where
-    own : (n : ℕ) → n < n + 1
-    own n = omega arith
 
--- a group behind the first changes nothing
+-- the same, from a round
 pub round_without_sector : (scene : Scene) (p : Point) (arc : Arc) (kept : ℕ → Bool) (before : Option Front)
     (sectors : List Sector) (place : ℕ) (active at after : List Numbered) → AreWalls scene p
     → AreCoveredIn scene p arc kept
@@ -273,21 +322,6 @@ pub round_without_sector : (scene : Scene) (p : Point) (arc : Arc) (kept : ℕ �
     → AreHidden scene p d (first_held at))
     → IsRound scene p arc kept before sectors (place + 1) after
 round_without_sector scene p arc kept before sectors place active at after walls covered r held_at held_after at_is
-    after_is hidden = record {
-      radials = record {
-        tells = λ d d_in d_some within lt. at_place (place_of d) place lt
-            (λ below. r.radials.tells d d_in d_some within below)
-            (λ e. subst (IsRadial scene p d) (sym (radial_after before sectors place r.radials.below)
-            ∙ ap (radial_by before sectors) (sym e))
-            (first_reached scene p d (front_after before sectors) (first_held at)
-            (first_without scene p d kept (first_held at)
-            (first_at p d (blockers_of_scene scene) kept at d_in d_some walls.blockers (walls.apart d)
-            (subst (λ n. HoldsAt p (blockers_of_scene scene) kept n at) (sym e) held_at))
-            (covered d d_in d_some within))
-            (r.radials.front ∙ ap (option_map (front_of scene p)) (sym at_is)) (hidden d d_in d_some within e)));
-        order = r.radials.order;
-        below = weaker_below sectors place r.radials.below;
-        front = r.radials.front ∙ ap (option_map (front_of scene p)) (sym after_is);
-      };
-      held = held_after;
-    }
+    after_is hidden =
+    no_sector_added scene p arc kept before sectors place active at after walls covered r.radials held_at held_after
+    at_is after_is hidden

@@ -12,7 +12,7 @@ use Rattle.std.specs.Prelude.{◌/◌, ◌≤◌}
 use Rattle.turn_laws.specs.Places.{place_of}
 use Rattle.front_laws.specs.Seen.{nowhere}
 
--- of the kept ones it is spanned, and all others that are spanned are hit after it
+-- it is spanned, and all kept others that are spanned are hit after it; it may itself be one that isn't kept
 pub record IsKeptFront (p d : Point) (blockers : List Segment) (kept : ℕ → Bool) (k : ℕ) (s : Seen) : Type 0 where
   pub within : k < length blockers
   pub seen : seen_at p blockers k ≡ Some s

@@ -109,9 +109,8 @@ unfoldable pub front_after : Option Front → List Sector → Option Front
 front_after before [] = before
 front_after before (s ∷ rest) = front_after s.after rest
 
--- of each direction of the arc below the place the sectors say what is so, and what is first after them is the first of
--- the
--- list
+-- of each direction of the arc below the place the sectors say what is so, and what is first after them is the first
+-- of the list
 pub record AreRadialsBelow (scene : Scene) (p : Point) (arc : Arc) (before : Option Front) (sectors : List Sector)
     (place : ℕ) (active : List Numbered) : Type 0 where
   pub tells : (d : Point) → IsDirection d → IsDirected d → is_in_arc arc d ≡ true → place_of d < place

@@ -3,14 +3,16 @@
 use exact_geom::{Point, RPoint};
 use std::marker::Model;
 
-/// A part of a route between two cuts or ends: the number of the route, counted from 0 in plan order, the points between
-/// which the part lies, in the order along the route, and the vector from the route's first point to its second, in the
-/// plan's own unit.
+/// A part of a route between two cuts or ends, in the plan's own unit.
 #[derive(Clone, Copy, Debug, PartialEq, Eq)]
 pub struct Piece {
+    /// The number of the route, counted from 0 in plan order.
     pub route: u32,
+    /// Where the part begins, along the route.
     pub from: RPoint,
+    /// Where it ends.
     pub to: RPoint,
+    /// The vector from the route's first point to its second.
     pub direction: Point,
 }
 

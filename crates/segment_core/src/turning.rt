@@ -73,7 +73,7 @@ fn is_straight_back(r: Point) -> bool
 /// The turn from one direction to another, 0 straight on to 16 straight back: how many directions of a table of
 /// sixteenths of a half turn are passed, and one more straight back.
 ///
-/// Cost: 32 multiplications.
+/// Cost: 34 multiplications.
 pub fn turn(d: Point, e: Point) -> u8
     requires d_in { IsDirection d }
     requires e_in { IsDirection e }

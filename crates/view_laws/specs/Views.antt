@@ -34,7 +34,7 @@ is_in_arc (arcs.Between first last) d = is_upper d && (not (turns_left d first) 
 
 -- ---- one direction
 
--- how far a vector leads, in the sum of both coordinates
+-- how far a vector leads, in the sum of the sizes of both coordinates
 abbrev pub length_of : Point → ℕ
 length_of d = unsigned_abs d.x + unsigned_abs d.y
 
@@ -48,8 +48,7 @@ front_of scene p first = record {
 }
 
 -- what a view says of one direction: what is first, and how far off the nearest corners are that are led into, on the
--- way
--- out and on the way back
+-- way out and on the way back
 pub record Radial : Type 0 where
   pub front : Option Front
   pub ahead : Option ℕ
@@ -128,8 +127,7 @@ is_led_into (grounds.Corner c) d = is_in_cone c d
 is_led_into (grounds.Wall w) d = turns_left (vector w.a w.b) d
 
 -- the view from p in the directions of the arc: in a sector's direction the first is `on`, between two sectors it is
--- the
--- former's `after`, and a corner in a direction without a sector is behind the first
+-- the former's `after`, and a corner in a direction without a sector is behind the first
 pub record IsViewOf (scene : Scene) (p : Point) (arc : Arc) (view : View) : Type 0 where
   pub ground : (d : Point) → IsDirection d → IsDirected d → begins_blocked scene p d ≡ is_led_into view.ground d
   pub tells : (d : Point) → IsDirection d → IsDirected d → is_in_arc arc d ≡ true

@@ -1,3 +1,1 @@
 mod CommandExamples
-pub mod NoFault
-pub mod Parses

@@ -3,6 +3,3 @@
 //! The definition stands in `specs/CommandWords.antt`. It is a crate of its own so that no other crate of definitions
 //! stands on `clap`.
 #![tactic(auto)]
-
-#[cfg(test)]
-mod tests;

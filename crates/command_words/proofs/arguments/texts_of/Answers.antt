@@ -1,7 +1,7 @@
 use Rattle.std.proofs.Common.{◌≡◌, ◌∙◌, ap, sym, map, true, false, true≢false, Some}
 use Rattle.clap.specs.Words.{app_of, found_of, rows_of}
-use Rattle.words_spec.proofs.Parses.{is_free_command, is_simple_command, matches_are_given, refused_give_none}
-use Rattle.words_spec.proofs.tests.texts_of.Goals as goal
+use Rattle.command_words.proofs.Parses.{is_free_command, is_simple_command, matches_are_given, refused_give_none}
+use Rattle.command_words.proofs.arguments.texts_of.Goals as goal
 
 -- clap answers matches where no step has a fault
 pub returns-in-Ok-clause-texts : goal.returns-in-Ok-clause-texts

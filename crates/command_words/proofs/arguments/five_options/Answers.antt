@@ -3,7 +3,7 @@ use Rattle.std.proofs.lemmas.Result.{IfOk-weaker}
 use Rattle.clap.specs.Words.{App, Rule, app_of, new_app, rule_of, with_rule}
 use Rattle.clap.specs.Simple.{app_of_fields}
 use Rattle.words_spec.specs.CommandWords.{option_rule, plain_app}
-use Rattle.words_spec.proofs.tests.five_options.Goals as goal
+use Rattle.command_words.proofs.arguments.five_options.Goals as goal
 
 abbrev with_no_binary_name : App → App
 with_no_binary_name a = record a { top = record a.top { no_binary_name = true } }

@@ -3,7 +3,7 @@ use Rattle.std.specs.Str.{bytes_eq}
 use Rattle.clap.specs.Words.{Row, Text, first_of, found_of, rows_of}
 use Rattle.clap.proofs.WalkLemmas.{first_value-rows}
 use Rattle.words_spec.specs.CommandWords.{first_text, text_given}
-use Rattle.words_spec.proofs.tests.text_in.Goals as goal
+use Rattle.command_words.proofs.arguments.text_in.Goals as goal
 
 -- the getters of `clap` and the definition take the same text
 first_is_given : (rows : List Row) (name : Text) → first_of name rows ≡ text_given rows name

@@ -3,7 +3,7 @@ use Rattle.std.proofs.Common.{◌≡◌, ◌∙◌, ap, sym, true, false, cond, 
 use Rattle.std.proofs.lemmas.Bool.{false_from_ne_true}
 use Rattle.clap.specs.Words.{App, Row, Text, fault_of, is_simple, is_simple_and_free, matches_of, takes}
 use Rattle.words_spec.specs.CommandWords.{command, given_by, given_in}
-use Rattle.words_spec.proofs.NoFault.{no_fault_takes}
+use Rattle.command_words.proofs.NoFault.{no_fault_takes}
 
 -- clap states its matches and its faults of such a command
 pub is_simple_command : (a : App) → a ≡ command → is_simple a ≡ true
