@@ -49,7 +49,8 @@ fn measure_as(
     graph: &BitGraph,
     expected: &[Expected],
 ) {
-    let found = match measures(rt, alloc, graph) {
+    let workers = if graph.len() % 2 == 0 { 1 } else { 2 };
+    let found = match measures(rt, alloc, graph, workers) {
         Ok(found) => found,
         Err(_) => panic!(rt; "there is memory"),
     };

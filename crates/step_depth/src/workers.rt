@@ -1,4 +1,4 @@
-//! What is measured at each node of a graph, by as many workers as there are processors.
+//! What is measured at each node of a graph, by one worker or by as many as there are processors.
 
 ghost use Rattle.std.specs.Prelude.{◌≡◌, ℕ, ◌+◌, ◌-◌, ◌*◌, ◌/◌, ◌<◌, ◌≤◌, length, IfOk};
 ghost use Rattle.std.specs.List.{AllZip, range_with_len};
@@ -63,11 +63,18 @@ fn measures_of_part(alloc: Global, graph: &BitGraph, k: u32) -> Result<Vec<Measu
     measure_each(alloc, &reaches)
 }
 
-/// The measures of the nodes of each part. Each part is a task of its own, so that a worker that is done takes the next.
+/// Of how many parts a task has at least: with one worker there is one task.
+fn least_length(workers: usize) -> usize {
+    if workers == 1 { usize::MAX } else { 1 }
+}
+
+/// The measures of the nodes of each part. Where there may be more than one worker, each part is a task of its own, so
+/// that a worker that is done takes the next.
 fn each_part(
     rt: &(impl Threads + Sync),
     alloc: Global,
     graph: &BitGraph,
+    workers: usize,
 ) -> Result<Vec<Result<Vec<Measure>, NoMemory>>, AllocError>
     ensures { IfOk result (λ parts. AllZip (λ k part. IfOk part (λ ms. ms.items
         ≡ measures_from (graph_of graph.now) (32 * k) (part_length graph.now.count k)))
@@ -75,7 +82,7 @@ fn each_part(
 {
     (0..(graph.len() + 31) / 32)
         .into_par_iter()
-        .with_min_len(1)
+        .with_min_len(least_length(workers))
         .map(
             |k: u32| -> Result<Vec<Measure>, NoMemory>
                 requires { 32 * k < graph.now.count }
@@ -108,8 +115,8 @@ fn join_parts(
     Ok(measures)
 }
 
-/// The measures of each node, by as many workers as there are processors: they are the same whichever worker is at which
-/// node, and in whichever order.
+/// The measures of each node, by this thread alone where `workers` is 1, and else by as many workers as there are
+/// processors: they are the same for every number, whichever worker is at which node, and in whichever order.
 ///
 /// Cost: a search from each node, level by level (see [`depths`](crate::depths)), and two fractions in lowest terms.
 /// Memory: besides the measures, six sets of nodes for each worker.
@@ -120,9 +127,10 @@ pub fn measures(
     rt: &(impl Threads + Sync),
     alloc: Global,
     graph: &BitGraph,
+    workers: usize,
 ) -> Result<Vec<Measure>, NoMemory>
     ensures { IfOk result (λ ms. ms.items ≡ measures_of_nodes (graph_of graph.now)) }
 {
-    let parts = each_part(rt, alloc, graph)?;
+    let parts = each_part(rt, alloc, graph, workers)?;
     join_parts(alloc, graph, &parts)
 }

@@ -1,0 +1,7 @@
+mod CsvRecords
+mod Elements
+mod FieldAt
+mod JoinedFields
+mod PlainFields
+mod RouteNames
+mod RowByRow
