@@ -4,5 +4,5 @@ pub mod Changes
 pub mod Counting
 pub mod EdgeLists
 pub mod EdgeCount
-pub mod Numbers
 pub mod Covered
+pub mod Numbers
