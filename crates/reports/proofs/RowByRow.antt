@@ -1,14 +1,14 @@
 -- Rows that are added one after the other, and a table that is put: what begins it, its rows, its totals, what ends it.
-use Rattle.std.proofs.Common.{◌≡◌, ℕ, Bool, true, false, List, [], ◌∷◌, ◌++◌, codes, drop, length, Option, Some, Result, Ok, Err, OnErr, refl, sym, ap, ◌∙◌, arith}
+use Rattle.std.proofs.Common.{◌≡◌, ℕ, Bool, true, false, List, [], ◌∷◌, ◌++◌, length, Option, Result, Ok, Err, OnErr, sym, ap, ◌∙◌, arith}
 use Rattle.std.proofs.lemmas.List.Concat.{flat_map-append}
 use Rattle.options_spec.specs.declared.options.Form.{Form}
 use Rattle.dm_io.specs.Streams.{WritesPrefix}
 use Rattle.dm_io.specs.OutputBuffer.{WritesAndBuffers}
 use Rattle.dm_io.proofs.Known.{appended_to-nothing}
 use Rattle.dm_io.proofs.Pieces.{keeps-end, keeps-more, keeps_all-prefix}
-use Rattle.report_spec.specs.Records.{record_bytes, records_bytes, table_with_total}
+use Rattle.report_spec.specs.Records.{record_bytes, records_bytes}
 use Rattle.csv_laws.specs.Plain.{is_visible}
-use Rattle.reports.specs.Rows.{IsTotal, Makes, end, head, table_by, totals}
+use Rattle.reports.specs.Rows.{Makes, end, head, table_by, totals}
 
 -- what holds anyway
 pub on_err-always : {T E P : Type 0} (r : Result T E) → P → OnErr r P
@@ -92,16 +92,3 @@ pub ended : (before mid now : Option (List ℕ)) (whole waiting kept : List ℕ)
 ended before mid now whole waiting kept form own count row same is so_far added =
     keeps-end before now whole kept
     (keeps-more before mid now whole waiting (record_bytes form (end count)) [] kept so_far (rw (same, is) at added))
-
--- ---- the record of totals
-
-first_shown : (fields : List (List ℕ)) → is_visible (codes "total" ∷ fields) ≡ true
-first_shown [] = refl
-first_shown (field ∷ fields) = refl
-
-pub total_shown : (row : List (List ℕ)) → IsTotal row → is_visible row ≡ true
-total_shown row is = ap is_visible is ∙ first_shown (drop 1 row)
-
-pub with_total : (kind : List ℕ) (rows : List (List (List ℕ))) (row : List (List ℕ)) → IsTotal row
-    → table_by kind rows (Some row) ≡ table_with_total kind rows (drop 1 row)
-with_total kind rows row is = ap (λ t. table_by kind rows (Some t)) is
