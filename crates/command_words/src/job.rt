@@ -41,7 +41,11 @@ fn number_up_to(most: u32, text: &str) -> Option<u32>
 }
 
 /// The analysis of a file's plan by a mode.
-fn analyse<'a>(mode: Option<Mode>, file: Option<GivenText<'a>>, number: Option<GivenText<'a>>) -> Option<Job<'a>>
+fn analyse<'a>(
+    mode: Option<Mode>,
+    file: Option<GivenText<'a>>,
+    number: Option<GivenText<'a>>,
+) -> Option<Job<'a>>
     ensures { result ≡ options.analyse mode file.entry number.entry }
 {
     match (mode, file, number) {
@@ -109,7 +113,11 @@ fn form_of_word(text: Option<GivenText<'_>>) -> Option<Form>
 }
 
 /// All that was asked for, where each part of it stands for something.
-fn options_by(job: Option<Job<'_>>, workers: Option<usize>, form: Option<Form>) -> Option<Options<'_>>
+fn options_by(
+    job: Option<Job<'_>>,
+    workers: Option<usize>,
+    form: Option<Form>,
+) -> Option<Options<'_>>
     ensures { result ≡ options.options_by job.entry workers form }
 {
     match (job, workers, form) {

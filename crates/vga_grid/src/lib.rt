@@ -3,7 +3,7 @@
 //! | item | what it is |
 //! |---|---|
 //! | [`Grid`] | the points of a plan's grid, by number |
-//! | [`open_points`] | those that are open, each beside its number |
+//! | [`open_points`], [`openness`] | those that are open, each beside its number; and of each whether it is |
 //! | [`BitGraph`], [`MAX_NODES`] | a graph without directions and loops, and how many nodes it may have |
 //! | [`Edges`] | its edges, each once, in order |
 //! | [`graph_naive`] | the visibility graph of a plan, pair by pair |
@@ -31,4 +31,4 @@ pub use bit_graph::{BitGraph, types_are_shared};
 pub use edges::Edges;
 pub use grid::{Grid, open_points};
 pub use limits::MAX_NODES;
-pub use naive::graph_naive;
+pub use naive::{graph_naive, openness};

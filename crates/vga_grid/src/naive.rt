@@ -15,8 +15,10 @@ use sight_core::{Scene, free, is_open};
 use std::alloc::Global;
 use text_spec::NoMemory;
 
-/// Whether each point of the grid is open, by its number.
-fn openness(alloc: Global, plan: &Plan, grid: &Grid) -> Result<Vec<bool>, NoMemory>
+/// Whether each point of the plan's grid is open, by its number.
+///
+/// Cost: a test of openness for each point.
+pub fn openness(alloc: Global, plan: &Plan, grid: &Grid) -> Result<Vec<bool>, NoMemory>
     requires { grid.now ≡ plan.now.grid }
     ensures { IfOk result (λ flags. flags.items ≡ openness_of plan.now (length (grid_points plan.now.grid))) }
 {

@@ -3,5 +3,5 @@ use Rattle.std.proofs.Common.{◌≡◌}
 use Rattle.reports.specs.Rows.{open_points_from}
 use Rattle.reports.proofs.open_points.next_open.Given as goal
 
-abbrev pub invariant-loop-numbers : goal.invariant-loop-numbers
-invariant-loop-numbers l = open_points_from l.fn.plan l.number ≡ open_points_from l.fn.plan l.fn.from
+abbrev pub invariant-numbers : goal.invariant-numbers
+invariant-numbers l = open_points_from l.fn.plan l.number ≡ open_points_from l.fn.plan l.fn.from
