@@ -5,7 +5,7 @@
 //! | [`put_ok`], [`put_refused`] | the reply to a line of a script |
 //! | [`put_edges`] | the edges of a graph |
 //! | [`put_points`], [`put_depth`] | numbered points with their measures, or with their depths |
-//! | [`put_isovist`] | the triangles of an isovist |
+//! | [`put_isovist`], [`put_isovists`] | the triangles of an isovist, or the totals of those of all open points |
 //! | [`put_axial`], [`put_lines`] | axial lines, and their measures |
 //! | [`put_segments`] | the pieces of routes |
 //! | [`put_turns`] | the turn depths of the pieces of routes |
@@ -35,6 +35,8 @@ mod fault;
 mod isovists;
 mod lines;
 mod lists;
+mod open_isovists;
+mod open_points;
 mod plans;
 mod points;
 mod record;
@@ -53,6 +55,7 @@ pub use edges::put_edges;
 pub use fault::ReportFault;
 pub use isovists::put_isovist;
 pub use lines::put_lines;
+pub use open_points::put_isovists;
 pub use plans::put_plan;
 pub use points::{put_depth, put_points};
 pub use record::Record;

@@ -1,4 +1,4 @@
-//! The tables of axial lines: where they end, and what is measured at them.
+//! The table of what is measured at axial lines.
 
 ghost use Rattle.std.specs.Prelude.{◌≡◌, OnErr, OnOk};
 ghost use Rattle.dm_io.specs.Streams.{WritesPrefix, appended_to};

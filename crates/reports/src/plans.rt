@@ -150,7 +150,7 @@ impl<'a> Rows for PlanRows<'a> {
 /// Prints the table of a plan's items: the lines of its text, the header counted.
 ///
 /// Cost: one pass over the items, and a call of the sink for each 64 KiB; memory for the longest line, and in csv form
-/// for all of them.
+/// for some thousand of them.
 #[tactic(auto, unfolding(report_spec::specs::Tables::plan_table))]
 pub fn put_plan<O: Sink>(
     alloc: Global,

@@ -1,12 +1,12 @@
 //! Tables: a record that begins one, rows, and a record that ends it with their number.
 
-ghost use Rattle.std.specs.Prelude.{◌≡◌, ◌++◌, [], ◌<◌, ◌^◌, ℕ, List, Bool, true, IfOk, IfSome, OnErr, OnOk, codes, ◌∷◌, length, option_map};
+ghost use Rattle.std.specs.Prelude.{◌≡◌, ◌++◌, [], ◌<◌, ◌^◌, ℕ, List, Bool, true, IfOk, IfSome, OnErr, OnOk, drop, length, option_map};
 ghost use Rattle.dm_io.specs.Streams.{WritesPrefix, appended_to};
 ghost use Rattle.dm_io.specs.OutputBuffer.{WritesAndBuffers};
 ghost use Rattle.report_spec.specs.Records.{records_bytes, table, table_with_total};
 ghost use Rattle.csv_laws.specs.Plain.{is_plain, is_visible};
 ghost use Rattle.reports.specs.Faults.{Counts};
-ghost use Rattle.reports.specs.Rows.{Makes, end, head, table_by, totals};
+ghost use Rattle.reports.specs.Rows.{IsTotal, Makes, end, head, table_by, totals};
 
 use crate::fault::ReportFault;
 use crate::record::Record;
@@ -157,7 +157,9 @@ pub fn put_table<O: Sink, R: Rows>(
 }
 
 /// Prints a table of a kind as [`put_table`] does, with a record of totals after the rows, which isn't counted. Its
-/// first field is `total`.
+/// first field is the word `total`.
+///
+/// Cost: as of [`put_table`].
 pub fn put_table_with_total<O: Sink, R: Rows>(
     alloc: Global,
     out: &mut O,
@@ -168,11 +170,9 @@ pub fn put_table_with_total<O: Sink, R: Rows>(
 ) -> Result<(), ReportFault>
     requires kind { is_plain kind.now ≡ true }
     requires few { length (R.left rows.old) < 2 ^ 64 }
-    requires total { is_visible total.now ≡ true }
-    ensures all { (fields : List (List ℕ)) → total.now ≡ codes "total" ∷ fields
-        → OnOk result (O.written out.new ≡ appended_to (O.written out.old) (records_bytes form (table_with_total kind.now (R.left rows.old) fields))) }
-    ensures prefix { (fields : List (List ℕ)) → total.now ≡ codes "total" ∷ fields
-        → OnErr result (WritesPrefix (O.written out.old) (O.written out.new) (records_bytes form (table_with_total kind.now (R.left rows.old) fields))) }
+    requires total { IsTotal total.now }
+    ensures all { OnOk result (O.written out.new ≡ appended_to (O.written out.old) (records_bytes form (table_with_total kind.now (R.left rows.old) (drop 1 total.now)))) }
+    ensures prefix { OnErr result (WritesPrefix (O.written out.old) (O.written out.new) (records_bytes form (table_with_total kind.now (R.left rows.old) (drop 1 total.now)))) }
     ensures faults { Counts result (O.faults out.old) (O.faults out.new) }
 {
     put_table_by(alloc, out, form, kind, rows, Some(total))
