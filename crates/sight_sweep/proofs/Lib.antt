@@ -8,5 +8,6 @@ mod Listing
 mod Tables
 mod Leasts
 mod Stations
-mod Around
-mod Told
+mod Ends
+mod Telling
+mod Replies

@@ -98,3 +98,13 @@ sorted_events corners p arc events sorted same order f = record {
   each = All-permutation (IsEvent corners p arc) events sorted same f.each;
   all = λ k lt some within. Contains-permutation events sorted (place_of (way_at p corners k) * 2048 + k) same (f.all k lt lt some within);
 }
+
+pub all_listed : (corners : List Corner) (p : Point) (arc : Arc) (count : ℕ) (events : List ℕ) → length corners ≤ count
+    → AreFirstEvents corners p arc count events → AreFirstEvents corners p arc (length corners) events
+all_listed corners p arc count events end f = record {
+  each = f.each;
+  all = λ k lt inside some within. f.all k (up k (length corners) count lt end) inside some within;
+}
+  where
+    up : (k n m : ℕ) → k < n → n ≤ m → k < m
+    up k n m h j = omega (arith, h, j)

@@ -14,6 +14,10 @@ use Rattle.station_laws.specs.Grounds as grounds
 use Rattle.station_laws.proofs.Ranges.{walls_of_sound}
 use Rattle.station_laws.proofs.Ends.{corners_at_ends}
 use Rattle.round_laws.specs.Rounds.{AreWalls}
+use Rattle.sweep_laws.specs.Parts.{begins_blocked}
+use Rattle.view_laws.specs.declared.view.Ground.{Ground}
+use Rattle.view_laws.specs.Views.{is_led_into}
+use Rattle.station_laws.proofs.Law.{ground_decides}
 use Rattle.sight_sweep.specs.Stations.{HasCornerAt, IsStation}
 
 vector_in : (p x : Point) → InRange p → InRange x → IsDirection (vector p x)
@@ -33,3 +37,9 @@ station_of scene p of p_in = record {
   few = few_corners scene of;
   ways = λ k lt. vector_in p (get_or scene.corners k no_corner).here p_in ((corners-in_range scene of) k no_corner lt).here;
 }
+
+-- what the station stands on decides which directions begin blocked
+pub ground_tells : (scene : Scene) (p d : Point) (under : Ground) → IsOfSoundPlan scene → grounds.IsGroundOf scene p under
+    → begins_blocked scene p d ≡ is_led_into under d
+ground_tells scene p d under of g = subst (λ t. begins_blocked t p d ≡ is_led_into under d) (sym of.seen)
+    (ground_decides of.plan p d under of.sound (subst (λ t. grounds.IsGroundOf t p under) of.seen g))

@@ -2,6 +2,8 @@
 use Rattle.std.proofs.Common.{◌≡◌, ◌≢◌, ℕ, zero, suc, ◌<◌, ◌≤◌, pos, arith, ap, refl, sym, ◌∙◌, subst, List, [], ◌∷◌, ◌++◌, length, get_or, map}
 use Rattle.std.specs.Prelude.{Bool, true, false, ◌&&◌, nat_lt, int_lt, Option, Some, None, All}
 use Rattle.std.specs.Option.{option_map, IfSome}
+use Rattle.std.specs.List.{list_any}
+use Rattle.std.proofs.lemmas.List.Folds.{list_any_none}
 use Rattle.std.proofs.lemmas.List.Elements.{All-append}
 use Rattle.plane_spec.specs.declared.Point.{Point}
 use Rattle.plane_spec.specs.declared.Segment.{Segment}
@@ -63,3 +65,11 @@ pub line_in_range : (scene : Scene) (lines : List Segment) (ranges : List Range)
     → number < length (blockers_of_scene scene) → line ≡ get_or lines number line → IsSegmentInRange line
 line_in_range scene lines ranges numbers number line t lt read =
     subst IsSegmentInRange (sym read) (lines_in_range scene lines ranges numbers t number line (subst (λ xs. number < length xs) (sym t.lines_are) lt))
+
+-- none of the list passes a test that none of so many does
+pub none_of : {X : Type 0} (test : X → Bool) (xs : List X) (d : X) (count : ℕ) → length xs ≤ count → ((k : ℕ) → k < count → test (get_or xs k d) ≡ false)
+    → list_any test xs ≡ false
+none_of test xs d count end none = list_any_none test xs (λ k e lt. subst (λ x. test x ≡ false) (default xs k d e lt) (none k (up k (length xs) count lt end)))
+  where
+    up : (k n m : ℕ) → k < n → n ≤ m → k < m
+    up k n m h j = omega (arith, h, j)

@@ -1,6 +1,6 @@
 //! The sweep: answers for many targets at once.
 
-ghost use Rattle.std.specs.Prelude.{◌≡◌, All, IfOk, map, true};
+ghost use Rattle.std.specs.Prelude.{◌≡◌, [], All, IfOk, map, true};
 ghost use Rattle.plane_spec.specs.Vectors as vectors;
 ghost use Rattle.plane_spec.specs.Vectors.{InRange, IsDirected, IsDirection};
 ghost use Rattle.sight_spec.specs.Sweep.{answer_to, answers_to};
@@ -90,6 +90,30 @@ fn answer_by(table: &SceneTable, p: Point, arc: Arc, view: &View, target: &Targe
     }
 }
 
+/// Lists what the view tells of each target.
+fn push_answers(
+    answers: &mut Vec<Answer>,
+    table: &SceneTable,
+    p: Point,
+    arc: Arc,
+    view: &View,
+    targets: &[Target],
+) -> Result<(), NoMemory>
+    requires none { answers.old.items ≡ [] }
+    requires p_in { InRange p }
+    requires of_plan { IsOfSoundPlan table.now }
+    requires view { IsSeenFrom table.now p arc view.now }
+    requires askable { All (MayBeAsked p) targets.now }
+    requires in_arc { All (λ t. is_in_arc arc (way_of p t) ≡ true) targets.now }
+    ensures { IfOk result (λ u. map value_of answers.new.items ≡ answers_to table.now p targets.now) }
+{
+    for k in 0..targets.len() {
+        let target = targets[k];
+        push(answers, answer_by(table, p, arc, view, &target))?;
+    }
+    Ok(())
+}
+
 /// What the view tells of each target.
 fn answers_by(
     alloc: Global,
@@ -107,10 +131,7 @@ fn answers_by(
     ensures { IfOk result (λ answers. map value_of answers.items ≡ answers_to table.now p targets.now) }
 {
     let mut answers = Vec::new(alloc);
-    for k in 0..targets.len() {
-        let target = targets[k];
-        push(&mut answers, answer_by(table, p, arc, view, &target))?;
-    }
+    push_answers(&mut answers, table, p, arc, view, targets)?;
     Ok(answers)
 }
 

@@ -25,7 +25,7 @@ fn moved(z: i64) -> i64
 }
 
 /// The number of a point, another for each other point in range.
-#[tactic(auto, unfolding(sight_sweep::specs::Tables::key_of))]
+#[tactic(auto, unfolding(crate::specs::Tables::key_of))]
 fn key_of(p: Point) -> u64
     requires { InRange p }
     ensures value { result ≡ tables.key_of p }

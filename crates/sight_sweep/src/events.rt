@@ -2,6 +2,7 @@
 
 ghost use Rattle.std.specs.Prelude.{◌≡◌, ◌<◌, ◌≤◌, ◌+◌, ◌*◌, ◌/◌, ◌%◌, IfOk, length, true, false};
 ghost use Rattle.plane_spec.specs.Vectors.{InRange, IsDirected, IsDirection};
+ghost use Rattle.sight_core.specs.Scenes.{IsOfSoundPlan};
 ghost use Rattle.view_laws.specs.Views as views;
 ghost use Rattle.sight_sweep.specs.Arcs.{IsArc};
 ghost use Rattle.sight_sweep.specs.Events.{AreEvents, AreFirstEvents};
@@ -81,7 +82,8 @@ fn corner_events(
 ) -> Result<Vec<u64>, NoMemory>
     requires p_in { InRange p }
     requires arc { IsArc arc }
-    ensures { IfOk result (λ events. AreFirstEvents table.now.corners p arc (length table.now.corners) events.items) }
+    ensures listed { IfOk result (λ events. AreFirstEvents table.now.corners p arc (length table.now.corners) events.items) }
+    ensures of_plan { IsOfSoundPlan table.now }
 {
     let mut events = Vec::new(alloc);
     for number in 0..table.corners().len() {
@@ -99,7 +101,8 @@ pub(crate) fn events_of(
 ) -> Result<Vec<u64>, NoMemory>
     requires p_in { InRange p }
     requires arc { IsArc arc }
-    ensures { IfOk result (λ events. AreEvents table.now.corners p arc events.items) }
+    ensures listed { IfOk result (λ events. AreEvents table.now.corners p arc events.items) }
+    ensures of_plan { IsOfSoundPlan table.now }
 {
     let mut events = corner_events(alloc, table, p, arc)?;
     events.sort_unstable();

@@ -1,6 +1,6 @@
 //! Where a ray may be stopped.
 
-ghost use Rattle.std.specs.Prelude.{◌≡◌, ◌<ℤ◌, ◌≤◌, IfSome, pos};
+ghost use Rattle.std.specs.Prelude.{◌≡◌, ◌*ℤ◌, ◌<ℤ◌, ◌≤◌, IfSome, pos};
 ghost use Rattle.std.specs.Option.{option_map};
 ghost use Rattle.plane_spec.specs.Fractions as fractions;
 ghost use Rattle.plane_spec.specs.Vectors.{IsDirected, IsDirection, IsWithin};
@@ -35,14 +35,18 @@ impl Model for Hit {
     ghost inverse = { λ f. record { num = f.num; den = f.den } };
 }
 
+/// The numerator of the one times the denominator of the other.
+fn across(f: &Hit, g: &Hit) -> i128
+    ensures { result ≡ f.now.num *ℤ g.now.den }
+{
+    wide_product(i128::from(f.num), i128::from(g.den))
+}
+
 /// Whether `f` comes before `g` on a ray.
 fn is_before(f: &Hit, g: &Hit) -> bool
     ensures { result ≡ fractions.is_before f.now g.now }
 {
-    is_less(
-        wide_product(i128::from(f.num), i128::from(g.den)),
-        wide_product(i128::from(g.num), i128::from(f.den)),
-    )
+    is_less(across(f, g), across(g, f))
 }
 
 impl Hit {

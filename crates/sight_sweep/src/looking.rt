@@ -87,15 +87,17 @@ fn view_from(
     requires p_in { InRange p }
     requires arc { IsArc arc }
     ensures view { IfOk result (λ view. IsViewOf table.now p arc view) }
-    ensures ground { IfOk result (λ view. IsGroundOf table.now p view.ground) }
+    ensures under { IfOk result (λ view. IsGroundOf table.now p view.ground) }
 {
     let events = events_of(alloc, table, p, arc)?;
-    let mut active = spanned_by(alloc, table, p, start_of(arc))?;
+    let start = start_of(arc);
+    let mut active = spanned_by(alloc, table, p, start)?;
     let mut sectors = Vec::new(alloc);
     let before = first_of(&active);
     go_round(&mut active, &mut sectors, table, p, &events)?;
+    let under = ground_of(table, p);
     Ok(View {
-        ground: ground_of(table, p),
+        ground: under,
         before,
         sectors,
     })
@@ -118,7 +120,7 @@ pub fn look(
     requires p_in { InRange p }
     requires arc { IsArc arc }
     ensures view { IfOk result (λ view. IsViewOf table.now p arc view) }
-    ensures ground { IfOk result (λ view. IsGroundOf table.now p view.ground) }
+    ensures under { IfOk result (λ view. IsGroundOf table.now p view.ground) }
     ensures counted { steps.new ≡ one_more steps.old }
 {
     steps.count_one();

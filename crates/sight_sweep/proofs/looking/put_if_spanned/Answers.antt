@@ -1,10 +1,23 @@
 use Rattle.std.proofs.Common.{◌≡◌, ◌∙◌, ap, refl, sym, subst}
 use Rattle.std.specs.Option.{option_map}
 use Rattle.std.proofs.lemmas.Result.{on_ok_weaker}
+use Rattle.std.specs.Prelude.{false}
+use Rattle.front_laws.specs.Seen.{spans}
+use Rattle.front_laws.proofs.Tests.{some_same, none_some}
 use Rattle.sight_sweep.specs.Actives.{seen, IsActive, beside}
 use Rattle.sight_sweep.specs.Rounds.{all_kept, spanned_so_far}
-use Rattle.sight_sweep.proofs.Beginnings.{spanned_all_so_far, spanned_next_one}
+use Rattle.sight_sweep.proofs.Beginnings.{spanned_all_so_far, spanned_next_one, spanned_other}
 use Rattle.sight_sweep.proofs.looking.put_if_spanned.Goals as goal
+
+pub returns-in_default : goal.returns-in_default
+returns-in_default c a =
+    let h = c.in_default in ?
+
+pub returns-then-not-is_spanned : goal.returns-then-not-is_spanned
+returns-then-not-is_spanned c a =
+    let known = sym c.seen.ensures.seen ∙ ap (option_map seen) c.in-Some.is in
+    spanned_other c.args.table.now c.args.p c.args.d c.args.number c.args.active.now.items
+    (λ s own. subst (λ t. spans c.args.d t ≡ false) (some_same (seen c.in-Some.blocker) s (sym known ∙ own)) (sym c.is_spanned.ensures ∙ c.if-not-is_spanned.true)) a
 
 pub returns : goal.returns
 returns c a =

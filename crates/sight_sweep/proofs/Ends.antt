@@ -216,3 +216,17 @@ table_is scene lines ends ranges numbers of lines_are e r numbers_are = record {
       (around_of scene ends (get_or scene.corners k no_corner).here (get_or ranges k no_range) (few_lines scene of)
       (subst (λ xs. HasEnds xs (length xs) ends) lines_are e.has) (r.each k lt));
 }
+
+pub all_ends : (lines : List Segment) (count : ℕ) (ends : List ℕ) → length lines ≤ count → HasEnds lines count ends → HasEnds lines (length lines) ends
+all_ends lines count ends end h = record {
+  within = h.within;
+  firsts = λ k lt. h.firsts k (up k (length lines) count lt end);
+  seconds = λ k lt. h.seconds k (up k (length lines) count lt end);
+}
+  where
+    up : (k n m : ℕ) → k < n → n ≤ m → k < m
+    up k n m h j = omega (arith, h, j)
+
+pub all_ranges : (ends : List ℕ) (corners : List Corner) (count : ℕ) (ranges : List Range) → count ≡ length corners
+    → AreRanges ends corners count ranges → AreRanges ends corners (length corners) ranges
+all_ranges ends corners count ranges e r = subst (λ n. AreRanges ends corners n ranges) e r

@@ -1,5 +1,5 @@
 -- What a view tells is small.
-use Rattle.std.proofs.Common.{◌≡◌, ◌≢◌, ℕ, ◌+◌, ◌<◌, ◌≤◌, ℤ, pos, neg_ℤ, ◌+ℤ◌, ◌-ℤ◌, ◌*ℤ◌, ◌<ℤ◌, arith, ap, refl, sym, ◌∙◌, subst, List, [], ◌∷◌, length, get_or}
+use Rattle.std.proofs.Common.{◌≡◌, ◌≢◌, ℕ, ◌+◌, ◌<◌, ◌≤◌, ℤ, pos, neg_ℤ, ◌+ℤ◌, ◌-ℤ◌, ◌*ℤ◌, ◌<ℤ◌, ◌-◌, arith, ap, refl, sym, ◌∙◌, subst, List, [], ◌∷◌, length, get_or}
 use Rattle.std.specs.Prelude.{Bool, true, false, int_lt, unsigned_abs, Option, Some, None, IfSome, All}
 use Rattle.std.specs.Option.{option_map}
 use Rattle.std.specs.List.Sorted.{IsNonDecreasingBy}
@@ -8,7 +8,7 @@ use Rattle.std.proofs.lemmas.List.Elements.{All-append}
 use Rattle.plane_spec.specs.declared.Point.{Point}
 use Rattle.plane_spec.specs.declared.Segment.{Segment}
 use Rattle.plane_spec.specs.declared.Corner.{Corner}
-use Rattle.plane_spec.specs.Vectors.{vector, cross_of, InRange, IsWithin, IsDirection, IsDirected}
+use Rattle.plane_spec.specs.Vectors.{point, vector, cross_of, InRange, IsWithin, IsDirection, IsDirected}
 use Rattle.plane_spec.specs.Cones.{IsCornerInRange}
 use Rattle.plane_spec.specs.Segments.{IsSegmentInRange}
 use Rattle.exact_geom.proofs.Bounds.{product_within}
@@ -22,9 +22,9 @@ use Rattle.sweep_laws.specs.First.{IsFirst, IsFront}
 use Rattle.sweep_laws.specs.Groups.{no_corner, is_ahead}
 use Rattle.view_laws.specs.declared.view.Front.{Front}
 use Rattle.view_laws.specs.declared.view.Ground.{Ground}
-use Rattle.view_laws.specs.declared.view.Ground.TheVariants as variants
 use Rattle.view_laws.specs.declared.view.Sector.{Sector}
-use Rattle.view_laws.specs.Views.{front_of, length_of, Radial, IsRadial, IsReached, IsSoFar, IsSoFarOrNone, AreInOrder}
+use Rattle.view_laws.specs.Views.{front_of, length_of, Radial, radial_by, radial_at, radial_between, IsRadial, IsReached, IsSoFar, IsSoFarOrNone, AreInOrder}
+use Rattle.view_laws.proofs.Cursor.{radial_before, radial_from}
 use Rattle.station_laws.specs.Grounds.{IsGroundOf, IsFirstCorner, IsOnWall, at_corner, on_wall, on_nothing}
 use Rattle.station_laws.proofs.Ranges.{blockers_in_range}
 use Rattle.sight_sweep.specs.declared.told.Told.{Told}
@@ -122,9 +122,9 @@ told_is scene p d told of p_in r = record {
 -- ---- what the station stands on
 
 pub ground_in : (scene : Scene) (p : Point) (under : Ground) → IsOfSoundPlan scene → IsGroundOf scene p under → IsGroundInRange under
-ground_in scene p (variants.Corner c) of (at_corner c f) = subst IsCornerInRange f.corner ((corners-in_range scene of) f.number no_corner f.within)
-ground_in scene p (variants.Wall w) of (on_wall w none o) = subst IsSegmentInRange o.wall ((walls-in_range scene of) o.number nowhere o.within)
-ground_in scene p variants.Free of (on_nothing none bare) = refl
+ground_in scene p under of (at_corner c f) = subst IsCornerInRange f.corner ((corners-in_range scene of) f.number no_corner f.within)
+ground_in scene p under of (on_wall w none o) = subst IsSegmentInRange o.wall ((walls-in_range scene of) o.number nowhere o.within)
+ground_in scene p under of (on_nothing none bare) = refl
 
 -- ---- sectors
 
@@ -141,3 +141,37 @@ by_place sectors order i j d le lt = by_lt i j
       where
         own : (n : ℕ) → n ≤ n
         own n = omega arith
+
+-- no sector
+no_sector : Sector
+no_sector = record { place = 0; way = point (pos 0) (pos 0); on = None; ahead = None; behind = None; after = None }
+
+-- what is told before the first sector
+pub told_first : (before : Option Front) (sectors : List Sector) (place count : ℕ) → count ≡ 0
+    → ((k : ℕ) (s : Sector) → count ≤ k → k < length sectors → place < (get_or sectors k s).place)
+    → radial_by before sectors place ≡ radial_between before
+told_first before sectors place count none beyond =
+    radial_before before sectors place no_sector (λ lt. beyond 0 no_sector (start count none) lt)
+  where
+    start : (n : ℕ) → n ≡ 0 → n ≤ 0
+    start n h = omega (arith, h)
+
+-- what is told from a sector on
+pub told_from : (before : Option Front) (sectors : List Sector) (place count : ℕ) (s : Sector) → AreInOrder sectors
+    → count ≢ 0 → count ≤ length sectors
+    → ((k : ℕ) (s : Sector) → k < count → (get_or sectors k s).place ≤ place)
+    → ((k : ℕ) (s : Sector) → count ≤ k → k < length sectors → place < (get_or sectors k s).place)
+    → s ≡ get_or sectors (count - 1) s → radial_by before sectors place ≡ radial_at s place
+told_from before sectors place count s order some inside reached beyond read =
+    radial_from before sectors (count - 1) place s order (within count (length sectors) some inside)
+    (reached (count - 1) s (below count some)) (λ lt. beyond (count - 1 + 1) s (from count some) lt)
+    ∙ ap (λ t. radial_at t place) (sym read)
+  where
+    within : (n m : ℕ) → n ≢ 0 → n ≤ m → n - 1 < m
+    within n m h k = omega (arith, h, k)
+
+    below : (n : ℕ) → n ≢ 0 → n - 1 < n
+    below n h = omega (arith, h)
+
+    from : (n : ℕ) → n ≢ 0 → n ≤ n - 1 + 1
+    from n h = omega (arith, h)
