@@ -194,6 +194,13 @@ around_of scene ends x range few h r = record {
 
 -- ---- the table
 
+-- the scene whose lists are these
+pub same_scene : (scene : Scene) (walls screens : List Segment) (corners : List Corner) → walls ≡ scene.walls → screens ≡ scene.screens → corners ≡ scene.corners
+    → scene ≡ record { walls = walls; screens = screens; corners = corners }
+same_scene scene walls screens corners e f g =
+    sym (ap (λ t. record { walls = t; screens = screens; corners = corners }) e ∙ ap (λ t. record { walls = scene.walls; screens = t; corners = corners }) f
+    ∙ ap (λ t. record { walls = scene.walls; screens = scene.screens; corners = t }) g)
+
 pub few_lines : (scene : Scene) → IsOfSoundPlan scene → length (blockers_of_scene scene) ≤ 2048
 few_lines scene of = bound _ _ _ (length-append scene.walls scene.screens) (few_walls scene of) (few_screens scene of)
   where

@@ -78,7 +78,7 @@ width_is s d =
 above : (z u v : ℤ) → z ≡ u +ℤ v → int_lt (pos 0) v ≡ true → int_lt (pos 0) u ≡ true → pos 0 <ℤ z
 above z u v e h k = grind (arith, ints)
 
-lines_in : (scene : Scene) → IsOfSoundPlan scene → All IsSegmentInRange (blockers_of_scene scene)
+pub lines_in : (scene : Scene) → IsOfSoundPlan scene → All IsSegmentInRange (blockers_of_scene scene)
 lines_in scene of = All-append IsSegmentInRange scene.walls scene.screens (walls-in_range scene of) (screens-in_range scene of)
 
 first_to : (scene : Scene) (p d : Point) → IsOfSoundPlan scene → InRange p → (first : Option (ℕ × Seen)) → IsFirst scene p d first

@@ -18,6 +18,11 @@ abbrev pub value_of : Answer → TargetAnswer
 value_of (answers.Seen seen) = Seen seen
 value_of (answers.Reach stop wall) = Reach (record { stop = stop; wall = wall })
 
+-- the answer as it is given
+abbrev pub given : TargetAnswer → Answer
+given (Seen seen) = answers.Seen seen
+given (Reach hit) = answers.Reach hit.stop hit.wall
+
 -- a point to see is in range and isn't p itself
 pub record IsOther (p q : points.Point) : Type 0 where
   pub in_range : InRange q

@@ -1,12 +1,12 @@
 //! The sweep: answers for many targets at once.
 
-ghost use Rattle.std.specs.Prelude.{◌≡◌, [], All, IfOk, map, true};
+ghost use Rattle.std.specs.Prelude.{◌≡◌, All, IfOk, map, true};
 ghost use Rattle.plane_spec.specs.Vectors as vectors;
 ghost use Rattle.plane_spec.specs.Vectors.{InRange, IsDirected, IsDirection};
 ghost use Rattle.sight_spec.specs.Sweep.{answer_to, answers_to};
 ghost use Rattle.sight_core.specs.Scenes.{IsOfSoundPlan};
 ghost use Rattle.view_laws.specs.Views.{IsViewOf, is_in_arc};
-ghost use Rattle.sight_sweep.specs.Answers.{IsSeenFrom, MayBeAsked, value_of, way_of};
+ghost use Rattle.sight_sweep.specs.Answers.{IsSeenFrom, MayBeAsked, given, value_of, way_of};
 ghost use Rattle.sight_sweep.specs.Arcs.{IsArc};
 ghost use Rattle.sight_sweep.specs.Steps.{one_more};
 
@@ -15,7 +15,6 @@ use crate::count::Steps;
 use crate::looking::look;
 use crate::places::place_of;
 use crate::products::is_upper;
-use crate::push::push;
 use crate::reach::{is_led_into, is_seen_by, number_by, stop_by, told_at};
 use crate::table::{SceneTable, table_of};
 use exact_geom::vector;
@@ -76,7 +75,7 @@ fn answer_by(table: &SceneTable, p: Point, arc: Arc, view: &View, target: &Targe
     requires view { IsSeenFrom table.now p arc view.now }
     requires askable { MayBeAsked p target.now }
     requires in_arc { is_in_arc arc (way_of p target.now) ≡ true }
-    ensures { value_of result ≡ answer_to table.now p target.now }
+    ensures { result ≡ given (answer_to table.now p target.now) }
 {
     let d = way_to(p, target);
     let told = told_at(view, place_of(d));
@@ -88,30 +87,6 @@ fn answer_by(table: &SceneTable, p: Point, arc: Arc, view: &View, target: &Targe
             wall: number_by(told.front),
         },
     }
-}
-
-/// Lists what the view tells of each target.
-fn push_answers(
-    answers: &mut Vec<Answer>,
-    table: &SceneTable,
-    p: Point,
-    arc: Arc,
-    view: &View,
-    targets: &[Target],
-) -> Result<(), NoMemory>
-    requires none { answers.old.items ≡ [] }
-    requires p_in { InRange p }
-    requires of_plan { IsOfSoundPlan table.now }
-    requires view { IsSeenFrom table.now p arc view.now }
-    requires askable { All (MayBeAsked p) targets.now }
-    requires in_arc { All (λ t. is_in_arc arc (way_of p t) ≡ true) targets.now }
-    ensures { IfOk result (λ u. map value_of answers.new.items ≡ answers_to table.now p targets.now) }
-{
-    for k in 0..targets.len() {
-        let target = targets[k];
-        push(answers, answer_by(table, p, arc, view, &target))?;
-    }
-    Ok(())
 }
 
 /// What the view tells of each target.
@@ -128,11 +103,16 @@ fn answers_by(
     requires view { IsSeenFrom table.now p arc view.now }
     requires askable { All (MayBeAsked p) targets.now }
     requires in_arc { All (λ t. is_in_arc arc (way_of p t) ≡ true) targets.now }
-    ensures { IfOk result (λ answers. map value_of answers.items ≡ answers_to table.now p targets.now) }
+    ensures { IfOk result (λ answers. answers.items ≡ map (λ t. given (answer_to table.now p t)) targets.now) }
 {
-    let mut answers = Vec::new(alloc);
-    push_answers(&mut answers, table, p, arc, view, targets)?;
-    Ok(answers)
+    match targets
+        .iter()
+        .map(|target| answer_by(table, p, arc, view, target))
+        .collect(alloc)
+    {
+        Ok(answers) => Ok(answers),
+        Err(_refused) => Err(NoMemory),
+    }
 }
 
 /// What is seen from `p`: for each point whether it and `p` see each other, and for each ray how far it reaches and the

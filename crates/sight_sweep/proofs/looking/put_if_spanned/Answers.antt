@@ -11,7 +11,8 @@ use Rattle.sight_sweep.proofs.looking.put_if_spanned.Goals as goal
 
 pub returns-in_default : goal.returns-in_default
 returns-in_default c a =
-    let h = c.in_default in ?
+    spanned_other c.args.table.now c.args.p c.args.d c.args.number c.args.active.now.items
+    (λ s own. none_some s (sym (ap (option_map seen) c.in_default.is) ∙ c.seen.ensures.seen ∙ own)) a
 
 pub returns-then-not-is_spanned : goal.returns-then-not-is_spanned
 returns-then-not-is_spanned c a =
