@@ -2,6 +2,7 @@
 
 ghost use Rattle.std.specs.Prelude.{◌≡◌};
 ghost use Rattle.plane_spec.specs.Vectors.{InRange, IsDirected, IsDirection};
+ghost use Rattle.sight_sweep.specs.Answers.{MayBeAsked};
 
 use crate::{Answer, Steps, Target, sweep};
 use exact_geom::{Frac, in_range, same_point};
@@ -86,13 +87,26 @@ fn scene(
 }
 
 /// The answer to one target.
-fn asked(rt: &impl Abort, alloc: Global, scene: &Scene, p: Point, target: Target) -> Answer {
+fn asked(rt: &impl Abort, alloc: Global, scene: &Scene, p: Point, target: Target) -> Answer
+    requires p_in { InRange p }
+    requires askable { MayBeAsked p target }
+{
     let mut steps = Steps::new();
     let Ok(answers) = sweep(alloc, scene, p, &[target], &mut steps) else {
         panic!(rt; "there is memory");
     };
     assert!(rt; answers.len() == 1 && steps.sweeps() == 1);
     answers[0]
+}
+
+/// Whether the other point is seen.
+fn sees(rt: &impl Abort, alloc: Global, scene: &Scene, p: Point, q: Point) -> bool {
+    let (p, q) = (known(rt, p), known(rt, q));
+    assert!(rt; !same_point(p, q));
+    match asked(rt, alloc, scene, p, Target::Point(q)) {
+        Answer::Seen(seen) => seen,
+        Answer::Reach { stop: _, wall: _ } => panic!(rt; "a point is seen or not"),
+    }
 }
 
 /// Whether it is the number `num / den`.
@@ -109,16 +123,33 @@ fn reaches(
     rt: &impl Abort,
     alloc: Global,
     scene: &Scene,
+    p: Point,
+    d: Point,
+    parts: Option<(i128, i128)>,
+    number: Option<u32>,
+)
+    requires p_in { InRange p }
+    requires direction { IsDirection d }
+    requires directed { IsDirected d }
+{
+    match asked(rt, alloc, scene, p, Target::Ray(d)) {
+        Answer::Reach { stop, wall } => {
+            assert!(rt; is(stop, parts) && wall == number, "({}, {}) to ({}, {})", p.x, p.y, d.x, d.y);
+        }
+        Answer::Seen(_) => panic!(rt; "a ray has a reach"),
+    }
+}
+
+/// Rays that are stopped, and by which wall or screen.
+fn all_reach(
+    rt: &impl Abort,
+    alloc: Global,
+    scene: &Scene,
     rays: &[(Point, Point, (i128, i128), u32)],
 ) {
     for (p, d, parts, number) in rays {
         let (p, d) = (known(rt, *p), heading(rt, *d));
-        match asked(rt, alloc, scene, p, Target::Ray(d)) {
-            Answer::Reach { stop, wall } => {
-                assert!(rt; is(stop, Some(*parts)) && wall == Some(*number), "from ({}, {})", p.x, p.y);
-            }
-            Answer::Seen(_) => panic!(rt; "a ray has a reach"),
-        }
+        reaches(rt, alloc, scene, p, d, Some(*parts), Some(*number));
     }
 }
 
@@ -130,15 +161,22 @@ fn sees_as_plain(rt: &impl Abort, alloc: Global, scene: &Scene, stations: &[Poin
             for y in -1..12 {
                 let q = known(rt, at(x, y));
                 if !same_point(p, q) {
-                    match asked(rt, alloc, scene, p, Target::Point(q)) {
-                        Answer::Seen(seen) => {
-                            assert!(rt; seen == free(scene, p, q), "({}, {}) ({x}, {y})", p.x, p.y);
-                        }
-                        Answer::Reach { stop: _, wall: _ } => panic!(rt; "a point is seen or not"),
-                    }
+                    assert!(rt; sees(rt, alloc, scene, p, q) == free(scene, p, q), "({}, {}) ({x}, {y})", p.x, p.y);
                 }
             }
         }
+    }
+}
+
+/// How far the plain call says that the ray reaches.
+fn plain_stop(scene: &Scene, p: Point, d: Point) -> Option<(i128, i128)>
+    requires p_in { InRange p }
+    requires direction { IsDirection d }
+    requires directed { IsDirected d }
+{
+    match stop(scene, p, d) {
+        None => None,
+        Some(t) => Some((t.num(), t.den())),
     }
 }
 
@@ -150,17 +188,8 @@ fn reaches_as_plain(rt: &impl Abort, alloc: Global, scene: &Scene, stations: &[P
             for y in -3..4 {
                 if x != 0 || y != 0 {
                     let d = heading(rt, at(x, y));
-                    let plain = match stop(scene, p, d) {
-                        None => None,
-                        Some(t) => Some((t.num(), t.den())),
-                    };
-                    match asked(rt, alloc, scene, p, Target::Ray(d)) {
-                        Answer::Reach { stop, wall } => {
-                            assert!(rt; is(stop, plain), "({}, {}) to ({x}, {y})", p.x, p.y);
-                            assert!(rt; wall == near_wall(scene, p, d), "({}, {}) to ({x}, {y})", p.x, p.y);
-                        }
-                        Answer::Seen(_) => panic!(rt; "a ray has a reach"),
-                    }
+                    let number = near_wall(scene, p, d);
+                    reaches(rt, alloc, scene, p, d, plain_stop(scene, p, d), number);
                 }
             }
         }
@@ -176,15 +205,12 @@ fn rays_reach_where_worked_rows_say(rt: HostRuntime) {
         (at(0, 4), at(1, 0), (10, 1), 1),
         (at(0, 4), at(8, 1), (3, 4), 11),
     ];
-    reaches(&rt, alloc, &pinched, &rays);
-    match asked(&rt, alloc, &pinched, known(&rt, at(0, 4)), Target::Point(known(&rt, at(10, 4)))) {
-        Answer::Seen(seen) => assert!(rt; seen),
-        Answer::Reach { stop: _, wall: _ } => panic!(rt; "a point is seen or not"),
-    }
+    all_reach(&rt, alloc, &pinched, &rays);
+    assert!(rt; sees(&rt, alloc, &pinched, at(0, 4), at(10, 4)));
     let both = scene(&rt, alloc, &[(at(2, 2), at(4, 4)), (at(5, 2), at(7, 4))], &[]);
-    reaches(&rt, alloc, &both, &[(at(0, 3), at(1, 0), (2, 1), 7)]);
+    all_reach(&rt, alloc, &both, &[(at(0, 3), at(1, 0), (2, 1), 7)]);
     let one = scene(&rt, alloc, &[(at(5, 2), at(7, 4))], &[]);
-    reaches(&rt, alloc, &one, &[(at(0, 3), at(1, 0), (5, 1), 7)]);
+    all_reach(&rt, alloc, &one, &[(at(0, 3), at(1, 0), (5, 1), 7)]);
     let screened = scene(&rt, alloc, &[], &[(at(3, 4), at(7, 4))]);
     let rays = [
         (at(5, 0), at(0, 1), (4, 1), 4),
@@ -192,7 +218,7 @@ fn rays_reach_where_worked_rows_say(rt: HostRuntime) {
         (at(0, 4), at(1, 0), (10, 1), 1),
         (at(0, 0), at(1, 1), (4, 1), 4),
     ];
-    reaches(&rt, alloc, &screened, &rays);
+    all_reach(&rt, alloc, &screened, &rays);
 }
 
 /// Stations on walls, at corners, on screens and at their ends, in boxes and outside.
