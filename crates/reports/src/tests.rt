@@ -42,7 +42,12 @@ enum Given<'a> {
 /// Two open points; point 1 between them is closed.
 const OPEN: [(u32, Point); 2] = [(0, Point { x: 250, y: 50 }), (2, Point { x: -250, y: 550 })];
 
-fn put_isovists_of(alloc: Global, out: &mut MemSink, form: Form, plan: &Plan) -> Result<(), ReportFault> {
+fn put_isovists_of(
+    alloc: Global,
+    out: &mut MemSink,
+    form: Form,
+    plan: &Plan,
+) -> Result<(), ReportFault> {
     match scene_of(alloc, plan) {
         Ok(scene) => put_isovists(alloc, out, form, plan, &scene),
         Err(_) => Err(ReportFault::NoMemory),
@@ -61,7 +66,9 @@ fn put(alloc: Global, out: &mut MemSink, form: Form, given: &Given) -> Result<()
         Given::Isovists(plan) => put_isovists_of(alloc, out, form, plan),
         Given::Axial(lines) => put_axial(alloc, out, form, lines),
         Given::Lines(measures) => put_lines(alloc, out, form, measures),
-        Given::Segments(plan, pieces, counts) => put_segments(alloc, out, form, plan, pieces, counts),
+        Given::Segments(plan, pieces, counts) => put_segments(
+            alloc, out, form, plan, pieces, counts,
+        ),
         Given::Turns(depths) => put_turns(alloc, out, form, *depths),
         Given::Plan(items) => put_plan(alloc, out, form, items),
     }
@@ -224,9 +231,15 @@ fn record_of_the_largest_numbers(rt: HostRuntime) -> Result<(), Fail> {
         mean: Some(Frac::new(-1_000_000_000_000_000_000, 999_999_999_999_999_999)),
         ra: Some(Frac::whole(i64::MIN)),
     };
-    let text = "table points\n0 -9223372036854775808 9223372036854775807 4294967295 4294967295 18446744073709551615 \
+    let text =
+        "table points\n0 -9223372036854775808 9223372036854775807 4294967295 4294967295 18446744073709551615 \
         -1000000000000000000/999999999999999999 -9223372036854775808/1\nend 1\n";
-    prints(&rt, rt.alloc(), &Given::Points(&[(0, corner)], &[largest]), text)
+    prints(
+        &rt,
+        rt.alloc(),
+        &Given::Points(&[(0, corner)], &[largest]),
+        text,
+    )
 }
 
 /// An edge is told once, from its smaller node.
@@ -267,7 +280,10 @@ fn table_of_a_plan(rt: HostRuntime) -> Result<(), Fail> {
 #[test]
 fn table_of_axial_lines(rt: HostRuntime) -> Result<(), Fail> {
     let (low, high) = (Frac::whole(0), Frac::whole(10));
-    let from = RPoint { x: low, y: Frac::new(25, 3) };
+    let from = RPoint {
+        x: low,
+        y: Frac::new(25, 3),
+    };
     let first = AxialLine {
         first: 0,
         second: 1,
@@ -289,7 +305,13 @@ fn room_with_box(rt: &impl Abort, alloc: Global) -> Result<Items, Fail> {
     let mut items = Items::new(alloc);
     items.push(Item::Outer(corners(alloc, 0, 10, 0, 10)?))?;
     items.push(Item::Obstacle(named(rt, "A"), corners(alloc, 2, 4, 2, 5)?))?;
-    items.push(Item::Grid(GridSpec { step: 3, x0: 0, y0: 4, cols: 3, rows: 1 }))?;
+    items.push(Item::Grid(GridSpec {
+        step: 3,
+        x0: 0,
+        y0: 4,
+        cols: 3,
+        rows: 1,
+    }))?;
     let (low, high) = (Point { x: 0, y: 0 }, Point { x: 10, y: 1 });
     items.push(Item::Route(named(rt, "R"), low, high))?;
     let (left, right) = (Point { x: 1, y: 1 }, Point { x: 9, y: 0 });
@@ -323,7 +345,8 @@ fn tables_of_a_room(rt: HostRuntime) -> Result<(), Fail> {
     };
     let text = "table isovists\n0 5 92 92\n2 5 156 156\nend 2\n";
     prints(&rt, alloc, &Given::Isovists(&plan), text)?;
-    let text = "table segments\n0 R 0/1 0/1 5/1 1/2 3\n1 R 5/1 1/2 10/1 1/1 3\n2 S-2 1/1 1/1 5/1 1/2 3\n\
+    let text =
+        "table segments\n0 R 0/1 0/1 5/1 1/2 3\n1 R 5/1 1/2 10/1 1/1 3\n2 S-2 1/1 1/1 5/1 1/2 3\n\
         3 S-2 5/1 1/2 9/1 0/1 3\nend 4\n";
     let pieces = pieces(alloc, &plan)?;
     let counts = neighbours(alloc, &pieces)?;
@@ -332,7 +355,8 @@ fn tables_of_a_room(rt: HostRuntime) -> Result<(), Fail> {
     let Ok(seen) = isovist(alloc, &plan, &scene, known(&rt, Point { x: 0, y: 4 })) else {
         panic!(&rt; "the point is open")
     };
-    let text = "table isovist\n2/1 9/2 2/1 5/1 1/1\n10/1 9/1 10/1 10/1 10/1\n10/1 10/1 0/1 10/1 60/1\n\
+    let text =
+        "table isovist\n2/1 9/2 2/1 5/1 1/1\n10/1 9/1 10/1 10/1 10/1\n10/1 10/1 0/1 10/1 60/1\n\
         0/1 0/1 4/1 0/1 16/1\n2/1 2/1 2/1 9/2 5/1\ntotal 92 92\nend 5\n";
     prints(&rt, alloc, &Given::Isovist(&seen), text)
 }
