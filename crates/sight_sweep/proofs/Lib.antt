@@ -1,0 +1,13 @@
+mod Actives
+mod Seeing
+mod Groups
+mod Passing
+mod Going
+mod Beginnings
+mod Listing
+mod Tables
+mod Leasts
+mod Stations
+mod Ends
+mod Telling
+mod Replies

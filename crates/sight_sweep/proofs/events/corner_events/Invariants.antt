@@ -1,0 +1,5 @@
+use Rattle.sight_sweep.specs.Events.{AreFirstEvents}
+use Rattle.sight_sweep.proofs.events.corner_events.Given as goal
+
+abbrev pub invariant-loop-number : goal.invariant-loop-number
+invariant-loop-number l = AreFirstEvents l.table.corners l.p l.arc l.number l.events.items

@@ -1,0 +1,11 @@
+use Rattle.std.proofs.Common.{◌≡◌, ◌∙◌, ◌≤◌, ◌<◌, ℕ, arith, sym, length, get_or, below_more}
+use Rattle.sight_spec.specs.Sight.{is_in_interior}
+use Rattle.front_laws.specs.Seen.{nowhere}
+use Rattle.sight_sweep.proofs.Tables.{none_of}
+use Rattle.sight_sweep.proofs.grounds.wall_at.Goals as goal
+
+pub loop-k-preserved : goal.loop-k-preserved
+loop-k-preserved c = below_more _ _ c.loop-k.invariant (sym c.is_in_interior.ensures ∙ c.if-is_in_interior.false)
+
+pub returns : goal.returns
+returns c = none_of (is_in_interior c.args.p) c.args.walls.now nowhere c.loop-k.k c.loop-k-test.false c.loop-k.invariant

@@ -1,0 +1,20 @@
+use Rattle.std.proofs.Common.{◌≡◌, ◌∙◌, ap, sym, subst}
+use Rattle.std.specs.Prelude.{true}
+use Rattle.std.specs.Option.{option_map}
+use Rattle.std.proofs.lemmas.Result.{on_ok_weaker}
+use Rattle.sight_sweep.specs.Actives.{seen, IsActive, beside}
+use Rattle.sight_sweep.proofs.Groups.{begun_now}
+use Rattle.sight_sweep.proofs.round.put_if_begun.Goals as goal
+
+pub returns : goal.returns
+returns c = record {
+  put = λ kept test way a old own.
+      let known = sym c.seen.ensures.seen ∙ ap (option_map seen) c.in-Some.is in
+      let here = sym c.same_point.ensures ∙ c.if-not-same_point.false in
+      let number = c.in-Some.ensures.number in
+      let facts = own (seen c.in-Some.blocker) known here in
+      on_ok_weaker c.put_in.result
+      (λ active. begun_now c.args.table.now c.args.p c.args.v kept test c.put_in.new.active.items c.args.number (seen c.in-Some.blocker) known here
+      (subst (λ n. IsActive c.args.table.now c.args.p kept (beside n test) c.put_in.new.active.items) number active))
+      (c.put_in.ensures.put c.args.table.now c.args.p kept test way c.requires.station.walls a c.in-Some.ensures.known (subst (λ n. kept n ≡ true) (sym number) facts.0) old facts.1);
+}

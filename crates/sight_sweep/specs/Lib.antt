@@ -1,0 +1,11 @@
+pub mod Steps
+pub mod Actives
+pub mod Events
+pub mod Tables
+pub mod Rounds
+pub mod Arcs
+pub mod Stations
+pub mod Answers
+pub mod Told
+pub mod Hits
+pub mod Grounds

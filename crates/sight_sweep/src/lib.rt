@@ -1,0 +1,56 @@
+//! The angular sweep: what is seen from one point all round, and answers for many targets at once.
+//!
+//! | item | what it is |
+//! |---|---|
+//! | [`SceneTable`], [`table_of`] | a scene with what a look finds in it: made once, used by each look |
+//! | [`Arc`], [`View`], [`Sector`], [`Front`], [`Ground`] | the directions that are looked in, and what is seen there |
+//! | [`look`] | the view from a station |
+//! | [`Target`], [`Answer`] | a point or a ray that is asked for, and what is answered |
+//! | [`sweep`] | answers all targets from one point |
+//! | [`Steps`] | how many sweeps were made |
+//!
+//! The directions of the corners are gone through once, counterclockwise from (1,0). On the way those walls and screens
+//! are kept that the direction spans strictly, in their order from the station outwards, so that the nearest one is the
+//! first:
+//!
+//! ```text
+//!        \   begins      \ d
+//!         \ +-------------\------------+ ends
+//!          \               \
+//!           \  +------------\---+
+//!            \               \
+//!             p ------------- p
+//! ```
+#![tactic(auto)]
+
+mod active;
+mod answering;
+mod answers;
+mod arcs;
+mod around;
+mod blocker;
+mod corners;
+mod count;
+mod events;
+mod grounds;
+mod hits;
+mod looking;
+mod places;
+mod products;
+mod push;
+mod range;
+mod reach;
+mod round;
+mod sides;
+mod table;
+mod told;
+#[cfg(test)]
+mod tests;
+
+pub use answering::sweep;
+pub use answers::Answer;
+pub use count::Steps;
+pub use looking::look;
+pub use sight_spec::Target;
+pub use table::{SceneTable, table_of};
+pub use view_laws::{Arc, Front, Ground, Sector, View};
