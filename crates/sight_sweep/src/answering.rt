@@ -68,8 +68,10 @@ fn arc_of(p: Point, targets: &[Target]) -> Arc
     }
 }
 
-/// What the view tells of the target.
-fn answer_by(table: &SceneTable, p: Point, arc: Arc, view: &View, target: &Target) -> Answer
+/// What a view from `p` tells of a target in its arc: the answer that a [`sweep`] gives.
+///
+/// Cost: a search in the sectors.
+pub fn answer_by(table: &SceneTable, p: Point, arc: Arc, view: &View, target: &Target) -> Answer
     requires p_in { InRange p }
     requires of_plan { IsOfSoundPlan table.now }
     requires view { IsSeenFrom table.now p arc view.now }

@@ -47,7 +47,7 @@ mod told;
 #[cfg(test)]
 mod tests;
 
-pub use answering::sweep;
+pub use answering::{answer_by, sweep};
 pub use answers::Answer;
 pub use count::Steps;
 pub use looking::look;
