@@ -1,6 +1,6 @@
 -- Which walls and screens end at a corner, by their ends as sorted numbers.
-use Rattle.std.proofs.Common.{◌≡◌, ℕ, zero, suc, ◌+◌, ◌-◌, ◌*◌, ◌/◌, ◌%◌, ◌<◌, ◌≤◌, arith, ap, refl, sym, ◌∙◌, subst, List, [], ◌∷◌, ◌++◌, length, get_or, map}
-use Rattle.std.specs.Prelude.{Bool, true, false, ◌||◌, All}
+use Rattle.std.proofs.Common.{◌≡◌, ℕ, zero, suc, ◌+◌, ◌-◌, ◌*◌, ◌/◌, ◌%◌, ◌<◌, ◌≤◌, arith, ap, refl, sym, ◌∙◌, subst}
+use Rattle.std.proofs.Common.{List, [], ◌∷◌, ◌++◌, length, get_or, map}
 use Rattle.std.specs.List.{Contains, slice_range}
 use Rattle.std.specs.List.Sorted.{IsNonDecreasing, IsPermutation}
 use Rattle.std.proofs.lemmas.List.{length-map, length-append}
@@ -19,7 +19,8 @@ use Rattle.front_laws.specs.Seen.{nowhere}
 use Rattle.front_laws.proofs.Tests.{by_lt, by_cases, mapped_at, other_of_either}
 use Rattle.sweep_laws.specs.Groups.{no_corner}
 use Rattle.sight_sweep.specs.declared.range.Range.{Range}
-use Rattle.sight_sweep.specs.Tables.{ends_at, key_of, end_of, no_range, AreAround, HasEnds, AreEnds, IsRangeOf, IsRangeAt, AreRanges, IsTable}
+use Rattle.sight_sweep.specs.Tables.{key_of, end_of, no_range, AreAround, HasEnds, AreEnds, IsRangeOf}
+use Rattle.sight_sweep.specs.Tables.{IsRangeAt, AreRanges, IsTable}
 use Rattle.sight_sweep.proofs.Tables.{default}
 
 -- ---- ends
@@ -55,13 +56,17 @@ both_ends lines k line ends small inside read h = record {
       (All-push (λ e. e % 2048 < length lines) ends (end_of line.a k) h.within (numbered (key_of line.a)))
       (numbered (key_of line.b));
   firsts = λ j lt. by_lt j k
-      (λ low. more (ends ++ end_of line.a k ∷ []) (end_of (get_or lines j nowhere).a j) (end_of line.b k) (more ends (end_of (get_or lines j nowhere).a j) (end_of line.a k) (h.firsts j low)))
-      (λ high. subst (λ n. Contains ((ends ++ end_of line.a k ∷ []) ++ end_of line.b k ∷ []) (end_of (get_or lines n nowhere).a n)) (same_number j k lt high)
+      (λ low. more (ends ++ end_of line.a k ∷ []) (end_of (get_or lines j nowhere).a j) (end_of line.b k)
+      (more ends (end_of (get_or lines j nowhere).a j) (end_of line.a k) (h.firsts j low)))
+      (λ high. subst (λ n. Contains ((ends ++ end_of line.a k ∷ []) ++ end_of line.b k ∷ [])
+      (end_of (get_or lines n nowhere).a n)) (same_number j k lt high)
       (subst (λ w. Contains ((ends ++ end_of line.a k ∷ []) ++ end_of line.b k ∷ []) (end_of w.a k)) read
       (more (ends ++ end_of line.a k ∷ []) (end_of line.a k) (end_of line.b k) (last ends (end_of line.a k)))));
   seconds = λ j lt. by_lt j k
-      (λ low. more (ends ++ end_of line.a k ∷ []) (end_of (get_or lines j nowhere).b j) (end_of line.b k) (more ends (end_of (get_or lines j nowhere).b j) (end_of line.a k) (h.seconds j low)))
-      (λ high. subst (λ n. Contains ((ends ++ end_of line.a k ∷ []) ++ end_of line.b k ∷ []) (end_of (get_or lines n nowhere).b n)) (same_number j k lt high)
+      (λ low. more (ends ++ end_of line.a k ∷ []) (end_of (get_or lines j nowhere).b j) (end_of line.b k)
+      (more ends (end_of (get_or lines j nowhere).b j) (end_of line.a k) (h.seconds j low)))
+      (λ high. subst (λ n. Contains ((ends ++ end_of line.a k ∷ []) ++ end_of line.b k ∷ [])
+      (end_of (get_or lines n nowhere).b n)) (same_number j k lt high)
       (subst (λ w. Contains ((ends ++ end_of line.a k ∷ []) ++ end_of line.b k ∷ []) (end_of w.b k)) read
       (last (ends ++ end_of line.a k ∷ []) (end_of line.b k))));
 }
@@ -96,7 +101,8 @@ pub range_is : (ends : List ℕ) (key from upto : ℕ) → from ≤ length ends 
     → IsRangeAt ends key (record { from = from; upto = upto })
 range_is ends key from upto from_in upto_in low high beyond = record {
   order = by_lt upto from
-      (λ lt. absurd (crossed (get_or ends upto 0) key (low upto lt) (beyond upto (omega arith) (short upto from (length ends) lt from_in))))
+      (λ lt. absurd (crossed (get_or ends upto 0) key (low upto lt)
+      (beyond upto (omega arith) (short upto from (length ends) lt from_in))))
       (λ le. le);
   within = upto_in;
   all = λ i lt e. (
@@ -130,8 +136,10 @@ pub one_range : (ends : List ℕ) (corners : List Corner) (k : ℕ) (corner : Co
 one_range ends corners k corner range ranges read is r = record {
   count_is = length-append ranges (range ∷ []) ∙ ap (λ n. n + 1) r.count_is;
   each = λ j lt. by_lt j k
-      (λ low. subst (IsRangeAt ends (key_of (get_or corners j no_corner).here)) (sym (at_before ranges range no_range j (subst (λ n. j < n) (sym r.count_is) low))) (r.each j low))
-      (λ high. subst (λ n. IsRangeAt ends (key_of (get_or corners n no_corner).here) (get_or (ranges ++ range ∷ []) n no_range)) (same_number j k lt high)
+      (λ low. subst (IsRangeAt ends (key_of (get_or corners j no_corner).here))
+      (sym (at_before ranges range no_range j (subst (λ n. j < n) (sym r.count_is) low))) (r.each j low))
+      (λ high. subst (λ n. IsRangeAt ends (key_of (get_or corners n no_corner).here)
+      (get_or (ranges ++ range ∷ []) n no_range)) (same_number j k lt high)
       (subst (λ c. IsRangeAt ends (key_of c.here) (get_or (ranges ++ range ∷ []) k no_range)) read
       (subst (λ n. IsRangeAt ends (key_of corner.here) (get_or (ranges ++ range ∷ []) n no_range)) r.count_is
       (subst (IsRangeAt ends (key_of corner.here)) (sym (at_last ranges range no_range)) is))));
@@ -160,10 +168,14 @@ found ends x range n small r c =
     let two = r.all i c.1 (ap (λ e. e / 2048) is ∙ end_key (key_of x) n small) in
     let back : range.from + (i - range.from) ≡ i = onward range.from i two.0 in (
       i - range.from,
-      subst (λ m. i - range.from < m) (sym (length-between (numbers_at ends) range.from range.upto (subst (λ m. range.upto ≤ m) (sym (length-map ends (λ e. e % 2048))) r.within)))
-      (within range.from i range.upto two.0 two.1),
-      get_or-between (numbers_at ends) range.from range.upto (i - range.from) n (subst (λ m. m < range.upto) (sym back) two.1)
-      ∙ ap (λ m. get_or (numbers_at ends) m n) back ∙ read_at ends i n c.1 ∙ ap (λ e. e % 2048) is ∙ end_number (key_of x) n small,
+      subst (λ m. i - range.from < m)
+          (sym (length-between (numbers_at ends) range.from range.upto
+          (subst (λ m. range.upto ≤ m) (sym (length-map ends (λ e. e % 2048))) r.within)))
+          (within range.from i range.upto two.0 two.1),
+      get_or-between (numbers_at ends) range.from range.upto (i - range.from) n
+          (subst (λ m. m < range.upto) (sym back) two.1)
+          ∙ ap (λ m. get_or (numbers_at ends) m n) back ∙ read_at ends i n c.1 ∙ ap (λ e. e % 2048) is
+          ∙ end_number (key_of x) n small,
     )
   where
     onward : (f i : ℕ) → f ≤ i → f + (i - f) ≡ i
@@ -177,16 +189,20 @@ pub around_of : (scene : Scene) (ends : List ℕ) (x : Point) (range : Range) �
     → AreAround scene x (slice_range (numbers_at ends) range.from range.upto)
 around_of scene ends x range few h r = record {
   within = λ i d lt.
-      let j = inner i range.from range.upto (subst (λ m. i < m) (length-between (numbers_at ends) range.from range.upto upto_in) lt) in
+      let j = inner i range.from range.upto
+      (subst (λ m. i < m) (length-between (numbers_at ends) range.from range.upto upto_in) lt) in
       let k = short_of (range.from + i) range.upto (length ends) j r.within in
-      subst (λ n. n < length (blockers_of_scene scene)) (sym (get_or-between (numbers_at ends) range.from range.upto i d j ∙ read_at ends (range.from + i) d k))
+      subst (λ n. n < length (blockers_of_scene scene))
+      (sym (get_or-between (numbers_at ends) range.from range.upto i d j ∙ read_at ends (range.from + i) d k))
       (h.within (range.from + i) 0 k);
   all = λ n lt at. by_cases (same_point (get_or (blockers_of_scene scene) n nowhere).a x)
       (λ first. found ends x range n (short_of n (length (blockers_of_scene scene)) 2048 lt few) r
-      (subst (λ y. Contains ends (end_of y n)) (points_same (get_or (blockers_of_scene scene) n nowhere).a x first) (h.firsts n lt)))
+      (subst (λ y. Contains ends (end_of y n)) (points_same (get_or (blockers_of_scene scene) n nowhere).a x first)
+      (h.firsts n lt)))
       (λ other. found ends x range n (short_of n (length (blockers_of_scene scene)) 2048 lt few) r
       (subst (λ y. Contains ends (end_of y n)) (points_same (get_or (blockers_of_scene scene) n nowhere).b x
-      (other_of_either (same_point (get_or (blockers_of_scene scene) n nowhere).a x) (same_point (get_or (blockers_of_scene scene) n nowhere).b x) other at)) (h.seconds n lt)));
+      (other_of_either (same_point (get_or (blockers_of_scene scene) n nowhere).a x)
+      (same_point (get_or (blockers_of_scene scene) n nowhere).b x) other at)) (h.seconds n lt)));
 }
   where
     upto_in : range.upto ≤ length (numbers_at ends)
@@ -195,10 +211,12 @@ around_of scene ends x range few h r = record {
 -- ---- the table
 
 -- the scene whose lists are these
-pub same_scene : (scene : Scene) (walls screens : List Segment) (corners : List Corner) → walls ≡ scene.walls → screens ≡ scene.screens → corners ≡ scene.corners
+pub same_scene : (scene : Scene) (walls screens : List Segment) (corners : List Corner) → walls ≡ scene.walls
+    → screens ≡ scene.screens → corners ≡ scene.corners
     → scene ≡ record { walls = walls; screens = screens; corners = corners }
 same_scene scene walls screens corners e f g =
-    sym (ap (λ t. record { walls = t; screens = screens; corners = corners }) e ∙ ap (λ t. record { walls = scene.walls; screens = t; corners = corners }) f
+    sym (ap (λ t. record { walls = t; screens = screens; corners = corners }) e
+    ∙ ap (λ t. record { walls = scene.walls; screens = t; corners = corners }) f
     ∙ ap (λ t. record { walls = scene.walls; screens = scene.screens; corners = t }) g)
 
 pub few_lines : (scene : Scene) → IsOfSoundPlan scene → length (blockers_of_scene scene) ≤ 2048
@@ -218,13 +236,19 @@ table_is scene lines ends ranges numbers of lines_are e r numbers_are = record {
   in_order = λ k d lt.
       let at = r.each k (subst (λ n. k < n) r.count_is lt) in
       subst (IsRangeOf numbers) (default ranges k no_range d lt)
-      (record { order = at.order; within = subst (λ n. (get_or ranges k no_range).upto ≤ n) (sym (ap length numbers_are ∙ length-map ends (λ e. e % 2048))) at.within });
-  around = λ k lt. subst (λ xs. AreAround scene (get_or scene.corners k no_corner).here (slice_range xs (get_or ranges k no_range).from (get_or ranges k no_range).upto)) (sym numbers_are)
+      (record {
+        order = at.order;
+        within = subst (λ n. (get_or ranges k no_range).upto ≤ n)
+            (sym (ap length numbers_are ∙ length-map ends (λ e. e % 2048))) at.within;
+      });
+  around = λ k lt. subst (λ xs. AreAround scene (get_or scene.corners k no_corner).here
+      (slice_range xs (get_or ranges k no_range).from (get_or ranges k no_range).upto)) (sym numbers_are)
       (around_of scene ends (get_or scene.corners k no_corner).here (get_or ranges k no_range) (few_lines scene of)
       (subst (λ xs. HasEnds xs (length xs) ends) lines_are e.has) (r.each k lt));
 }
 
-pub all_ends : (lines : List Segment) (count : ℕ) (ends : List ℕ) → length lines ≤ count → HasEnds lines count ends → HasEnds lines (length lines) ends
+pub all_ends : (lines : List Segment) (count : ℕ) (ends : List ℕ) → length lines ≤ count → HasEnds lines count ends
+    → HasEnds lines (length lines) ends
 all_ends lines count ends end h = record {
   within = h.within;
   firsts = λ k lt. h.firsts k (up k (length lines) count lt end);

@@ -1,16 +1,17 @@
 -- From one group of corners to the next.
-use Rattle.std.proofs.Common.{◌≡◌, ◌≢◌, ℕ, zero, suc, ◌+◌, ◌-◌, ◌*◌, ◌/◌, ◌%◌, ◌<◌, ◌≤◌, ◌==◌, arith, ap, refl, sym, ◌∙◌, subst, List, [], ◌∷◌, length, get_or, map}
-use Rattle.std.proofs.Common.{ℤ, ◌-ℤ◌}
-use Rattle.std.specs.Prelude.{Bool, true, false, ◌&&◌, not, nat_lt, int_lt, pos, Option, Some, None, All}
-use Rattle.std.specs.List.{list_any, slice_range, Contains}
+use Rattle.std.proofs.Common.{◌≡◌, ◌≢◌, ℕ, zero, suc, ◌+◌, ◌-◌, ◌*◌, ◌/◌, ◌%◌, ◌<◌, ◌≤◌, ◌==◌, arith, ap, refl, sym}
+use Rattle.std.proofs.Common.{◌∙◌, subst, List, [], ◌∷◌, length, get_or, map}
+use Rattle.std.specs.Prelude.{Bool, true, false, ◌&&◌, not, nat_lt, pos, Option, Some}
+use Rattle.std.specs.List.{list_any, slice_range}
 use Rattle.std.proofs.lemmas.List.Edits.{get_or-between, length-between}
 use Rattle.std.proofs.lemmas.Int.{ints}
 use Rattle.plane_spec.specs.declared.Point.{Point}
-use Rattle.plane_spec.specs.declared.Segment.{Segment}
-use Rattle.plane_spec.specs.Vectors.{point, vector, same_point, turns_before, turns_left, turns_by, is_upper, InRange, IsWithin, IsDirection, IsDirected}
+use Rattle.plane_spec.specs.Vectors.{point, same_point, turns_before, turns_left, turns_by, is_upper}
+use Rattle.plane_spec.specs.Vectors.{IsDirection, IsDirected}
 use Rattle.sight_spec.specs.Scene.{Scene, blockers_of_scene}
 use Rattle.front_laws.specs.Seen.{Seen, seen_at}
-use Rattle.front_laws.proofs.Tests.{by_cases, by_lt, both_of, both_true, tested_same_number, own_number, clash, number_not_less, number_less_tested, tested_number_less, tested_number_not_less, mapped_at}
+use Rattle.front_laws.proofs.Tests.{by_cases, by_lt, both_of, both_true, tested_same_number, own_number, clash}
+use Rattle.front_laws.proofs.Tests.{number_not_less, number_less_tested, tested_number_less, tested_number_not_less}
 use Rattle.front_laws.proofs.Lists.{any_at, some_of}
 use Rattle.turn_laws.specs.Places.{place_of}
 use Rattle.turn_laws.proofs.Places.{place_tells, half_turn, whole_turn}
@@ -21,62 +22,75 @@ use Rattle.view_laws.specs.declared.view.Sector.{Sector}
 use Rattle.view_laws.specs.Views.{is_in_arc}
 use Rattle.view_laws.proofs.Arcs.{arc_places}
 use Rattle.view_laws.proofs.Answers.{ahead_along, behind_along}
-use Rattle.round_laws.specs.Rounds.{is_open_at, from_place, to_place, HasNoEnd, EndNowhere, AreWalls, IsRound}
+use Rattle.round_laws.specs.Rounds.{is_open_at, from_place, to_place, EndNowhere, AreWalls}
 use Rattle.round_laws.proofs.Sectors.{round_goes_on}
 use Rattle.round_laws.proofs.Endings.{along_some}
 use Rattle.sweep_laws.specs.Groups.{no_corner, stands_in}
 use Rattle.sweep_laws.proofs.Grouped.{stands_where}
 use Rattle.sight_sweep.specs.declared.blocker.Blocker.{Blocker}
-use Rattle.sight_sweep.specs.Arcs.{IsArc, IsLater, start_of, start_place, end_place}
+use Rattle.sight_sweep.specs.Arcs.{IsArc, start_place, end_place}
 use Rattle.sight_sweep.specs.Stations.{HasCornerAt, IsStation}
 use Rattle.sight_sweep.specs.Events.{way_at, corner_of, place_at, IsEvent, AreEvents}
 use Rattle.sight_sweep.specs.Actives.{numbered, IsActive}
 use Rattle.sight_sweep.proofs.Actives.{active_so}
 use Rattle.sight_sweep.proofs.Passing.{held_as_open, covered_all}
 use Rattle.sight_sweep.specs.Rounds.{is_held_at, IsGoing}
-use Rattle.sight_sweep.specs.Rounds.{all_kept, IsGroup, ends_among, begins_among, IsUnderway}
+use Rattle.sight_sweep.specs.Rounds.{all_kept, IsGroup, IsUnderway}
 
 -- ---- arcs by places
 
 upper_before : (d e : Point) → is_upper d ≡ true → is_upper e ≡ true → turns_before d e ≡ turns_left d e
 unfolding turns_before
-upper_before d e h k = ap (λ t. turns_by t (is_upper e) (turns_left d e)) h ∙ ap (λ t. turns_by true t (turns_left d e)) k
+upper_before d e h k = ap (λ t. turns_by t (is_upper e) (turns_left d e)) h
+    ∙ ap (λ t. turns_by true t (turns_left d e)) k
 
 start_none : place_of (point (pos 1) (pos 0)) ≡ 0
 unfolding place_of
 start_none = refl
 
 -- the places of an arc's directions
-pub in_arc_from : (arc : Arc) (d : Point) → IsArc arc → IsDirection d → IsDirected d → is_in_arc arc d ≡ true → start_place arc ≤ place_of d
+pub in_arc_from : (arc : Arc) (d : Point) → IsArc arc → IsDirection d → IsDirected d → is_in_arc arc d ≡ true
+    → start_place arc ≤ place_of d
 in_arc_from arcs.All d a d_in d_some h = subst (λ n. n ≤ place_of d) (sym start_none) (omega arith)
 in_arc_from arcs.Later d a d_in d_some h = subst (λ n. n ≤ place_of d) (sym start_none) (omega arith)
 in_arc_from (arcs.Between first last) d a d_in d_some h =
-    (arc_places first last d a.first_later.direction a.first_later.directed a.first_later.upper a.last_later.direction a.last_later.directed a.last_later.upper d_in d_some h).0
+    (arc_places first last d a.first_later.direction a.first_later.directed a.first_later.upper a.last_later.direction
+    a.last_later.directed a.last_later.upper d_in d_some h).0
 
-pub in_arc_below : (arc : Arc) (d : Point) → IsArc arc → IsDirection d → IsDirected d → is_in_arc arc d ≡ true → place_of d < end_place arc
+pub in_arc_below : (arc : Arc) (d : Point) → IsArc arc → IsDirection d → IsDirected d → is_in_arc arc d ≡ true
+    → place_of d < end_place arc
 unfolding is_in_arc
 in_arc_below arcs.All d a d_in d_some h = whole_turn d d_in d_some
-in_arc_below arcs.Later d a d_in d_some h = tested_number_less (place_of d) 2199023255552 (sym (half_turn d d_in d_some) ∙ h)
+in_arc_below arcs.Later d a d_in d_some h = tested_number_less (place_of d) 2199023255552
+    (sym (half_turn d d_in d_some) ∙ h)
 in_arc_below (arcs.Between first last) d a d_in d_some h =
     more (place_of d) (place_of last)
-    (arc_places first last d a.first_later.direction a.first_later.directed a.first_later.upper a.last_later.direction a.last_later.directed a.last_later.upper d_in d_some h).1
+    (arc_places first last d a.first_later.direction a.first_later.directed a.first_later.upper a.last_later.direction
+    a.last_later.directed a.last_later.upper d_in d_some h).1
   where
     more : (m n : ℕ) → m ≤ n → m < n + 1
     more m n h = omega (arith, h)
 
 -- a direction whose place is among them is in the arc
-pub arc_by_place : (arc : Arc) (d : Point) → IsArc arc → IsDirection d → IsDirected d → start_place arc ≤ place_of d → place_of d < end_place arc → is_in_arc arc d ≡ true
+pub arc_by_place : (arc : Arc) (d : Point) → IsArc arc → IsDirection d → IsDirected d → start_place arc ≤ place_of d
+    → place_of d < end_place arc → is_in_arc arc d ≡ true
 unfolding is_in_arc
 arc_by_place arcs.All d a d_in d_some low high = refl
-arc_by_place arcs.Later d a d_in d_some low high = half_turn d d_in d_some ∙ number_less_tested (place_of d) 2199023255552 high
+arc_by_place arcs.Later d a d_in d_some low high = half_turn d d_in d_some
+    ∙ number_less_tested (place_of d) 2199023255552 high
 arc_by_place (arcs.Between first last) d a d_in d_some low high =
     let f = a.first_later in let l = a.last_later in
-    let last_low : place_of last < 2199023255552 = tested_number_less (place_of last) 2199023255552 (sym (half_turn last l.direction l.directed) ∙ l.upper) in
-    let up : is_upper d ≡ true = half_turn d d_in d_some ∙ number_less_tested (place_of d) 2199023255552 (chain (place_of d) (place_of last) 2199023255552 high last_low) in
+    let last_low : place_of last < 2199023255552 = tested_number_less (place_of last) 2199023255552
+    (sym (half_turn last l.direction l.directed) ∙ l.upper) in
+    let up : is_upper d ≡ true = half_turn d d_in d_some
+    ∙ number_less_tested (place_of d) 2199023255552
+    (chain (place_of d) (place_of last) 2199023255552 high last_low) in
     both_true (is_upper d) (not (turns_left d first) && not (turns_left last d)) up
     (both_true (not (turns_left d first)) (not (turns_left last d))
-    (ap not (sym (upper_before d first up f.upper) ∙ place_tells d first d_in d_some f.direction f.directed ∙ number_not_less (place_of d) (place_of first) low))
-    (ap not (sym (upper_before last d l.upper up) ∙ place_tells last d l.direction l.directed d_in d_some ∙ number_not_less (place_of last) (place_of d) (at_most (place_of d) (place_of last) high))))
+    (ap not (sym (upper_before d first up f.upper) ∙ place_tells d first d_in d_some f.direction f.directed
+    ∙ number_not_less (place_of d) (place_of first) low))
+    (ap not (sym (upper_before last d l.upper up) ∙ place_tells last d l.direction l.directed d_in d_some
+    ∙ number_not_less (place_of last) (place_of d) (at_most (place_of d) (place_of last) high))))
   where
     chain : (m n k : ℕ) → m < n + 1 → n < k → m < k
     chain m n k h j = omega (arith, h, j)
@@ -90,7 +104,8 @@ starts_before_end arcs.Later a = subst (λ n. n ≤ 2199023255552) (sym start_no
 starts_before_end (arcs.Between first last) a =
     let f = a.first_later in let l = a.last_later in
     up (place_of first) (place_of last) (tested_number_not_less (place_of last) (place_of first)
-    (sym (place_tells last first l.direction l.directed f.direction f.directed) ∙ upper_before last first l.upper f.upper ∙ a.in_order))
+    (sym (place_tells last first l.direction l.directed f.direction f.directed)
+    ∙ upper_before last first l.upper f.upper ∙ a.in_order))
   where
     up : (m n : ℕ) → m ≤ n → m ≤ n + 1
     up m n h = omega (arith, h)
@@ -110,7 +125,8 @@ places_rise a b h = omega (arith, h)
 pub record IsWay (scene : Scene) (p : Point) (arc : Arc) (events : List ℕ) : Type 0 where
   pub is_arc : IsArc arc
   pub walls : AreWalls scene p
-  pub corners : (n : ℕ) (s : Seen) → n < length (blockers_of_scene scene) → seen_at p (blockers_of_scene scene) n ≡ Some s
+  pub corners : (n : ℕ) (s : Seen) → n < length (blockers_of_scene scene) → seen_at p (blockers_of_scene scene) n
+      ≡ Some s
       → HasCornerAt p scene.corners s.from × HasCornerAt p scene.corners s.to
   pub few : length scene.corners ≤ 1024
   pub ways : (k : ℕ) → k < length scene.corners → IsDirection (way_at p scene.corners k)
@@ -123,14 +139,23 @@ pub record IsEventAt (events : List ℕ) (place number : ℕ) : Type 0 where
   pub place_is : place_at (get_or events at 0) ≡ place
   pub number_is : corner_of (get_or events at 0) ≡ number
 
-event_at : (scene : Scene) (p : Point) (arc : Arc) (events : List ℕ) (k : ℕ) → IsWay scene p arc events → k < length scene.corners → IsDirected (way_at p scene.corners k)
-    → start_place arc ≤ place_of (way_at p scene.corners k) → place_of (way_at p scene.corners k) < end_place arc → IsEventAt events (place_of (way_at p scene.corners k)) k
+event_at : (scene : Scene) (p : Point) (arc : Arc) (events : List ℕ) (k : ℕ) → IsWay scene p arc events
+    → k < length scene.corners → IsDirected (way_at p scene.corners k)
+    → start_place arc ≤ place_of (way_at p scene.corners k) → place_of (way_at p scene.corners k) < end_place arc
+    → IsEventAt events (place_of (way_at p scene.corners k)) k
 event_at scene p arc events k w lt some low high =
-    let c = w.events_are.all k lt some (arc_by_place arc (way_at p scene.corners k) w.is_arc (w.ways k lt) some low high) in
+    let c = w.events_are.all k lt some
+    (arc_by_place arc (way_at p scene.corners k) w.is_arc (w.ways k lt) some low high) in
     let place = place_of (way_at p scene.corners k) in
     let small : k < 2048 = fits k (length scene.corners) lt w.few in
     let is : get_or events c.0 0 ≡ place * 2048 + k = default events c.0 0 (place * 2048 + k) c.1 ∙ c.2 in
-    record { at = c.0; within = c.1; place_is = ap place_at is ∙ event_place place k small; number_is = ap corner_of is ∙ event_number place k small }
+    record {
+      at = c.0;
+      within = c.1;
+      place_is = ap place_at is
+          ∙ event_place place k small;
+      number_is = ap corner_of is ∙ event_number place k small;
+    }
   where
     fits : (k n : ℕ) → k < n → n ≤ 1024 → k < 2048
     fits k n h j = omega (arith, h, j)
@@ -149,14 +174,18 @@ pub record IsRun (events : List ℕ) (from upto place : ℕ) : Type 0 where
   pub after : (i : ℕ) → upto ≤ i → i < length events → place < place_at (get_or events i 0)
 
 -- an event of the place is in the run
-run_has : (events : List ℕ) (from upto place number : ℕ) → IsRun events from upto place → IsEventAt events place number → list_any (λ e. corner_of e == number) (slice_range events from upto) ≡ true
+run_has : (events : List ℕ) (from upto place number : ℕ) → IsRun events from upto place
+    → IsEventAt events place number → list_any (λ e. corner_of e == number) (slice_range events from upto) ≡ true
 run_has events from upto place number r e = by_lt e.at from
     (λ low. absurd (never (place_at (get_or events e.at 0)) place (r.before e.at low) e.place_is))
     (λ high. by_lt e.at upto
     (λ inside. any_at (λ t. corner_of t == number) (slice_range events from upto) 0 (record {
       place = e.at - from;
-      within = subst (λ n. e.at - from < n) (sym (length-between events from upto r.within)) (part e.at from upto high inside);
-      holds = ap (λ t. corner_of t == number) (get_or-between events from upto (e.at - from) 0 (part_of e.at from upto high inside) ∙ ap (λ i. get_or events i 0) (whole e.at from high))
+      within = subst (λ n. e.at - from < n) (sym (length-between events from upto r.within))
+          (part e.at from upto high inside);
+      holds = ap (λ t. corner_of t == number)
+          (get_or-between events from upto (e.at - from) 0 (part_of e.at from upto high inside)
+          ∙ ap (λ i. get_or events i 0) (whole e.at from high))
           ∙ subst (λ t. (t == number) ≡ true) (sym e.number_is) (own_number number);
     }))
     (λ outside. absurd (never_back place (place_at (get_or events e.at 0)) (r.after e.at outside e.within) e.place_is)))
@@ -182,38 +211,56 @@ same_itself : (x : Point) → same_point x x ≡ true
 same_itself x = grind (arith, ints)
 
 -- the event of the corner at v
-met_event : (scene : Scene) (p v : Point) (arc : Arc) (events : List ℕ) → IsWay scene p arc events → (m : HasCornerAt p scene.corners v) → IsDirected v → start_place arc ≤ place_of v → place_of v < end_place arc
+met_event : (scene : Scene) (p v : Point) (arc : Arc) (events : List ℕ) → IsWay scene p arc events
+    → (m : HasCornerAt p scene.corners v) → IsDirected v → start_place arc ≤ place_of v → place_of v < end_place arc
     → IsEventAt events (place_of v) m.number
 met_event scene p v arc events w m some low high =
     subst (λ n. IsEventAt events n m.number) (ap place_of m.there)
     (event_at scene p arc events m.number w m.within (subst IsDirected (sym m.there) some)
-    (subst (λ t. start_place arc ≤ place_of t) (sym m.there) low) (subst (λ t. place_of t < end_place arc) (sym m.there) high))
+    (subst (λ t. start_place arc ≤ place_of t) (sym m.there) low)
+    (subst (λ t. place_of t < end_place arc) (sym m.there) high))
 
 -- it is among the run's corners
-met_among : (scene : Scene) (p v : Point) (arc : Arc) (events : List ℕ) (from upto place : ℕ) → IsWay scene p arc events → IsRun events from upto place → HasCornerAt p scene.corners v → IsDirected v → place_of v ≡ place
-    → start_place arc ≤ place → place < end_place arc → list_any (λ e. same_point v (way_at p scene.corners (corner_of e))) (slice_range events from upto) ≡ true
+met_among : (scene : Scene) (p v : Point) (arc : Arc) (events : List ℕ) (from upto place : ℕ)
+    → IsWay scene p arc events → IsRun events from upto place → HasCornerAt p scene.corners v → IsDirected v
+    → place_of v ≡ place
+    → start_place arc ≤ place → place < end_place arc
+    → list_any (λ e. same_point v (way_at p scene.corners (corner_of e))) (slice_range events from upto) ≡ true
 met_among scene p v arc events from upto place w r m some is low high =
-    let e = subst (λ n. IsEventAt events n m.number) is (met_event scene p v arc events w m some (subst (λ n. start_place arc ≤ n) (sym is) low) (subst (λ n. n < end_place arc) (sym is) high)) in
-    let found = some_of (λ t. corner_of t == m.number) (slice_range events from upto) 0 (run_has events from upto place m.number r e) in
-    let same : corner_of (get_or (slice_range events from upto) found.place 0) ≡ m.number = tested_same_number _ m.number found.holds in
+    let e = subst (λ n. IsEventAt events n m.number) is
+    (met_event scene p v arc events w m some (subst (λ n. start_place arc ≤ n) (sym is) low)
+    (subst (λ n. n < end_place arc) (sym is) high)) in
+    let found = some_of (λ t. corner_of t == m.number) (slice_range events from upto) 0
+    (run_has events from upto place m.number r e) in
+    let same : corner_of (get_or (slice_range events from upto) found.place 0)
+    ≡ m.number = tested_same_number _ m.number found.holds in
     any_at (λ t. same_point v (way_at p scene.corners (corner_of t))) (slice_range events from upto) 0 (record {
       place = found.place;
       within = found.within;
-      holds = subst (λ k. same_point v (way_at p scene.corners k) ≡ true) (sym same) (subst (λ t. same_point v t ≡ true) (sym m.there) (same_itself v));
+      holds = subst (λ k. same_point v (way_at p scene.corners k) ≡ true) (sym same)
+          (subst (λ t. same_point v t ≡ true) (sym m.there) (same_itself v));
     })
 
 -- ---- a run is a group
 
-pub group_of : (scene : Scene) (p : Point) (arc : Arc) (events : List ℕ) (from upto place : ℕ) → IsWay scene p arc events → IsRun events from upto place → start_place arc ≤ place → place < end_place arc
+pub group_of : (scene : Scene) (p : Point) (arc : Arc) (events : List ℕ) (from upto place : ℕ)
+    → IsWay scene p arc events → IsRun events from upto place → start_place arc ≤ place → place < end_place arc
     → IsGroup scene p arc place (slice_range events from upto)
 group_of scene p arc events from upto place w r low high = record {
   some = subst (λ n. 0 < n) (sym (length-between events from upto r.within)) (up from upto r.some);
-  each = λ i d lt. let j = inner i lt in subst (IsEvent scene.corners p arc) (sym (get_or-between events from upto i d j)) (w.events_are.each (from + i) d (short (from + i) upto (length events) j r.within));
-  places = λ i d lt. let j = inner i lt in ap place_at (get_or-between events from upto i d j) ∙ ap place_at (default events (from + i) d 0 (short (from + i) upto (length events) j r.within)) ∙ r.same (from + i) (after from i) j;
-  ends = λ n s within is e. let b = w.walls.blockers n s within is in met_among scene p s.to arc events from upto place w r (w.corners n s within is).1 b.to_some e low high;
-  begins = λ n s within is e. let b = w.walls.blockers n s within is in met_among scene p s.from arc events from upto place w r (w.corners n s within is).0 b.from_some e low high;
+  each = λ i d lt. let j = inner i lt in subst (IsEvent scene.corners p arc)
+      (sym (get_or-between events from upto i d j))
+      (w.events_are.each (from + i) d (short (from + i) upto (length events) j r.within));
+  places = λ i d lt. let j = inner i lt in ap place_at (get_or-between events from upto i d j)
+      ∙ ap place_at (default events (from + i) d 0 (short (from + i) upto (length events) j r.within))
+      ∙ r.same (from + i) (after from i) j;
+  ends = λ n s within is e. let b = w.walls.blockers n s within is in met_among scene p s.to arc events from upto
+      place w r (w.corners n s within is).1 b.to_some e low high;
+  begins = λ n s within is e. let b = w.walls.blockers n s within is in met_among scene p s.from arc events from upto
+      place w r (w.corners n s within is).0 b.from_some e low high;
   corners = λ k lt some e. run_has events from upto place k r (subst (λ n. IsEventAt events n k) e
-      (event_at scene p arc events k w lt some (subst (λ n. start_place arc ≤ n) (sym e) low) (subst (λ n. n < end_place arc) (sym e) high)));
+      (event_at scene p arc events k w lt some (subst (λ n. start_place arc ≤ n) (sym e) low)
+      (subst (λ n. n < end_place arc) (sym e) high)));
 }
   where
     up : (from upto : ℕ) → from < upto → 0 < upto - from
@@ -226,7 +273,8 @@ group_of scene p arc events from upto place w r low high = record {
     after from i = omega arith
 
     inner : (i : ℕ) → i < length (slice_range events from upto) → from + i < upto
-    inner i lt = let e = length-between events from upto r.within in sum_of i from upto (length (slice_range events from upto)) lt e
+    inner i lt = let e = length-between events from upto r.within in sum_of i from upto
+        (length (slice_range events from upto)) lt e
       where
         sum_of : (i from upto n : ℕ) → i < n → n ≡ upto - from → from + i < upto
         sum_of i from upto n h e = omega (arith, h, e)
@@ -249,7 +297,8 @@ no_end_test x low high le none = by_lt x low
     (λ lt. absurd (none ge lt))
     (λ far. number_not_less x low ge ∙ sym (number_not_less x high far)))
 
-pub gap_ends_nowhere : (scene : Scene) (p : Point) (arc : Arc) (events : List ℕ) (low high : ℕ) → IsWay scene p arc events → IsGap events low high → low ≤ high → start_place arc ≤ low → high ≤ end_place arc
+pub gap_ends_nowhere : (scene : Scene) (p : Point) (arc : Arc) (events : List ℕ) (low high : ℕ)
+    → IsWay scene p arc events → IsGap events low high → low ≤ high → start_place arc ≤ low → high ≤ end_place arc
     → EndNowhere p (blockers_of_scene scene) all_kept low high
 gap_ends_nowhere scene p arc events low high w gap le first last n s within own is =
     let b = w.walls.blockers n s within is in
@@ -267,12 +316,14 @@ gap_ends_nowhere scene p arc events low high w gap le first last n s within own 
 
     away : (v : Point) → HasCornerAt p scene.corners v → IsDirected v → low ≤ place_of v → place_of v < high → ⊥
     away v m some h k =
-        let e = met_event scene p v arc events w m some (from_low (start_place arc) low (place_of v) first h) (to_high (place_of v) high (end_place arc) k last) in
+        let e = met_event scene p v arc events w m some (from_low (start_place arc) low (place_of v) first h)
+        (to_high (place_of v) high (end_place arc) k last) in
         gap.none e.at e.within (subst (λ n. low ≤ n) (sym e.place_is) h) (subst (λ n. n < high) (sym e.place_is) k)
 
 -- ---- what is known of a station
 
-pub way_of : (scene : Scene) (p : Point) (arc : Arc) (events : List ℕ) → IsStation scene p → IsArc arc → AreEvents scene.corners p arc events → IsWay scene p arc events
+pub way_of : (scene : Scene) (p : Point) (arc : Arc) (events : List ℕ) → IsStation scene p → IsArc arc
+    → AreEvents scene.corners p arc events → IsWay scene p arc events
 way_of scene p arc events station is_arc events_are = record {
   is_arc = is_arc;
   walls = station.walls;
@@ -284,13 +335,17 @@ way_of scene p arc events station is_arc events_are = record {
 
 -- ---- on to the next group
 
-event_in_gap : (scene : Scene) (p d : Point) (arc : Arc) (events : List ℕ) (low high : ℕ) (j : ℕ) → IsWay scene p arc events → IsGap events low high → start_place arc ≤ low → high ≤ end_place arc
-    → IsDirection d → IsDirected d → low ≤ place_of d → place_of d < high → j < length scene.corners → stands_in p d (get_or scene.corners j no_corner).here ≡ true → IsDirected (way_at p scene.corners j) → ⊥
+event_in_gap : (scene : Scene) (p d : Point) (arc : Arc) (events : List ℕ) (low high : ℕ) (j : ℕ)
+    → IsWay scene p arc events → IsGap events low high → start_place arc ≤ low → high ≤ end_place arc
+    → IsDirection d → IsDirected d → low ≤ place_of d → place_of d < high → j < length scene.corners
+    → stands_in p d (get_or scene.corners j no_corner).here ≡ true → IsDirected (way_at p scene.corners j) → ⊥
 event_in_gap scene p d arc events low high j w gap first last d_in d_some above below lt stands some =
-    let same : place_of d ≡ place_of (way_at p scene.corners j) = tested_same_number (place_of d) (place_of (way_at p scene.corners j))
-        (sym (stands_where p d (get_or scene.corners j no_corner).here d_in d_some (w.ways j lt) some) ∙ stands) in
+    let same : place_of d ≡ place_of (way_at p scene.corners j) = tested_same_number (place_of d)
+    (place_of (way_at p scene.corners j))
+    (sym (stands_where p d (get_or scene.corners j no_corner).here d_in d_some (w.ways j lt) some) ∙ stands) in
     let e = subst (λ n. IsEventAt events n j) (sym same) (event_at scene p arc events j w lt some
-        (subst (λ n. start_place arc ≤ n) same (up (start_place arc) low (place_of d) first above)) (subst (λ n. n < end_place arc) same (down (place_of d) high (end_place arc) below last))) in
+    (subst (λ n. start_place arc ≤ n) same (up (start_place arc) low (place_of d) first above))
+    (subst (λ n. n < end_place arc) same (down (place_of d) high (end_place arc) below last))) in
     gap.none e.at e.within (subst (λ n. low ≤ n) (sym e.place_is) above) (subst (λ n. n < high) (sym e.place_is) below)
   where
     up : (a b c : ℕ) → a ≤ b → b ≤ c → a ≤ c
@@ -300,19 +355,24 @@ event_in_gap scene p d arc events low high j w gap first last d_in d_some above 
     down a b c h k = omega (arith, h, k)
 
 -- what is held is open, if nothing ends at the start
-held_open : (scene : Scene) (p : Point) (start low high : ℕ) (active : List Blocker) → low < high → EndNowhere p (blockers_of_scene scene) all_kept low high
-    → IsActive scene p all_kept (λ n s. is_held_at start (from_place s) (to_place s) low) active → IsActive scene p all_kept (λ n s. is_open_at (from_place s) (to_place s) low) active
+held_open : (scene : Scene) (p : Point) (start low high : ℕ) (active : List Blocker) → low < high
+    → EndNowhere p (blockers_of_scene scene) all_kept low high
+    → IsActive scene p all_kept (λ n s. is_held_at start (from_place s) (to_place s) low) active
+    → IsActive scene p all_kept (λ n s. is_open_at (from_place s) (to_place s) low) active
 held_open scene p start low high active lt nowhere a =
-    active_so scene p all_kept (λ n s. is_held_at start (from_place s) (to_place s) low) (λ n s. is_open_at (from_place s) (to_place s) low) active a
+    active_so scene p all_kept (λ n s. is_held_at start (from_place s) (to_place s) low)
+    (λ n s. is_open_at (from_place s) (to_place s) low) active a
     (λ n s within own is. by_cases ((to_place s == start) && (low == start))
     (λ h. absurd (let two = both_of (to_place s == start) (low == start) h in
     ends (to_place s) start low high two.0 two.1 lt (nowhere n s within own is).no_to))
     (λ h. all_of (is_open_at (from_place s) (to_place s) low) ((to_place s == start) && (low == start)) h))
   where
-    ends : (t start low high : ℕ) → (t == start) ≡ true → (low == start) ≡ true → low < high → nat_lt t low ≡ nat_lt t high → ⊥
+    ends : (t start low high : ℕ) → (t == start) ≡ true → (low == start) ≡ true → low < high → nat_lt t low
+        ≡ nat_lt t high → ⊥
     ends t start low high h k lt e =
         let same : t ≡ low = tested_same_number t start h ∙ sym (tested_same_number low start k) in
-        clash (nat_lt t high) (number_less_tested t high (subst (λ n. n < high) (sym same) lt)) (sym e ∙ number_not_less t low (subst (λ n. n ≤ t) same (own t)))
+        clash (nat_lt t high) (number_less_tested t high (subst (λ n. n < high) (sym same) lt))
+        (sym e ∙ number_not_less t low (subst (λ n. n ≤ t) same (own t)))
       where
         own : (n : ℕ) → n ≤ n
         own n = omega arith
@@ -320,20 +380,28 @@ held_open scene p start low high active lt nowhere a =
     all_of : (o b : Bool) → b ≡ false → (o && not b) ≡ o
     all_of o b h = grind arith
 
-pub goes_on : (scene : Scene) (p : Point) (arc : Arc) (before : Option Front) (sectors : List Sector) (events : List ℕ) (low high : ℕ) (active : List Blocker) → IsWay scene p arc events → IsGap events low high
-    → low < high → high ≤ end_place arc → IsUnderway scene p arc (start_place arc) before sectors low active → IsUnderway scene p arc (start_place arc) before sectors high active
+pub goes_on : (scene : Scene) (p : Point) (arc : Arc) (before : Option Front) (sectors : List Sector)
+    (events : List ℕ) (low high : ℕ) (active : List Blocker) → IsWay scene p arc events → IsGap events low high
+    → low < high → high ≤ end_place arc → IsUnderway scene p arc (start_place arc) before sectors low active
+    → IsUnderway scene p arc (start_place arc) before sectors high active
 goes_on scene p arc before sectors events low high active w gap lt last u =
     let le : low ≤ high = omega (arith, lt) in
     let nowhere = gap_ends_nowhere scene p arc events low high w gap le u.since last in
     let opened = held_open scene p (start_place arc) low high active lt nowhere u.holds in
-    let r = round_goes_on scene p arc all_kept before sectors low high (map numbered active) w.walls (covered_all scene p arc) (record { radials = u.radials; held = opened.held }) le nowhere
-        (λ d d_in d_some within above below. record {
-          ahead = λ j j_in h. absurd (event_in_gap scene p d arc events low high j w gap u.since last d_in d_some above below j_in (both_of _ _ h).0 (along_some d (way_at p scene.corners j) (ahead_along p d (get_or scene.corners j no_corner) h)));
-          behind = λ j j_in h. absurd (event_in_gap scene p d arc events low high j w gap u.since last d_in d_some above below j_in (both_of _ _ h).0 (along_some d (way_at p scene.corners j) (behind_along p d (get_or scene.corners j no_corner) h)));
-        }) in
+    let r = round_goes_on scene p arc all_kept before sectors low high (map numbered active) w.walls
+    (covered_all scene p arc) (record { radials = u.radials; held = opened.held }) le nowhere
+    (λ d d_in d_some within above below. record {
+      ahead = λ j j_in h. absurd (event_in_gap scene p d arc events low high j w gap u.since last d_in d_some
+          above below j_in (both_of _ _ h).0
+          (along_some d (way_at p scene.corners j) (ahead_along p d (get_or scene.corners j no_corner) h)));
+      behind = λ j j_in h. absurd (event_in_gap scene p d arc events low high j w gap u.since last d_in d_some
+          above below j_in (both_of _ _ h).0
+          (along_some d (way_at p scene.corners j) (behind_along p d (get_or scene.corners j no_corner) h)));
+    }) in
     record {
       radials = r.radials;
-      holds = held_as_open scene p (start_place arc) high active (unlike (start_place arc) low high u.since lt) (record { held = r.held; known = u.holds.known });
+      holds = held_as_open scene p (start_place arc) high active (unlike (start_place arc) low high u.since lt)
+          (record { held = r.held; known = u.holds.known });
       ways = u.ways;
       since = up (start_place arc) low high u.since le;
     }
@@ -344,8 +412,10 @@ goes_on scene p arc before sectors events low high active w gap lt last u =
     up : (a b c : ℕ) → a ≤ b → b ≤ c → a ≤ c
     up a b c h k = omega (arith, h, k)
 
-pub goes_on_or_stays : (scene : Scene) (p : Point) (arc : Arc) (before : Option Front) (sectors : List Sector) (events : List ℕ) (low high : ℕ) (active : List Blocker) → IsWay scene p arc events → IsGap events low high
-    → low ≤ high → high ≤ end_place arc → IsUnderway scene p arc (start_place arc) before sectors low active → IsUnderway scene p arc (start_place arc) before sectors high active
+pub goes_on_or_stays : (scene : Scene) (p : Point) (arc : Arc) (before : Option Front) (sectors : List Sector)
+    (events : List ℕ) (low high : ℕ) (active : List Blocker) → IsWay scene p arc events → IsGap events low high
+    → low ≤ high → high ≤ end_place arc → IsUnderway scene p arc (start_place arc) before sectors low active
+    → IsUnderway scene p arc (start_place arc) before sectors high active
 goes_on_or_stays scene p arc before sectors events low high active w gap le last u = by_lt low high
     (λ lt. goes_on scene p arc before sectors events low high active w gap lt last u)
     (λ ge. subst (λ n. IsUnderway scene p arc (start_place arc) before sectors n active) (same low high le ge) u)
@@ -355,10 +425,14 @@ goes_on_or_stays scene p arc before sectors events low high active w gap le last
 
 -- ---- the loop over the events
 
-rises : (scene : Scene) (p : Point) (arc : Arc) (events : List ℕ) (i j : ℕ) → IsWay scene p arc events → i ≤ j → j < length events → place_at (get_or events i 0) ≤ place_at (get_or events j 0)
-rises scene p arc events i j w le lt = places_rise (get_or events i 0) (get_or events j 0) (w.events_are.sorted i j 0 le lt)
+rises : (scene : Scene) (p : Point) (arc : Arc) (events : List ℕ) (i j : ℕ) → IsWay scene p arc events → i ≤ j
+    → j < length events → place_at (get_or events i 0) ≤ place_at (get_or events j 0)
+rises scene p arc events i j w le lt = places_rise (get_or events i 0) (get_or events j 0)
+    (w.events_are.sorted i j 0 le lt)
 
-pub place_in : (scene : Scene) (p : Point) (arc : Arc) (events : List ℕ) (i : ℕ) → IsWay scene p arc events → i < length events → (start_place arc ≤ place_at (get_or events i 0)) × (place_at (get_or events i 0) < end_place arc)
+pub place_in : (scene : Scene) (p : Point) (arc : Arc) (events : List ℕ) (i : ℕ) → IsWay scene p arc events
+    → i < length events → (start_place arc ≤ place_at (get_or events i 0))
+    × (place_at (get_or events i 0) < end_place arc)
 place_in scene p arc events i w lt =
     let e = w.events_are.each i 0 lt in
     let v = way_at p scene.corners (corner_of (get_or events i 0)) in
@@ -367,8 +441,10 @@ place_in scene p arc events i w lt =
       subst (λ n. n < end_place arc) (sym e.place) (in_arc_below arc v w.is_arc v_in e.directed e.in_arc),
     )
 
-pub going_begins : (scene : Scene) (p : Point) (arc : Arc) (before : Option Front) (sectors : List Sector) (events : List ℕ) (active : List Blocker) → IsWay scene p arc events → start_place arc ≤ end_place arc
-    → IsUnderway scene p arc (start_place arc) before sectors (start_place arc) active → IsGoing scene p arc before sectors events 0 0 active
+pub going_begins : (scene : Scene) (p : Point) (arc : Arc) (before : Option Front) (sectors : List Sector)
+    (events : List ℕ) (active : List Blocker) → IsWay scene p arc events → start_place arc ≤ end_place arc
+    → IsUnderway scene p arc (start_place arc) before sectors (start_place arc) active
+    → IsGoing scene p arc before sectors events 0 0 active
 going_begins scene p arc before sectors events active w le u = record {
   place = start_place arc;
   underway = u;
@@ -380,8 +456,11 @@ going_begins scene p arc before sectors events active w le u = record {
   all_passed = λ h. refl;
 }
 
-pub going_more : (scene : Scene) (p : Point) (arc : Arc) (before : Option Front) (sectors : List Sector) (events : List ℕ) (from k : ℕ) (active : List Blocker) → k + 1 < length events
-    → place_at (get_or events k 0) ≡ place_at (get_or events (k + 1) 0) → IsGoing scene p arc before sectors events from k active → IsGoing scene p arc before sectors events from (k + 1) active
+pub going_more : (scene : Scene) (p : Point) (arc : Arc) (before : Option Front) (sectors : List Sector)
+    (events : List ℕ) (from k : ℕ) (active : List Blocker) → k + 1 < length events
+    → place_at (get_or events k 0) ≡ place_at (get_or events (k + 1) 0)
+    → IsGoing scene p arc before sectors events from k active
+    → IsGoing scene p arc before sectors events from (k + 1) active
 going_more scene p arc before sectors events from k active more e g = record {
   place = g.place;
   underway = g.underway;
@@ -397,18 +476,23 @@ going_more scene p arc before sectors events from k active more e g = record {
 }
 
 -- the run that ends at k
-pub run_at : (scene : Scene) (p : Point) (arc : Arc) (before : Option Front) (sectors : List Sector) (events : List ℕ) (from k : ℕ) (active : List Blocker) → IsWay scene p arc events → k < length events
-    → (k + 1 < length events → place_at (get_or events k 0) ≢ place_at (get_or events (k + 1) 0)) → IsGoing scene p arc before sectors events from k active
+pub run_at : (scene : Scene) (p : Point) (arc : Arc) (before : Option Front) (sectors : List Sector) (events : List ℕ)
+    (from k : ℕ) (active : List Blocker) → IsWay scene p arc events → k < length events
+    → (k + 1 < length events → place_at (get_or events k 0) ≢ place_at (get_or events (k + 1) 0))
+    → IsGoing scene p arc before sectors events from k active
     → IsRun events from (k + 1) (place_at (get_or events from 0))
 run_at scene p arc before sectors events from k active w inside other g = record {
   some = let h = g.order in omega (arith, h);
   within = omega (arith, inside);
   same = λ i ge lt. g.same i ge (omega (arith, lt)) (short i k (length events) lt inside);
-  before = λ i lt. chain (place_at (get_or events i 0)) g.place (place_at (get_or events from 0)) (g.passed i lt) (g.coming from (omega arith) (within from k (length events) g.order inside));
+  before = λ i lt. chain (place_at (get_or events i 0)) g.place (place_at (get_or events from 0)) (g.passed i lt)
+      (g.coming from (omega arith) (within from k (length events) g.order inside));
   after = λ i ge lt.
       let more : k + 1 < length events = above (k + 1) i (length events) ge lt in
-      beyond (place_at (get_or events from 0)) (place_at (get_or events k 0)) (place_at (get_or events (k + 1) 0)) (place_at (get_or events i 0))
-      (g.same k g.order (omega arith) inside) (rises scene p arc events k (k + 1) w (omega arith) more) (other more) (rises scene p arc events (k + 1) i w ge lt);
+      beyond (place_at (get_or events from 0)) (place_at (get_or events k 0)) (place_at (get_or events (k + 1) 0))
+      (place_at (get_or events i 0))
+      (g.same k g.order (omega arith) inside) (rises scene p arc events k (k + 1) w (omega arith) more) (other more)
+      (rises scene p arc events (k + 1) i w ge lt);
 }
   where
     short : (i k n : ℕ) → i < k + 1 → k < n → i < n
@@ -424,9 +508,11 @@ run_at scene p arc before sectors events from k active w inside other g = record
     above a b c h k = omega (arith, h, k)
 
     beyond : (p q r s : ℕ) → q ≡ p → q ≤ r → q ≢ r → r ≤ s → p < s
-    beyond p q r s e le other le_too = by_lt q r (λ lt. omega (arith, e, lt, le_too)) (λ ge. absurd (other (omega (arith, le, ge))))
+    beyond p q r s e le other le_too = by_lt q r (λ lt. omega (arith, e, lt, le_too))
+        (λ ge. absurd (other (omega (arith, le, ge))))
 
-pub run_gap : (events : List ℕ) (from upto low place : ℕ) → IsRun events from upto place → ((i : ℕ) → i < from → place_at (get_or events i 0) < low) → IsGap events low place
+pub run_gap : (events : List ℕ) (from upto low place : ℕ) → IsRun events from upto place
+    → ((i : ℕ) → i < from → place_at (get_or events i 0) < low) → IsGap events low place
 run_gap events from upto low place r passed = record {
   none = λ i lt ge below. by_lt i from
       (λ early. absurd (never (place_at (get_or events i 0)) low (passed i early) ge))
@@ -445,12 +531,15 @@ run_gap events from upto low place r passed = record {
     beyond a b h k = omega (arith, h, k)
 
 -- before the group is passed
-pub going_to : (scene : Scene) (p : Point) (arc : Arc) (before : Option Front) (sectors : List Sector) (events : List ℕ) (from k : ℕ) (active : List Blocker) → IsWay scene p arc events → k < length events
-    → IsRun events from (k + 1) (place_at (get_or events from 0)) → IsGoing scene p arc before sectors events from k active
+pub going_to : (scene : Scene) (p : Point) (arc : Arc) (before : Option Front) (sectors : List Sector)
+    (events : List ℕ) (from k : ℕ) (active : List Blocker) → IsWay scene p arc events → k < length events
+    → IsRun events from (k + 1) (place_at (get_or events from 0))
+    → IsGoing scene p arc before sectors events from k active
     → IsUnderway scene p arc (start_place arc) before sectors (place_at (get_or events from 0)) active
 going_to scene p arc before sectors events from k active w inside r g =
     let lt : from < length events = within from k (length events) g.order inside in
-    goes_on_or_stays scene p arc before sectors events g.place (place_at (get_or events from 0)) active w (run_gap events from (k + 1) g.place (place_at (get_or events from 0)) r g.passed)
+    goes_on_or_stays scene p arc before sectors events g.place (place_at (get_or events from 0)) active w
+    (run_gap events from (k + 1) g.place (place_at (get_or events from 0)) r g.passed)
     (g.coming from (omega arith) lt) (at_most _ _ (place_in scene p arc events from w lt).1) g.underway
   where
     within : (from k n : ℕ) → from ≤ k → k < n → from < n
@@ -460,8 +549,10 @@ going_to scene p arc before sectors events from k active w inside r g =
     at_most a b h = omega (arith, h)
 
 -- after it
-pub going_past : (scene : Scene) (p : Point) (arc : Arc) (before : Option Front) (sectors : List Sector) (events : List ℕ) (from k : ℕ) (active : List Blocker) → IsWay scene p arc events → k < length events
-    → from ≤ k → IsRun events from (k + 1) (place_at (get_or events from 0)) → IsUnderway scene p arc (start_place arc) before sectors (place_at (get_or events from 0) + 1) active
+pub going_past : (scene : Scene) (p : Point) (arc : Arc) (before : Option Front) (sectors : List Sector)
+    (events : List ℕ) (from k : ℕ) (active : List Blocker) → IsWay scene p arc events → k < length events
+    → from ≤ k → IsRun events from (k + 1) (place_at (get_or events from 0))
+    → IsUnderway scene p arc (start_place arc) before sectors (place_at (get_or events from 0) + 1) active
     → IsGoing scene p arc before sectors events (k + 1) (k + 1) active
 going_past scene p arc before sectors events from k active w inside le r u = record {
   place = place_at (get_or events from 0) + 1;
@@ -491,11 +582,17 @@ going_past scene p arc before sectors events from k active w inside le r u = rec
     between : (i k : ℕ) → i ≤ k → k ≤ i → i ≡ k
     between i k h j = omega (arith, h, j)
 
-pub going_ends : (scene : Scene) (p : Point) (arc : Arc) (before : Option Front) (sectors : List Sector) (events : List ℕ) (from k : ℕ) (active : List Blocker) → IsWay scene p arc events → length events ≤ k
-    → IsGoing scene p arc before sectors events from k active → IsUnderway scene p arc (start_place arc) before sectors (end_place arc) active
+pub going_ends : (scene : Scene) (p : Point) (arc : Arc) (before : Option Front) (sectors : List Sector)
+    (events : List ℕ) (from k : ℕ) (active : List Blocker) → IsWay scene p arc events → length events ≤ k
+    → IsGoing scene p arc before sectors events from k active
+    → IsUnderway scene p arc (start_place arc) before sectors (end_place arc) active
 going_ends scene p arc before sectors events from k active w end g =
     goes_on_or_stays scene p arc before sectors events g.place (end_place arc) active w
-    (record { none = λ i lt ge below. absurd (never (place_at (get_or events i 0)) g.place (g.passed i (inside i k from (length events) lt end (g.all_passed end))) ge) })
+    (record {
+      none = λ i lt ge below. absurd
+          (never (place_at (get_or events i 0)) g.place
+          (g.passed i (inside i k from (length events) lt end (g.all_passed end))) ge);
+    })
     g.last (own (end_place arc)) g.underway
   where
     never : (a b : ℕ) → a < b → b ≤ a → ⊥

@@ -1,6 +1,7 @@
 -- The events of an arc, as they are listed.
-use Rattle.std.proofs.Common.{◌≡◌, ℕ, ◌+◌, ◌*◌, ◌/◌, ◌%◌, ◌<◌, ◌≤◌, arith, sym, subst, refl, List, [], ◌∷◌, ◌++◌, length, get_or}
-use Rattle.std.specs.Prelude.{Bool, true, false, ◌&&◌, All}
+use Rattle.std.proofs.Common.{◌≡◌, ℕ, ◌+◌, ◌*◌, ◌/◌, ◌%◌, ◌<◌, ◌≤◌, arith, sym, subst, refl, List, [], ◌∷◌, ◌++◌}
+use Rattle.std.proofs.Common.{length}
+use Rattle.std.specs.Prelude.{true, false}
 use Rattle.std.specs.List.{Contains}
 use Rattle.std.specs.List.Sorted.{IsNonDecreasing, IsPermutation}
 use Rattle.std.proofs.lemmas.List.Elements.{All-push, Contains-append_left, Contains-append_right}
@@ -12,7 +13,7 @@ use Rattle.front_laws.proofs.Tests.{by_lt, clash}
 use Rattle.turn_laws.specs.Places.{place_of}
 use Rattle.view_laws.specs.declared.view.Arc.{Arc}
 use Rattle.view_laws.specs.Views.{is_in_arc}
-use Rattle.sight_sweep.specs.Events.{way_at, corner_of, place_at, IsEvent, HasAll, AreFirstEvents, AreEvents}
+use Rattle.sight_sweep.specs.Events.{way_at, IsEvent, HasAll, AreFirstEvents, AreEvents}
 
 event_place : (place number : ℕ) → number < 2048 → (place * 2048 + number) / 2048 ≡ place
 event_place place number h = omega (arith, h)
@@ -21,7 +22,8 @@ event_number : (place number : ℕ) → number < 2048 → (place * 2048 + number
 event_number place number h = omega (arith, h)
 
 -- an event is listed
-pub event_listed : (corners : List Corner) (p : Point) (arc : Arc) (number : ℕ) → length corners ≤ 1024 → number < length corners → IsDirected (way_at p corners number) → is_in_arc arc (way_at p corners number) ≡ true
+pub event_listed : (corners : List Corner) (p : Point) (arc : Arc) (number : ℕ) → length corners ≤ 1024
+    → number < length corners → IsDirected (way_at p corners number) → is_in_arc arc (way_at p corners number) ≡ true
     → IsEvent corners p arc (place_of (way_at p corners number) * 2048 + number)
 event_listed corners p arc number few lt some within =
     let place = place_of (way_at p corners number) in
@@ -30,19 +32,22 @@ event_listed corners p arc number few lt some within =
       within = subst (λ k. k < length corners) (sym is) lt;
       directed = subst (λ k. IsDirected (way_at p corners k)) (sym is) some;
       in_arc = subst (λ k. is_in_arc arc (way_at p corners k) ≡ true) (sym is) within;
-      place = subst (λ k. (place * 2048 + number) / 2048 ≡ place_of (way_at p corners k)) (sym is) (event_place place number (small number (length corners) lt few));
+      place = subst (λ k. (place * 2048 + number) / 2048 ≡ place_of (way_at p corners k)) (sym is)
+          (event_place place number (small number (length corners) lt few));
     }
   where
     small : (k n : ℕ) → k < n → n ≤ 1024 → k < 2048
     small k n h j = omega (arith, h, j)
 
 -- one more that isn't in the arc
-pub all_but : (corners : List Corner) (p : Point) (arc : Arc) (number : ℕ) (events : List ℕ) → (IsDirected (way_at p corners number) → is_in_arc arc (way_at p corners number) ≡ true → ⊥)
+pub all_but : (corners : List Corner) (p : Point) (arc : Arc) (number : ℕ) (events : List ℕ)
+    → (IsDirected (way_at p corners number) → is_in_arc arc (way_at p corners number) ≡ true → ⊥)
     → HasAll corners p arc number events → HasAll corners p arc (number + 1) events
 all_but corners p arc number events none all k lt inside some within = by_lt k number
     (λ low. all k low inside some within)
     (λ high. let same : k ≡ number = between k number lt high in
-    absurd (none (subst (λ n. IsDirected (way_at p corners n)) same some) (subst (λ n. is_in_arc arc (way_at p corners n) ≡ true) same within)))
+    absurd (none (subst (λ n. IsDirected (way_at p corners n)) same some)
+    (subst (λ n. is_in_arc arc (way_at p corners n) ≡ true) same within)))
   where
     between : (k n : ℕ) → k < n + 1 → n ≤ k → k ≡ n
     between k n h j = omega (arith, h, j)
@@ -55,11 +60,14 @@ contains_last events y = Contains-append_right events (y ∷ []) y (0, omega ari
 
 -- one more that is
 pub all_and : (corners : List Corner) (p : Point) (arc : Arc) (number : ℕ) (events : List ℕ)
-    → HasAll corners p arc number events → HasAll corners p arc (number + 1) (events ++ (place_of (way_at p corners number) * 2048 + number) ∷ [])
+    → HasAll corners p arc number events
+    → HasAll corners p arc (number + 1) (events ++ (place_of (way_at p corners number) * 2048 + number) ∷ [])
 all_and corners p arc number events all k lt inside some within = by_lt k number
-    (λ low. contains_first events (place_of (way_at p corners k) * 2048 + k) (place_of (way_at p corners number) * 2048 + number) (all k low inside some within))
+    (λ low. contains_first events (place_of (way_at p corners k) * 2048 + k)
+    (place_of (way_at p corners number) * 2048 + number) (all k low inside some within))
     (λ high. let same : number ≡ k = between k number lt high in
-    subst (λ n. Contains (events ++ (place_of (way_at p corners number) * 2048 + number) ∷ []) (place_of (way_at p corners n) * 2048 + n)) same
+    subst (λ n. Contains (events ++ (place_of (way_at p corners number) * 2048 + number) ∷ [])
+    (place_of (way_at p corners n) * 2048 + n)) same
     (contains_last events (place_of (way_at p corners number) * 2048 + number)))
   where
     between : (k n : ℕ) → k < n + 1 → n ≤ k → n ≡ k
@@ -78,7 +86,8 @@ pub next_not : (corners : List Corner) (p : Point) (arc : Arc) (number : ℕ) (e
     → AreFirstEvents corners p arc number events → AreFirstEvents corners p arc (number + 1) events
 next_not corners p arc number events out f = record {
   each = f.each;
-  all = all_but corners p arc number events (λ some within. clash (is_in_arc arc (way_at p corners number)) within (out some)) f.all;
+  all = all_but corners p arc number events
+      (λ some within. clash (is_in_arc arc (way_at p corners number)) within (out some)) f.all;
 }
 
 pub next_one : (corners : List Corner) (p : Point) (arc : Arc) (number : ℕ) (events : List ℕ) → length corners ≤ 1024
@@ -91,12 +100,14 @@ next_one corners p arc number events few lt some within f = record {
   all = all_and corners p arc number events f.all;
 }
 
-pub sorted_events : (corners : List Corner) (p : Point) (arc : Arc) (events sorted : List ℕ) → IsPermutation events sorted
+pub sorted_events : (corners : List Corner) (p : Point) (arc : Arc) (events sorted : List ℕ)
+    → IsPermutation events sorted
     → IsNonDecreasing sorted → AreFirstEvents corners p arc (length corners) events → AreEvents corners p arc sorted
 sorted_events corners p arc events sorted same order f = record {
   sorted = order;
   each = All-permutation (IsEvent corners p arc) events sorted same f.each;
-  all = λ k lt some within. Contains-permutation events sorted (place_of (way_at p corners k) * 2048 + k) same (f.all k lt lt some within);
+  all = λ k lt some within. Contains-permutation events sorted (place_of (way_at p corners k) * 2048 + k) same
+      (f.all k lt lt some within);
 }
 
 pub all_listed : (corners : List Corner) (p : Point) (arc : Arc) (count : ℕ) (events : List ℕ) → length corners ≤ count

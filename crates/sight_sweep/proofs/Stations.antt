@@ -4,7 +4,7 @@ use Rattle.std.specs.Prelude.{Some}
 use Rattle.std.proofs.lemmas.Int.{ints}
 use Rattle.plane_spec.specs.declared.Point.{Point}
 use Rattle.plane_spec.specs.Vectors.{vector, InRange, IsWithin, IsDirection}
-use Rattle.sight_spec.specs.Scene.{Scene, scene_of, blockers_of_scene}
+use Rattle.sight_spec.specs.Scene.{Scene, blockers_of_scene}
 use Rattle.sight_core.specs.Scenes.{IsOfSoundPlan}
 use Rattle.sight_core.proofs.Seen.{corners-in_range}
 use Rattle.sight_core.proofs.Counts.{few_corners}
@@ -29,17 +29,20 @@ vector_in p x p_in x_in = record { x = between p.x x.x p_in.x x_in.x; y = betwee
 pub station_of : (scene : Scene) (p : Point) → IsOfSoundPlan scene → InRange p → IsStation scene p
 station_of scene p of p_in = record {
   walls = subst (λ t. AreWalls t p) (sym of.seen) (walls_of_sound of.plan p of.sound p_in);
-  corners = subst (λ t. (n : ℕ) (s : Seen) → n < length (blockers_of_scene t) → seen_at p (blockers_of_scene t) n ≡ Some s → HasCornerAt p t.corners s.from × HasCornerAt p t.corners s.to) (sym of.seen)
+  corners = subst (λ t. (n : ℕ) (s : Seen) → n < length (blockers_of_scene t) → seen_at p (blockers_of_scene t) n
+      ≡ Some s → HasCornerAt p t.corners s.from × HasCornerAt p t.corners s.to) (sym of.seen)
       (λ n s within is. let two = corners_at_ends of.plan p n s within is in (
         record { number = two.0.number; within = two.0.within; there = two.0.there },
         record { number = two.1.number; within = two.1.within; there = two.1.there },
       ));
   few = few_corners scene of;
-  ways = λ k lt. vector_in p (get_or scene.corners k no_corner).here p_in ((corners-in_range scene of) k no_corner lt).here;
+  ways = λ k lt. vector_in p (get_or scene.corners k no_corner).here p_in
+      ((corners-in_range scene of) k no_corner lt).here;
 }
 
 -- what the station stands on decides which directions begin blocked
-pub ground_tells : (scene : Scene) (p d : Point) (under : Ground) → IsOfSoundPlan scene → grounds.IsGroundOf scene p under
+pub ground_tells : (scene : Scene) (p d : Point) (under : Ground) → IsOfSoundPlan scene
+    → grounds.IsGroundOf scene p under
     → begins_blocked scene p d ≡ is_led_into under d
 ground_tells scene p d under of g = subst (λ t. begins_blocked t p d ≡ is_led_into under d) (sym of.seen)
     (ground_decides of.plan p d under of.sound (subst (λ t. grounds.IsGroundOf t p under) of.seen g))

@@ -1,5 +1,6 @@
 -- The list of walls and screens that the round holds, as the laws see it.
-use Rattle.std.specs.Prelude.{ℕ, ◌<◌, ◌==◌, ◌≡◌, Bool, true, ◌&&◌, ◌||◌, not, List, [], ◌∷◌, map, length, Option, Some, None, All}
+use Rattle.std.specs.Prelude.{ℕ, ◌<◌, ◌==◌, ◌≡◌, Bool, true, ◌&&◌, ◌||◌, not, List, [], ◌∷◌, map, length, Option, Some}
+use Rattle.std.specs.Prelude.{None, All}
 use Rattle.plane_spec.specs.declared.Point.{Point}
 use Rattle.plane_spec.specs.Vectors.{same_point}
 use Rattle.sight_spec.specs.Scene.{Scene, blockers_of_scene}
@@ -29,7 +30,8 @@ pub record IsOf (scene : Scene) (p : Point) (b : Blocker) : Type 0 where
   pub hides : b.hides ≡ hides_itself p scene.walls b.number
 
 -- the list holds, from the station outwards, of the kept walls and screens those that pass the test
-pub record IsActive (scene : Scene) (p : Point) (kept : ℕ → Bool) (test : ℕ → Seen → Bool) (active : List Blocker) : Type 0 where
+pub record IsActive (scene : Scene) (p : Point) (kept : ℕ → Bool) (test : ℕ → Seen → Bool)
+    (active : List Blocker) : Type 0 where
   pub held : Holds p (blockers_of_scene scene) kept test (map numbered active)
   pub known : All (IsOf scene p) active
 
@@ -52,7 +54,8 @@ or_begun v test n s = test n s || same_point s.from v
 -- the direction spans each kept wall and screen that passes the test
 abbrev pub SpansAll : Scene → Point → (ℕ → Bool) → (ℕ → Seen → Bool) → Point → Type 0
 SpansAll scene p kept test way =
-    (n : ℕ) (s : Seen) → n < length (blockers_of_scene scene) → kept n ≡ true → seen_at p (blockers_of_scene scene) n ≡ Some s → test n s ≡ true → spans way s ≡ true
+    (n : ℕ) (s : Seen) → n < length (blockers_of_scene scene) → kept n ≡ true → seen_at p (blockers_of_scene scene) n
+    ≡ Some s → test n s ≡ true → spans way s ≡ true
 
 -- what the round has first
 abbrev pub first_of : List Blocker → Option Blocker

@@ -1,5 +1,5 @@
 -- What a sweep answers.
-use Rattle.std.specs.Prelude.{Bool, ◌≡◌, false}
+use Rattle.std.specs.Prelude.{◌≡◌, false}
 use Rattle.plane_spec.specs.declared.Point as points
 use Rattle.plane_spec.specs.Vectors.{vector, same_point, InRange, IsDirection, IsDirected}
 use Rattle.sight_spec.specs.Scene.{Scene}

@@ -1,5 +1,5 @@
 -- The corners of an arc, in the order of their directions.
-use Rattle.std.specs.Prelude.{ℕ, ◌<◌, ◌+◌, ◌*◌, ◌/◌, ◌%◌, ◌≡◌, Bool, true, List, length, All}
+use Rattle.std.specs.Prelude.{ℕ, ◌<◌, ◌+◌, ◌*◌, ◌/◌, ◌%◌, ◌≡◌, true, List, length, All}
 use Rattle.std.specs.List.{Contains}
 use Rattle.std.specs.List.Sorted.{IsNonDecreasing}
 use Rattle.std.proofs.Common.{get_or}
@@ -32,7 +32,8 @@ pub record IsEvent (corners : List Corner) (p : Point) (arc : Arc) (event : ℕ)
 
 -- each of the first so many corners that is in the arc has its event
 abbrev pub HasAll : List Corner → Point → Arc → ℕ → List ℕ → Type 0
-HasAll corners p arc count events = (k : ℕ) → k < count → k < length corners → IsDirected (way_at p corners k) → is_in_arc arc (way_at p corners k) ≡ true
+HasAll corners p arc count events = (k : ℕ) → k < count → k < length corners → IsDirected (way_at p corners k)
+    → is_in_arc arc (way_at p corners k) ≡ true
     → Contains events (place_of (way_at p corners k) * 2048 + k)
 
 -- events of corners, among them those of the first so many corners that are in the arc

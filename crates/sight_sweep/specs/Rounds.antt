@@ -1,6 +1,7 @@
 -- The round, between two groups of corners and within one.
-use Rattle.std.specs.Prelude.{ℕ, ◌<◌, ◌≤◌, ◌+◌, ◌==◌, ◌≡◌, Bool, true, false, ◌&&◌, ◌||◌, not, nat_lt, if◌then◌else◌, int_lt, pos, List, [], ◌∷◌, map, length, Option, Some, None, All}
-use Rattle.std.specs.List.{list_any, Contains}
+use Rattle.std.specs.Prelude.{ℕ, ◌<◌, ◌≤◌, ◌==◌, ◌≡◌, Bool, true, false, ◌&&◌, not, nat_lt, if◌then◌else◌}
+use Rattle.std.specs.Prelude.{int_lt, pos, List, [], ◌∷◌, map, length, Option, Some, None, All}
+use Rattle.std.specs.List.{list_any}
 use Rattle.std.proofs.Common.{get_or}
 use Rattle.plane_spec.specs.declared.Point.{Point}
 use Rattle.plane_spec.specs.declared.Corner.{Corner}
@@ -14,7 +15,7 @@ use Rattle.turn_laws.specs.Places.{place_of}
 use Rattle.view_laws.specs.declared.view.Arc.{Arc}
 use Rattle.view_laws.specs.declared.view.Front.{Front}
 use Rattle.view_laws.specs.declared.view.Sector.{Sector}
-use Rattle.view_laws.specs.Views.{is_in_arc, length_of}
+use Rattle.view_laws.specs.Views.{length_of}
 use Rattle.round_laws.specs.Rounds.{is_open_at, from_place, to_place, AreRadialsBelow}
 use Rattle.sight_sweep.specs.declared.blocker.Blocker.{Blocker}
 use Rattle.sight_sweep.specs.Actives.{seen, numbered, IsActive}
@@ -30,21 +31,24 @@ abbrev pub is_held_at : ℕ → ℕ → ℕ → ℕ → Bool
 is_held_at start from to place = is_open_at from to place && not ((to == start) && (place == start))
 
 -- all below the place is told, and the list holds what is open there
-pub record IsUnderway (scene : Scene) (p : Point) (arc : Arc) (start : ℕ) (before : Option Front) (sectors : List Sector) (place : ℕ) (active : List Blocker) : Type 0 where
+pub record IsUnderway (scene : Scene) (p : Point) (arc : Arc) (start : ℕ) (before : Option Front)
+    (sectors : List Sector) (place : ℕ) (active : List Blocker) : Type 0 where
   pub radials : AreRadialsBelow scene p arc before sectors place (map numbered active)
   pub holds : IsActive scene p all_kept (λ n s. is_held_at start (from_place s) (to_place s) place) active
   pub ways : All (λ s. place_of s.way ≡ s.place) sectors
   pub since : start ≤ place
 
 -- where the loop stands: all below a place is told, and the next group begins at `from`
-pub record IsGoing (scene : Scene) (p : Point) (arc : Arc) (before : Option Front) (sectors : List Sector) (events : List ℕ) (from k : ℕ) (active : List Blocker) : Type 0 where
+pub record IsGoing (scene : Scene) (p : Point) (arc : Arc) (before : Option Front) (sectors : List Sector)
+    (events : List ℕ) (from k : ℕ) (active : List Blocker) : Type 0 where
   pub place : ℕ
   pub underway : IsUnderway scene p arc (start_place arc) before sectors place active
   pub last : place ≤ end_place arc
   pub order : from ≤ k
   pub passed : (i : ℕ) → i < from → place_at (get_or events i 0) < place
   pub coming : (i : ℕ) → from ≤ i → i < length events → place ≤ place_at (get_or events i 0)
-  pub same : (i : ℕ) → from ≤ i → i ≤ k → i < length events → place_at (get_or events i 0) ≡ place_at (get_or events from 0)
+  pub same : (i : ℕ) → from ≤ i → i ≤ k → i < length events → place_at (get_or events i 0)
+      ≡ place_at (get_or events from 0)
   pub all_passed : length events ≤ k → from ≡ k
 
 -- ---- groups
@@ -62,9 +66,12 @@ pub record IsGroup (scene : Scene) (p : Point) (arc : Arc) (place : ℕ) (group 
   pub some : 0 < length group
   pub each : All (IsEvent scene.corners p arc) group
   pub places : All (λ e. place_at e ≡ place) group
-  pub ends : (n : ℕ) (s : Seen) → n < length (blockers_of_scene scene) → seen_at p (blockers_of_scene scene) n ≡ Some s → to_place s ≡ place → ends_among p scene.corners group s ≡ true
-  pub begins : (n : ℕ) (s : Seen) → n < length (blockers_of_scene scene) → seen_at p (blockers_of_scene scene) n ≡ Some s → from_place s ≡ place → begins_among p scene.corners group s ≡ true
-  pub corners : (k : ℕ) → k < length scene.corners → IsDirected (way_at p scene.corners k) → place_of (way_at p scene.corners k) ≡ place
+  pub ends : (n : ℕ) (s : Seen) → n < length (blockers_of_scene scene) → seen_at p (blockers_of_scene scene) n
+      ≡ Some s → to_place s ≡ place → ends_among p scene.corners group s ≡ true
+  pub begins : (n : ℕ) (s : Seen) → n < length (blockers_of_scene scene) → seen_at p (blockers_of_scene scene) n
+      ≡ Some s → from_place s ≡ place → begins_among p scene.corners group s ≡ true
+  pub corners : (k : ℕ) → k < length scene.corners → IsDirected (way_at p scene.corners k)
+      → place_of (way_at p scene.corners k) ≡ place
       → list_any (λ e. corner_of e == k) group ≡ true
 
 -- ---- what is told of a group
@@ -75,7 +82,8 @@ leads_ahead p corners e = is_in_cone (get_or corners (corner_of e) no_corner) (w
 
 -- the way back leads into it
 abbrev pub leads_behind : Point → List Corner → ℕ → Bool
-leads_behind p corners e = is_in_cone (get_or corners (corner_of e) no_corner) (back_of (way_at p corners (corner_of e)))
+leads_behind p corners e = is_in_cone (get_or corners (corner_of e) no_corner)
+    (back_of (way_at p corners (corner_of e)))
 
 -- how far off the event's corner is
 abbrev pub far_of : Point → List Corner → ℕ → ℕ

@@ -1,6 +1,5 @@
 -- What is so of a station in a sound plan.
 use Rattle.std.specs.Prelude.{ℕ, ◌<◌, ◌≤◌, ◌≡◌, List, length, Some}
-use Rattle.std.proofs.Common.{get_or}
 use Rattle.plane_spec.specs.declared.Point.{Point}
 use Rattle.plane_spec.specs.declared.Corner.{Corner}
 use Rattle.plane_spec.specs.Vectors.{IsDirection}
@@ -18,7 +17,8 @@ pub record HasCornerAt (p : Point) (corners : List Corner) (v : Point) : Type 0 
 -- its walls and screens are blockers, at both ends of each is a corner, and each corner is in a direction of a plan
 pub record IsStation (scene : Scene) (p : Point) : Type 0 where
   pub walls : AreWalls scene p
-  pub corners : (n : ℕ) (s : Seen) → n < length (blockers_of_scene scene) → seen_at p (blockers_of_scene scene) n ≡ Some s
+  pub corners : (n : ℕ) (s : Seen) → n < length (blockers_of_scene scene) → seen_at p (blockers_of_scene scene) n
+      ≡ Some s
       → HasCornerAt p scene.corners s.from × HasCornerAt p scene.corners s.to
   pub few : length scene.corners ≤ 1024
   pub ways : (k : ℕ) → k < length scene.corners → IsDirection (way_at p scene.corners k)

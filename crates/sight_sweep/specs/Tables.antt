@@ -1,5 +1,6 @@
 -- What a look finds in a scene.
-use Rattle.std.specs.Prelude.{ℕ, pos, ◌+◌, ◌*◌, ◌/◌, ◌%◌, ◌+ℤ◌, ◌<◌, ◌≤◌, ◌≡◌, Bool, true, ◌||◌, unsigned_abs, List, length, All}
+use Rattle.std.specs.Prelude.{ℕ, pos, ◌+◌, ◌*◌, ◌/◌, ◌%◌, ◌+ℤ◌, ◌<◌, ◌≤◌, ◌≡◌, Bool, true, ◌||◌, unsigned_abs, List}
+use Rattle.std.specs.Prelude.{length, All}
 use Rattle.std.specs.List.{Contains, slice_range}
 use Rattle.std.specs.List.Sorted.{IsNonDecreasing}
 use Rattle.std.proofs.Common.{get_or}
@@ -22,7 +23,8 @@ ends_at w x = same_point w.a x || same_point w.b x
 -- the numbers are those of walls and screens, among them all that end at the point
 pub record AreAround (scene : Scene) (x : Point) (numbers : List ℕ) : Type 0 where
   pub within : All (λ n. n < length (blockers_of_scene scene)) numbers
-  pub all : (n : ℕ) → n < length (blockers_of_scene scene) → ends_at (get_or (blockers_of_scene scene) n nowhere) x ≡ true → Contains numbers n
+  pub all : (n : ℕ) → n < length (blockers_of_scene scene) → ends_at (get_or (blockers_of_scene scene) n nowhere) x
+      ≡ true → Contains numbers n
 
 -- ---- ends as numbers
 
@@ -76,4 +78,5 @@ pub record IsTable (scene : Scene) (lines : List Segment) (ranges : List Range) 
   pub count : length ranges ≡ length scene.corners
   pub in_order : All (IsRangeOf numbers) ranges
   pub around : (k : ℕ) → k < length scene.corners
-      → AreAround scene (get_or scene.corners k no_corner).here (slice_range numbers (get_or ranges k no_range).from (get_or ranges k no_range).upto)
+      → AreAround scene (get_or scene.corners k no_corner).here
+      (slice_range numbers (get_or ranges k no_range).from (get_or ranges k no_range).upto)

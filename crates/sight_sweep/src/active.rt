@@ -41,8 +41,10 @@ pub(crate) fn is_in_front(v: &Blocker, w: &Blocker) -> bool
 
 /// Whether the wall or screen of the number stands at the place.
 fn has_at(active: &[Blocker], place: usize, number: u32) -> bool
-    ensures there { result ≡ true → (place < length active.now) × ((d : blockers.Blocker) → (get_or active.now place d).number ≡ number) }
-    ensures not_there { result ≡ false → place < length active.now → (d : blockers.Blocker) → (get_or active.now place d).number ≢ number }
+    ensures there { result ≡ true → (place < length active.now)
+        × ((d : blockers.Blocker) → (get_or active.now place d).number ≡ number) }
+    ensures not_there { result ≡ false → place < length active.now → (d : blockers.Blocker)
+        → (get_or active.now place d).number ≢ number }
 {
     match active.get(place) {
         None => false,
@@ -52,7 +54,8 @@ fn has_at(active: &[Blocker], place: usize, number: u32) -> bool
 
 /// Puts a wall or screen into its place, if it isn't there.
 pub(crate) fn put_in(active: &mut Vec<Blocker>, new: Blocker) -> Result<(), NoMemory>
-    ensures put { (scene : Scene) (p : Point) (kept : ℕ → Bool) (test : ℕ → order.Seen → Bool) (way : Point) → AreWalls scene p → IsActive scene p kept test active.old.items
+    ensures put { (scene : Scene) (p : Point) (kept : ℕ → Bool) (test : ℕ → order.Seen → Bool) (way : Point)
+        → AreWalls scene p → IsActive scene p kept test active.old.items
         → IsOf scene p new → kept new.number ≡ true → SpansAll scene p kept test way → order.spans way (seen new) ≡ true
         → IfOk result (λ u. IsActive scene p kept (beside new.number test) active.new.items) }
 {
@@ -80,7 +83,8 @@ fn take_out_at(active: &mut Vec<Blocker>, place: usize)
 
 /// Takes the wall or screen of the number out, if it is there.
 pub(crate) fn take_out(active: &mut Vec<Blocker>, number: u32)
-    ensures taken { (scene : Scene) (p : Point) (kept : ℕ → Bool) (test : ℕ → order.Seen → Bool) → IsActive scene p kept test active.old.items
+    ensures taken { (scene : Scene) (p : Point) (kept : ℕ → Bool) (test : ℕ → order.Seen → Bool)
+        → IsActive scene p kept test active.old.items
         → IsActive scene p kept (without number test) active.new.items }
 {
     for place in 0..active.len() {

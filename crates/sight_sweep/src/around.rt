@@ -1,6 +1,7 @@
 //! Which walls and screens end at which points, as numbers that are sorted.
 
-ghost use Rattle.std.specs.Prelude.{◌≡◌, ◌+◌, ◌*◌, ◌%◌, ◌<◌, ◌≤◌, ◌+ℤ◌, ◌++◌, ◌∷◌, [], pos, unsigned_abs, map, length, slice_index, All, IfOk, ℕ};
+ghost use Rattle.std.specs.Prelude.{◌≡◌, ◌+◌, ◌*◌, ◌%◌, ◌<◌, ◌≤◌, ◌+ℤ◌, ◌++◌, ◌∷◌, [], pos, unsigned_abs, map, length};
+ghost use Rattle.std.specs.Prelude.{slice_index, All, IfOk, ℕ};
 ghost use Rattle.std.specs.List.Sorted.{IsNonDecreasing};
 ghost use Rattle.plane_spec.specs.Cones.{IsCornerInRange};
 ghost use Rattle.plane_spec.specs.Segments.{IsSegmentInRange};
@@ -47,7 +48,8 @@ fn push_end(ends: &mut Vec<u64>, x: Point, number: usize) -> Result<(), NoMemory
 fn push_ends(ends: &mut Vec<u64>, line: &Wall, number: usize) -> Result<(), NoMemory>
     requires line_in { IsSegmentInRange line.now }
     requires number_in { number < 2048 }
-    ensures { IfOk result (λ u. ends.new.items ≡ (ends.old.items ++ end_of line.now.a number ∷ []) ++ end_of line.now.b number ∷ []) }
+    ensures { IfOk result (λ u. ends.new.items ≡ (ends.old.items ++ end_of line.now.a number ∷ [])
+        ++ end_of line.now.b number ∷ []) }
 {
     push_end(ends, line.a, number)?;
     push_end(ends, line.b, number)

@@ -37,7 +37,11 @@ pub(crate) fn ahead(least: Option<u64>, corner: Corner, v: Point) -> Option<u64>
     requires v_in { IsDirection v }
     ensures { result ≡ (if is_in_cone corner v then rounds.lesser_of least (length_of v) else least) }
 {
-    if in_cone(corner, v) { lesser(least, length(v)) } else { least }
+    if in_cone(corner, v) {
+        lesser(least, length(v))
+    } else {
+        least
+    }
 }
 
 /// The lesser of the length so far and that of a corner at `v`, if the way back leads into what is blocked there.
@@ -46,5 +50,9 @@ pub(crate) fn behind(least: Option<u64>, corner: Corner, v: Point) -> Option<u64
     requires v_in { IsDirection v }
     ensures { result ≡ (if is_in_cone corner (back_of v) then rounds.lesser_of least (length_of v) else least) }
 {
-    if in_cone(corner, back(v)) { lesser(least, length(v)) } else { least }
+    if in_cone(corner, back(v)) {
+        lesser(least, length(v))
+    } else {
+        least
+    }
 }

@@ -10,7 +10,7 @@ ghost use Rattle.sight_sweep.specs.Events.{AreEvents, AreFirstEvents};
 use crate::arcs::is_in_arc;
 use crate::places::place_of;
 use crate::products::is_directed;
-use crate::push::push;
+use crate::push::{push, with_room};
 use crate::table::SceneTable;
 use plane_spec::Point;
 use std::alloc::Global;
@@ -82,11 +82,13 @@ fn corner_events(
 ) -> Result<Vec<u64>, NoMemory>
     requires p_in { InRange p }
     requires arc { IsArc arc }
-    ensures listed { IfOk result (λ events. AreFirstEvents table.now.corners p arc (length table.now.corners) events.items) }
+    ensures listed { IfOk result (λ events. AreFirstEvents table.now.corners p arc
+        (length table.now.corners) events.items) }
     ensures of_plan { IsOfSoundPlan table.now }
 {
-    let mut events = Vec::new(alloc);
-    for number in 0..table.corners().len() {
+    let count = table.corners().len();
+    let mut events = with_room(alloc, count)?;
+    for number in 0..count {
         push_if_in_arc(&mut events, table, p, arc, number)?;
     }
     Ok(events)

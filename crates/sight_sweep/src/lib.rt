@@ -8,6 +8,7 @@
 //! | [`Target`], [`Answer`] | a point or a ray that is asked for, and what is answered |
 //! | [`sweep`] | answers all targets from one point |
 //! | [`Steps`] | how many sweeps were made |
+//! | [`types_are_shared`] | all of these may be shared between threads |
 //!
 //! The directions of the corners are gone through once, counterclockwise from (1,0). On the way those walls and screens
 //! are kept that the direction spans strictly, in their order from the station outwards, so that the nearest one is the
@@ -41,16 +42,18 @@ mod push;
 mod range;
 mod reach;
 mod round;
+mod shared;
 mod sides;
 mod table;
-mod told;
 #[cfg(test)]
 mod tests;
+mod told;
 
 pub use answering::{answer_by, sweep};
 pub use answers::Answer;
 pub use count::Steps;
 pub use looking::look;
+pub use shared::types_are_shared;
 pub use sight_spec::Target;
 pub use table::{SceneTable, table_of};
 pub use view_laws::{Arc, Front, Ground, Sector, View};

@@ -19,6 +19,7 @@ use crate::count::Steps;
 use crate::events::events_of;
 use crate::grounds::ground_of;
 use crate::products::is_left;
+use crate::push::with_room;
 use crate::round::{first_of, go_round};
 use crate::table::SceneTable;
 use plane_spec::Point;
@@ -70,20 +71,16 @@ fn spanned_by(
     requires d_in { IsDirection d }
     ensures { IfOk result (λ active. IsActive table.now p all_kept (λ n s. order.spans d s) active.items) }
 {
-    let mut active = Vec::new(alloc);
-    for number in 0..table.count() {
+    let count = table.count();
+    let mut active = with_room(alloc, count as usize)?;
+    for number in 0..count {
         put_if_spanned(&mut active, table, p, d, number)?;
     }
     Ok(active)
 }
 
 /// The view, once it is counted.
-fn view_from(
-    alloc: Global,
-    table: &SceneTable,
-    p: Point,
-    arc: Arc,
-) -> Result<View, NoMemory>
+fn view_from(alloc: Global, table: &SceneTable, p: Point, arc: Arc) -> Result<View, NoMemory>
     requires p_in { InRange p }
     requires arc { IsArc arc }
     ensures view { IfOk result (λ view. IsViewOf table.now p arc view) }
@@ -92,7 +89,7 @@ fn view_from(
     let events = events_of(alloc, table, p, arc)?;
     let start = start_of(arc);
     let mut active = spanned_by(alloc, table, p, start)?;
-    let mut sectors = Vec::new(alloc);
+    let mut sectors = with_room(alloc, events.len())?;
     let before = first_of(&active);
     go_round(&mut active, &mut sectors, table, p, &events)?;
     let under = ground_of(table, p);
@@ -103,13 +100,14 @@ fn view_from(
     })
 }
 
-/// What is seen from `p` in the directions of the arc: what is seen first in each, and the nearest corners that lead into
-/// what is blocked, told in sectors. Counts one sweep, whatever it answers.
+/// What is seen from `p` in the directions of the arc: what is seen first in each, and the nearest corners that lead
+/// into what is blocked, told in sectors. Counts one sweep, whatever it answers.
 ///
-/// Cost: one sort of the directions of the corners in the arc, and then for each of them a step whose cost grows with the
-/// number of walls that one direction spans.
+/// Cost: one sort of the directions of the corners in the arc, and then for each of them a step whose cost grows with
+/// the number of walls that one direction spans.
 ///
-/// Source: the plane sweep by angle after Lee (1978) and Asano (1985); the rules at corners and walls are those of sight.
+/// Source: the plane sweep by angle after Lee (1978) and Asano (1985); the rules at corners and walls are those of
+/// sight.
 pub fn look(
     alloc: Global,
     table: &SceneTable,

@@ -71,8 +71,8 @@ fn turned(quarters: u64, part: u64) -> u64
     quarters + part
 }
 
-/// The place of a direction, counterclockwise from (1,0): the quarter turn, and the part of it. Directions have one place
-/// exactly where they point the same way.
+/// The place of a direction, counterclockwise from (1,0): the quarter turn, and the part of it. Directions have one
+/// place exactly where they point the same way.
 ///
 /// Cost: one division.
 #[tactic(auto, unfolding(turn_laws::specs::Places::place_of))]

@@ -27,7 +27,8 @@ fn count_up_to(sectors: &[Sector], place: u64) -> usize
     requires order { AreInOrder sectors.now }
     ensures within { result ≤ length sectors.now }
     ensures reached { (k : ℕ) (s : Sector) → k < result → (get_or sectors.now k s).place ≤ place }
-    ensures beyond { (k : ℕ) (s : Sector) → result ≤ k → k < length sectors.now → place < (get_or sectors.now k s).place }
+    ensures beyond { (k : ℕ) (s : Sector) → result ≤ k → k < length sectors.now
+        → place < (get_or sectors.now k s).place }
 {
     sectors.partition_point(|sector: &Sector| sector.place <= place)
 }

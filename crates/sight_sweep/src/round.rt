@@ -1,6 +1,7 @@
 //! The way round, from one direction of corners to the next.
 
-ghost use Rattle.std.specs.Prelude.{◌≡◌, ◌≤◌, ◌<◌, ◌+◌, ◌&&◌, ◌||◌, All, IfOk, ℕ, Bool, true, not, ◌==◌, length, Option, Some, None};
+ghost use Rattle.std.specs.Prelude.{◌≡◌, ◌≤◌, ◌<◌, ◌+◌, ◌&&◌, ◌||◌, All, IfOk, ℕ, Bool, true, not, ◌==◌, length};
+ghost use Rattle.std.specs.Prelude.{Option, Some, None};
 ghost use Rattle.std.specs.Option.{option_map};
 ghost use Rattle.std.proofs.Common.{get_or};
 ghost use Rattle.plane_spec.specs.declared.Point.{Point};
@@ -72,10 +73,13 @@ fn put_if_begun(
     requires p_in { InRange p }
     requires station { IsStation table.now p }
     requires within { number < length (blockers_of_scene table.now) }
-    ensures put { (kept : ℕ → Bool) (test : ℕ → order.Seen → Bool) (way : Point) → IsActive table.now p kept test active.old.items
+    ensures put { (kept : ℕ → Bool) (test : ℕ → order.Seen → Bool) (way : Point)
+        → IsActive table.now p kept test active.old.items
         → SpansAll table.now p kept test way
-        → ((s : order.Seen) → seen_at p (blockers_of_scene table.now) number ≡ Some s → same_point s.from v ≡ true → (kept number ≡ true) × (order.spans way s ≡ true))
-        → IfOk result (λ u. IsActive table.now p kept (λ n s. test n s || ((number == n) && same_point s.from v)) active.new.items) }
+        → ((s : order.Seen) → seen_at p (blockers_of_scene table.now) number ≡ Some s → same_point s.from v ≡ true
+        → (kept number ≡ true) × (order.spans way s ≡ true))
+        → IfOk result (λ u. IsActive table.now p kept
+        (λ n s. test n s || ((number == n) && same_point s.from v)) active.new.items) }
 {
     let Some(blocker) = table.seen(p, number) else {
         return Ok(());
@@ -96,10 +100,15 @@ fn put_begun(
     requires p_in { InRange p }
     requires station { IsStation table.now p }
     requires within { corner < length table.now.corners }
-    ensures put { (kept : ℕ → Bool) (test : ℕ → order.Seen → Bool) (way : Point) → IsActive table.now p kept test active.old.items
-        → SpansAll table.now p kept test way → SpansAll table.now p kept (λ n s. same_point s.from (way_at p table.now.corners corner)) way
-        → ((n : ℕ) (s : order.Seen) → n < length (blockers_of_scene table.now) → seen_at p (blockers_of_scene table.now) n ≡ Some s → same_point s.from (way_at p table.now.corners corner) ≡ true → kept n ≡ true)
-        → IfOk result (λ u. IsActive table.now p kept (or_begun (way_at p table.now.corners corner) test) active.new.items) }
+    ensures put { (kept : ℕ → Bool) (test : ℕ → order.Seen → Bool) (way : Point)
+        → IsActive table.now p kept test active.old.items
+        → SpansAll table.now p kept test way
+        → SpansAll table.now p kept (λ n s. same_point s.from (way_at p table.now.corners corner)) way
+        → ((n : ℕ) (s : order.Seen) → n < length (blockers_of_scene table.now)
+        → seen_at p (blockers_of_scene table.now) n ≡ Some s → same_point s.from (way_at p table.now.corners corner)
+        ≡ true → kept n ≡ true)
+        → IfOk result (λ u. IsActive table.now p kept
+        (or_begun (way_at p table.now.corners corner) test) active.new.items) }
 {
     let v = table.way(p, corner);
     let numbers = table.around(corner);
@@ -145,7 +154,8 @@ fn is_past(active: &[Blocker], v: Point) -> bool
 fn are_past(active: &[Blocker], table: &SceneTable, p: Point, group: &[u64]) -> bool
     requires p_in { InRange p }
     requires within { All (λ e. parts.corner_of e < length table.now.corners) group.now }
-    ensures { result ≡ true → All (λ e. rounds.is_past (actives.first_of active.now) (way_at p table.now.corners (parts.corner_of e)) ≡ true) group.now }
+    ensures { result ≡ true → All (λ e. rounds.is_past (actives.first_of active.now)
+        (way_at p table.now.corners (parts.corner_of e)) ≡ true) group.now }
 {
     for k in 0..group.len() {
         if !is_past(active, table.way(p, corner_at(group[k]))) {
@@ -159,7 +169,8 @@ fn are_past(active: &[Blocker], table: &SceneTable, p: Point, group: &[u64]) -> 
 fn nearest_ahead(table: &SceneTable, p: Point, group: &[u64]) -> Option<u64>
     requires p_in { InRange p }
     requires within { All (λ e. parts.corner_of e < length table.now.corners) group.now }
-    ensures { result ≡ rounds.least_from (rounds.leads_ahead p table.now.corners) (rounds.far_of p table.now.corners) None group.now }
+    ensures { result ≡ rounds.least_from (rounds.leads_ahead p table.now.corners)
+        (rounds.far_of p table.now.corners) None group.now }
 {
     let mut least = None;
     for k in 0..group.len() {
@@ -173,7 +184,8 @@ fn nearest_ahead(table: &SceneTable, p: Point, group: &[u64]) -> Option<u64>
 fn nearest_behind(table: &SceneTable, p: Point, group: &[u64]) -> Option<u64>
     requires p_in { InRange p }
     requires within { All (λ e. parts.corner_of e < length table.now.corners) group.now }
-    ensures { result ≡ rounds.least_from (rounds.leads_behind p table.now.corners) (rounds.far_of p table.now.corners) None group.now }
+    ensures { result ≡ rounds.least_from (rounds.leads_behind p table.now.corners)
+        (rounds.far_of p table.now.corners) None group.now }
 {
     let mut least = None;
     for k in 0..group.len() {
@@ -188,7 +200,8 @@ fn take_all_ended(active: &mut Vec<Blocker>, table: &SceneTable, p: Point, group
     requires p_in { InRange p }
     requires within { All (λ e. parts.corner_of e < length table.now.corners) group.now }
     ensures taken { (kept : ℕ → Bool) (test : ℕ → order.Seen → Bool) → IsActive table.now p kept test active.old.items
-        → IsActive table.now p kept (λ n s. test n s && not (rounds.ends_among p table.now.corners group.now s)) active.new.items }
+        → IsActive table.now p kept (λ n s. test n s && not (rounds.ends_among p table.now.corners group.now s))
+        active.new.items }
 {
     for k in 0..group.len() {
         take_ended(active, table, p, corner_at(group[k]));
@@ -196,13 +209,21 @@ fn take_all_ended(active: &mut Vec<Blocker>, table: &SceneTable, p: Point, group
 }
 
 /// Puts in all that begin at the corners of the group.
-fn put_all_begun(active: &mut Vec<Blocker>, table: &SceneTable, p: Point, group: &[u64]) -> Result<(), NoMemory>
+fn put_all_begun(
+    active: &mut Vec<Blocker>,
+    table: &SceneTable,
+    p: Point,
+    group: &[u64],
+) -> Result<(), NoMemory>
     requires p_in { InRange p }
     requires station { IsStation table.now p }
     requires within { All (λ e. parts.corner_of e < length table.now.corners) group.now }
-    ensures put { (test : ℕ → order.Seen → Bool) (way : Point) → IsActive table.now p rounds.all_kept test active.old.items
-        → SpansAll table.now p rounds.all_kept test way → SpansAll table.now p rounds.all_kept (λ n s. rounds.begins_among p table.now.corners group.now s) way
-        → IfOk result (λ u. IsActive table.now p rounds.all_kept (λ n s. test n s || rounds.begins_among p table.now.corners group.now s) active.new.items) }
+    ensures put { (test : ℕ → order.Seen → Bool) (way : Point)
+        → IsActive table.now p rounds.all_kept test active.old.items
+        → SpansAll table.now p rounds.all_kept test way
+        → SpansAll table.now p rounds.all_kept (λ n s. rounds.begins_among p table.now.corners group.now s) way
+        → IfOk result (λ u. IsActive table.now p rounds.all_kept
+        (λ n s. test n s || rounds.begins_among p table.now.corners group.now s) active.new.items) }
 {
     for k in 0..group.len() {
         put_begun(active, table, p, corner_at(group[k]))?;
@@ -211,12 +232,7 @@ fn put_all_begun(active: &mut Vec<Blocker>, table: &SceneTable, p: Point, group:
 }
 
 /// Whether nothing need be told of a group: all its corners are behind what is seen first, and that stays as it is.
-fn is_silent(
-    hidden: bool,
-    before: Option<Front>,
-    on: Option<Front>,
-    after: Option<Front>,
-) -> bool
+fn is_silent(hidden: bool, before: Option<Front>, on: Option<Front>, after: Option<Front>) -> bool
     ensures hidden { result ≡ true → hidden ≡ true }
     ensures on { result ≡ true → rounds.number_in before ≡ rounds.number_in on }
     ensures after { result ≡ true → rounds.number_in on ≡ rounds.number_in after }
@@ -239,8 +255,11 @@ fn sector_of(
     ensures way { result.way ≡ way_at p table.now.corners (parts.corner_of (get_or group.now 0 0)) }
     ensures on { result.on ≡ on }
     ensures after { result.after ≡ after }
-    ensures ahead { result.ahead ≡ rounds.least_from (rounds.leads_ahead p table.now.corners) (rounds.far_of p table.now.corners) None group.now }
-    ensures behind { result.behind ≡ rounds.least_from (rounds.leads_behind p table.now.corners) (rounds.far_of p table.now.corners) None group.now }
+    ensures ahead { result.ahead ≡ rounds.least_from (rounds.leads_ahead p table.now.corners)
+        (rounds.far_of p table.now.corners) None group.now }
+    ensures behind { result.behind
+        ≡ rounds.least_from (rounds.leads_behind p table.now.corners)
+        (rounds.far_of p table.now.corners) None group.now }
 {
     Sector {
         place: place_at(group[0]),
@@ -252,8 +271,8 @@ fn sector_of(
     }
 }
 
-/// Goes on past the corners of one direction: first all that end there go, then the corners are told, then all that begin
-/// there come. Nothing is told of corners that are all behind what is seen first, before them and after them.
+/// Goes on past the corners of one direction: first all that end there go, then the corners are told, then all that
+/// begin there come. Nothing is told of corners that are all behind what is seen first, before them and after them.
 fn pass(
     active: &mut Vec<Blocker>,
     sectors: &mut Vec<Sector>,
@@ -265,7 +284,8 @@ fn pass(
     requires station { IsStation table.now p }
     requires some { 0 < length group.now }
     requires within { All (λ e. parts.corner_of e < length table.now.corners) group.now }
-    ensures passed { (arc : Arc) (start : ℕ) (before : Option fronts.Front) (place : ℕ) → IsGroup table.now p arc place group.now
+    ensures passed { (arc : Arc) (start : ℕ) (before : Option fronts.Front) (place : ℕ)
+        → IsGroup table.now p arc place group.now
         → IsUnderway table.now p arc start before sectors.old.items place active.old.items
         → IfOk result (λ u. IsUnderway table.now p arc start before sectors.new.items (place + 1) active.new.items) }
 {
@@ -285,7 +305,8 @@ fn pass(
 fn is_last(events: &[u64], k: usize) -> bool
     requires within { k < length events.now }
     ensures end { k + 1 ≡ length events.now → result ≡ true }
-    ensures on { k + 1 < length events.now → result ≡ not (parts.place_at (get_or events.now k 0) == parts.place_at (get_or events.now (k + 1) 0)) }
+    ensures on { k + 1 < length events.now → result
+        ≡ not (parts.place_at (get_or events.now k 0) == parts.place_at (get_or events.now (k + 1) 0)) }
 {
     k + 1 == events.len() || place_at(events[k]) != place_at(events[k + 1])
 }
@@ -306,9 +327,11 @@ fn pass_if_last(
     requires inside { k < length events.now }
     requires within { All (λ e. parts.corner_of e < length table.now.corners) events.now }
     ensures next { IfOk result (λ next. next ≤ k + 1) }
-    ensures going { (arc : Arc) (before : Option fronts.Front) → IsArc arc → AreEvents table.now.corners p arc events.now
+    ensures going { (arc : Arc) (before : Option fronts.Front) → IsArc arc
+        → AreEvents table.now.corners p arc events.now
         → IsGoing table.now p arc before sectors.old.items events.now from k active.old.items
-        → IfOk result (λ next. IsGoing table.now p arc before sectors.new.items events.now next (k + 1) active.new.items) }
+        → IfOk result (λ next. IsGoing table.now p arc before sectors.new.items events.now next
+        (k + 1) active.new.items) }
 {
     if !is_last(events, k) {
         return Ok(from);
@@ -329,9 +352,11 @@ pub(crate) fn go_round(
     requires p_in { InRange p }
     requires station { IsStation table.now p }
     requires within { All (λ e. parts.corner_of e < length table.now.corners) events.now }
-    ensures round { (arc : Arc) (before : Option fronts.Front) → IsArc arc → AreEvents table.now.corners p arc events.now
+    ensures round { (arc : Arc) (before : Option fronts.Front) → IsArc arc
+        → AreEvents table.now.corners p arc events.now
         → IsUnderway table.now p arc (start_place arc) before sectors.old.items (start_place arc) active.old.items
-        → IfOk result (λ u. IsUnderway table.now p arc (start_place arc) before sectors.new.items (end_place arc) active.new.items) }
+        → IfOk result (λ u. IsUnderway table.now p arc (start_place arc) before sectors.new.items
+        (end_place arc) active.new.items) }
 {
     let mut from = 0;
     for k in 0..events.len() {

@@ -62,7 +62,8 @@ pub(crate) fn seen_from(p: Point, line: &Wall, number: u32, is_wall: bool) -> Op
     requires line_in { IsSegmentInRange line.now }
     ensures seen { option_map seen result ≡ seen_of p line.now }
     ensures number { IfSome result (λ b. b.number ≡ number) }
-    ensures hides { IfSome result (λ b. b.hides ≡ (is_wall && int_lt (pos 0) (cross_of (vector p line.now.a) (vector p line.now.b)))) }
+    ensures hides { IfSome result (λ b. b.hides
+        ≡ (is_wall && int_lt (pos 0) (cross_of (vector p line.now.a) (vector p line.now.b)))) }
 {
     let (a, b) = (vector(p, line.a), vector(p, line.b));
     let spread = cross(a, b);

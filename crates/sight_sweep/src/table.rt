@@ -26,8 +26,8 @@ use std::alloc::Global;
 use std::marker::Model;
 use text_spec::NoMemory;
 
-/// A scene with what a look finds in it: the walls and screens in one list, and those that end at each corner. Contracts
-/// see the scene.
+/// A scene with what a look finds in it: the walls and screens in one list, and those that end at each corner.
+/// Contracts see the scene.
 #[derive(Drop)]
 pub struct SceneTable {
     walls: Vec<Wall>,
@@ -46,7 +46,9 @@ impl Model for SceneTable {
 
     ghost view = { λ a. record { walls = a.walls.items; screens = a.screens.items; corners = a.corners.items } };
 
-    ghost invariant = { λ a. IsTable (record { walls = a.walls.items; screens = a.screens.items; corners = a.corners.items }) a.lines.items a.ranges.items a.numbers.items };
+    ghost invariant = { λ a. IsTable
+        (record { walls = a.walls.items; screens = a.screens.items; corners = a.corners.items }) a.lines.items
+        a.ranges.items a.numbers.items };
 }
 
 impl SceneTable {

@@ -134,7 +134,14 @@ fn reaches(
 {
     match asked(rt, alloc, scene, p, Target::Ray(d)) {
         Answer::Reach { stop, wall } => {
-            assert!(rt; is(stop, parts) && wall == number, "({}, {}) to ({}, {})", p.x, p.y, d.x, d.y);
+            assert!(rt;
+                is(stop, parts) && wall == number,
+                "({}, {}) to ({}, {})",
+                p.x,
+                p.y,
+                d.x,
+                d.y
+            );
         }
         Answer::Seen(_) => panic!(rt; "a ray has a reach"),
     }
@@ -161,7 +168,12 @@ fn sees_as_plain(rt: &impl Abort, alloc: Global, scene: &Scene, stations: &[Poin
             for y in -1..12 {
                 let q = known(rt, at(x, y));
                 if !same_point(p, q) {
-                    assert!(rt; sees(rt, alloc, scene, p, q) == free(scene, p, q), "({}, {}) ({x}, {y})", p.x, p.y);
+                    assert!(rt;
+                        sees(rt, alloc, scene, p, q) == free(scene, p, q),
+                        "({}, {}) ({x}, {y})",
+                        p.x,
+                        p.y
+                    );
                 }
             }
         }
@@ -200,14 +212,24 @@ fn reaches_as_plain(rt: &impl Abort, alloc: Global, scene: &Scene, stations: &[P
 #[test]
 fn rays_reach_where_worked_rows_say(rt: HostRuntime) {
     let alloc = rt.alloc();
-    let pinched = scene(&rt, alloc, &[(at(2, 2), at(4, 4)), (at(6, 4), at(8, 6))], &[]);
+    let pinched = scene(
+        &rt,
+        alloc,
+        &[(at(2, 2), at(4, 4)), (at(6, 4), at(8, 6))],
+        &[],
+    );
     let rays = [
         (at(0, 4), at(1, 0), (10, 1), 1),
         (at(0, 4), at(8, 1), (3, 4), 11),
     ];
     all_reach(&rt, alloc, &pinched, &rays);
     assert!(rt; sees(&rt, alloc, &pinched, at(0, 4), at(10, 4)));
-    let both = scene(&rt, alloc, &[(at(2, 2), at(4, 4)), (at(5, 2), at(7, 4))], &[]);
+    let both = scene(
+        &rt,
+        alloc,
+        &[(at(2, 2), at(4, 4)), (at(5, 2), at(7, 4))],
+        &[],
+    );
     all_reach(&rt, alloc, &both, &[(at(0, 3), at(1, 0), (2, 1), 7)]);
     let one = scene(&rt, alloc, &[(at(5, 2), at(7, 4))], &[]);
     all_reach(&rt, alloc, &one, &[(at(0, 3), at(1, 0), (5, 1), 7)]);
@@ -225,7 +247,11 @@ fn rays_reach_where_worked_rows_say(rt: HostRuntime) {
 #[test]
 fn answers_are_those_of_the_plain_calls(rt: HostRuntime) {
     let alloc = rt.alloc();
-    let boxes = [(at(2, 2), at(4, 4)), (at(6, 4), at(8, 6)), (at(1, 6), at(3, 9))];
+    let boxes = [
+        (at(2, 2), at(4, 4)),
+        (at(6, 4), at(8, 6)),
+        (at(1, 6), at(3, 9)),
+    ];
     let screens = [(at(5, 1), at(9, 3)), (at(4, 6), at(4, 9))];
     let mixed = scene(&rt, alloc, &boxes, &screens);
     let stations = [

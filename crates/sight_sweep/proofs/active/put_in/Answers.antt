@@ -1,4 +1,4 @@
-use Rattle.std.proofs.Common.{◌≡◌, ◌≢◌, ◌<◌, ◌≤◌, sym, subst, rules, arith, length, get_or}
+use Rattle.std.proofs.Common.{◌≡◌, ◌≢◌, ◌<◌, ◌≤◌, sym, subst, rules, length, get_or}
 use Rattle.std.specs.Prelude.{insert, false, true}
 use Rattle.std.specs.List.Sorted.{IsPartitionedBy, IsPartitionPoint}
 use Rattle.std.proofs.lemmas.List.Sorted.{IsPartitionPoint-from_clause}
@@ -14,7 +14,8 @@ returns-then-has_at c = record {
       let there = c.has_at.ensures.there c.if-has_at.true in
       already scene p kept test xs c.partition_point-place.result c.args.new.number c.args.new a
       (subst (λ ys. c.partition_point-place.result < length ys) c.deref-2.ensures.value there.0)
-      (subst (λ ys. (get_or ys c.partition_point-place.result c.args.new).number ≡ c.args.new.number) c.deref-2.ensures.value (there.1 c.args.new));
+      (subst (λ ys. (get_or ys c.partition_point-place.result c.args.new).number ≡ c.args.new.number)
+      c.deref-2.ensures.value (there.1 c.args.new));
 }
 
 pub returns-in-Ok : goal.returns-in-Ok
@@ -25,10 +26,15 @@ returns-in-Ok c = record {
       let i = c.partition_point-place.result in
       let items : c.insert.new.self.items ≡ insert xs i w = search rules in
       let bound : i ≤ length xs = search rules in
-      let parted = subst (IsPartitionedBy (λ v. is_in_front (seen v) (seen w))) (sym c.deref.ensures.value) (can_search scene p kept test way xs w walls a of all spanned) in
-      let point = IsPartitionPoint-from_clause (λ v. is_in_front (seen v) (seen w)) _ _ c.partition_point-place.ensures.partitioned parted (λ a r q k. search rules) in
+      let parted = subst (IsPartitionedBy (λ v. is_in_front (seen v) (seen w))) (sym c.deref.ensures.value)
+      (can_search scene p kept test way xs w walls a of all spanned) in
+      let point = IsPartitionPoint-from_clause
+      (λ v. is_in_front (seen v) (seen w)) _ _ c.partition_point-place.ensures.partitioned parted
+      (λ a r q k. search rules) in
       subst (IsActive scene p kept (beside w.number test)) (sym items)
       (placed scene p kept test way xs w i walls a of own all spanned bound
-      (λ lt d. subst (λ ys. i < length ys → (get_or ys i d).number ≢ w.number) c.deref-2.ensures.value (λ within. c.has_at.ensures.not_there c.if-has_at.false within d) lt)
-      (subst (λ ys. IsPartitionPoint (λ v. is_in_front (seen v) (seen w) ≡ true) (λ v. is_in_front (seen v) (seen w) ≡ false) ys i) c.deref.ensures.value point));
+      (λ lt d. subst (λ ys. i < length ys → (get_or ys i d).number ≢ w.number) c.deref-2.ensures.value
+      (λ within. c.has_at.ensures.not_there c.if-has_at.false within d) lt)
+      (subst (λ ys. IsPartitionPoint (λ v. is_in_front (seen v) (seen w) ≡ true)
+      (λ v. is_in_front (seen v) (seen w) ≡ false) ys i) c.deref.ensures.value point));
 }

@@ -12,5 +12,6 @@ loop-k-preserved c j d lt = by_lt j c.loop-k.k
     (λ low. c.loop-k.invariant j d low)
     (λ high. let same : j ≡ c.loop-k.k = omega (arith, lt, high) in
     subst (λ t. is_upper (way_of c.args.p t) ≡ true)
-    (sym (ap (λ n. get_or c.args.targets.now n d) same ∙ default c.args.targets.now c.loop-k.k d (targets.Point (point (pos 0) (pos 0))) c.loop-k-test.true))
+    (sym (ap (λ n. get_or c.args.targets.now n d) same
+    ∙ default c.args.targets.now c.loop-k.k d (targets.Point (point (pos 0) (pos 0))) c.loop-k-test.true))
     (subst (λ v. is_upper v ≡ true) c.way_to.ensures.way (sym c.is_upper.ensures ∙ c.if-not-is_upper.false)))

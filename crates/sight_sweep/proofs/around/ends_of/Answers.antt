@@ -4,5 +4,7 @@ use Rattle.sight_sweep.proofs.around.ends_of.Goals as goal
 
 pub returns : goal.returns
 returns c =
-    sorted_ends c.args.lines.now c.in_ok-ends.ends.items c.sort_unstable.new.self.items c.sort_unstable.ensures.permutation
-    (IsNonDecreasingBy-from_sort (λ x. x) c.sort_unstable.new.self.items c.sort_unstable.ensures.sorted) c.in_ok-ends.ensures
+    sorted_ends c.args.lines.now c.in_ok-ends.ends.items c.sort_unstable.new.self.items
+    c.sort_unstable.ensures.permutation
+    (IsNonDecreasingBy-from_sort (λ x. x) c.sort_unstable.new.self.items c.sort_unstable.ensures.sorted)
+    c.in_ok-ends.ensures

@@ -4,6 +4,8 @@ use Rattle.sight_sweep.proofs.events.events_of.Goals as goal
 
 pub returns-clause-listed : goal.returns-clause-listed
 returns-clause-listed c =
-    sorted_events c.args.table.now.corners c.args.p c.args.arc c.in_ok-events.events.items c.sort_unstable.new.self.items
-    c.sort_unstable.ensures.permutation (IsNonDecreasingBy-from_sort (λ x. x) c.sort_unstable.new.self.items c.sort_unstable.ensures.sorted)
+    sorted_events c.args.table.now.corners c.args.p c.args.arc c.in_ok-events.events.items
+    c.sort_unstable.new.self.items
+    c.sort_unstable.ensures.permutation
+    (IsNonDecreasingBy-from_sort (λ x. x) c.sort_unstable.new.self.items c.sort_unstable.ensures.sorted)
     c.in_ok-events.ensures.listed

@@ -1,7 +1,3 @@
-use Rattle.std.proofs.Common.{◌≡◌, ◌≤◌, ◌<◌, ℕ, arith, length, get_or}
-use Rattle.std.specs.Prelude.{false, All, List}
-use Rattle.std.proofs.lemmas.List.Folds.{list_any_none}
-use Rattle.plane_spec.specs.declared.Corner.{Corner}
 use Rattle.sweep_laws.specs.Groups.{no_corner}
 use Rattle.station_laws.specs.Grounds.{is_at}
 use Rattle.sight_sweep.proofs.Tables.{none_of}

@@ -6,7 +6,8 @@ use Rattle.station_laws.specs.Grounds.{at_corner, on_wall, on_nothing, IsAtNoCor
 use Rattle.sight_sweep.proofs.grounds.ground_of.Goals as goal
 
 pub returns-in-Some : goal.returns-in-Some
-returns-in-Some c = at_corner c.in-Some.corner (subst (λ xs. IsFirstCorner c.args.p xs c.in-Some.corner) c.corners.ensures.corners c.in-Some.ensures)
+returns-in-Some c = at_corner c.in-Some.corner
+    (subst (λ xs. IsFirstCorner c.args.p xs c.in-Some.corner) c.corners.ensures.corners c.in-Some.ensures)
 
 pub returns-in-Some-wall_at : goal.returns-in-Some-wall_at
 returns-in-Some-wall_at c =

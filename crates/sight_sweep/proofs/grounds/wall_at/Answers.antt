@@ -1,4 +1,4 @@
-use Rattle.std.proofs.Common.{◌≡◌, ◌∙◌, ◌≤◌, ◌<◌, ℕ, arith, sym, length, get_or, below_more}
+use Rattle.std.proofs.Common.{◌∙◌, sym, below_more}
 use Rattle.sight_spec.specs.Sight.{is_in_interior}
 use Rattle.front_laws.specs.Seen.{nowhere}
 use Rattle.sight_sweep.proofs.Tables.{none_of}

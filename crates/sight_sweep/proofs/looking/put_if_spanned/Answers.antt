@@ -18,7 +18,8 @@ pub returns-then-not-is_spanned : goal.returns-then-not-is_spanned
 returns-then-not-is_spanned c a =
     let known = sym c.seen.ensures.seen ∙ ap (option_map seen) c.in-Some.is in
     spanned_other c.args.table.now c.args.p c.args.d c.args.number c.args.active.now.items
-    (λ s own. subst (λ t. spans c.args.d t ≡ false) (some_same (seen c.in-Some.blocker) s (sym known ∙ own)) (sym c.is_spanned.ensures ∙ c.if-not-is_spanned.true)) a
+    (λ s own. subst (λ t. spans c.args.d t ≡ false) (some_same (seen c.in-Some.blocker) s (sym known ∙ own))
+    (sym c.is_spanned.ensures ∙ c.if-not-is_spanned.true)) a
 
 pub returns : goal.returns
 returns c a =
@@ -26,7 +27,10 @@ returns c a =
     let spanned = sym c.is_spanned.ensures ∙ c.if-not-is_spanned.false in
     let number = c.in-Some.ensures.number in
     on_ok_weaker c.put_in.result
-    (λ active. spanned_next_one c.args.table.now c.args.p c.args.d c.args.number c.put_in.new.active.items (seen c.in-Some.blocker) known spanned
-    (subst (λ n. IsActive c.args.table.now c.args.p all_kept (beside n (spanned_so_far c.args.d c.args.number)) c.put_in.new.active.items) number active))
-    (c.put_in.ensures.put c.args.table.now c.args.p all_kept (spanned_so_far c.args.d c.args.number) c.args.d c.requires.station.walls a c.in-Some.ensures.known refl
+    (λ active. spanned_next_one c.args.table.now c.args.p c.args.d c.args.number c.put_in.new.active.items
+    (seen c.in-Some.blocker) known spanned
+    (subst (λ n. IsActive c.args.table.now c.args.p all_kept
+    (beside n (spanned_so_far c.args.d c.args.number)) c.put_in.new.active.items) number active))
+    (c.put_in.ensures.put c.args.table.now c.args.p all_kept
+    (spanned_so_far c.args.d c.args.number) c.args.d c.requires.station.walls a c.in-Some.ensures.known refl
     (spanned_all_so_far c.args.table.now c.args.p c.args.d c.args.number) spanned)

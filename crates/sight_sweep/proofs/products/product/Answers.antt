@@ -10,7 +10,8 @@ returns-clause-value c =
     let fits_a : FitsSigned w64 a = c.ranges.a in
     let fits_b : FitsSigned w64 b = c.ranges.b in
     let fits : FitsSigned w64 (a *ℤ b) =
-    fits_signed_mul w64 a b 400000 400000 (size_within 400000 a c.requires.a_in) (size_within 400000 b c.requires.b_in) (lit< tt) in
+    fits_signed_mul w64 a b 400000 400000 (size_within 400000 a c.requires.a_in)
+    (size_within 400000 b c.requires.b_in) (lit< tt) in
     simp to_z-of_z
 
 pub returns-clause-within : goal.returns-clause-within
@@ -20,5 +21,6 @@ returns-clause-within c =
     let fits_a : FitsSigned w64 a = c.ranges.a in
     let fits_b : FitsSigned w64 b = c.ranges.b in
     let fits : FitsSigned w64 (a *ℤ b) =
-    fits_signed_mul w64 a b 400000 400000 (size_within 400000 a c.requires.a_in) (size_within 400000 b c.requires.b_in) (lit< tt) in
+    fits_signed_mul w64 a b 400000 400000 (size_within 400000 a c.requires.a_in)
+    (size_within 400000 b c.requires.b_in) (lit< tt) in
     simp to_z-of_z (product_within 400000 400000 a b c.requires.a_in c.requires.b_in)

@@ -1,10 +1,12 @@
-use Rattle.std.proofs.Common.{◌≡◌, ◌∙◌, sym, ap, rules}
+use Rattle.std.proofs.Common.{◌∙◌, sym}
 use Rattle.sight_sweep.proofs.Leasts.{ahead_step, least_whole}
 use Rattle.sight_sweep.proofs.round.nearest_ahead.Goals as goal
 
 pub loop-k-preserved : goal.loop-k-preserved
 loop-k-preserved c =
-    ahead_step c.args.p c.args.table.now.corners c.args.group.now c.loop-k.k c.corner_at-corner.result c.corner.result c.way.result c.loop-k.least c.ahead-least.result c.loop-k-test.true c.corner_at-corner.ensures c.corner.ensures.corner c.way.ensures.way c.ahead-least.ensures
+    ahead_step c.args.p c.args.table.now.corners c.args.group.now c.loop-k.k c.corner_at-corner.result c.corner.result
+    c.way.result c.loop-k.least c.ahead-least.result c.loop-k-test.true c.corner_at-corner.ensures
+    c.corner.ensures.corner c.way.ensures.way c.ahead-least.ensures
     ∙ c.loop-k.invariant
 
 pub returns : goal.returns

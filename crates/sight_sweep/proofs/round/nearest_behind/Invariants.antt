@@ -4,4 +4,5 @@ use Rattle.sight_sweep.specs.Rounds.{least_from, leads_behind, far_of}
 use Rattle.sight_sweep.proofs.round.nearest_behind.Given as goal
 
 abbrev pub invariant-loop-k : goal.invariant-loop-k
-invariant-loop-k l = least_from (leads_behind l.p l.table.corners) (far_of l.p l.table.corners) l.least (drop l.k l.group) ≡ least_from (leads_behind l.p l.table.corners) (far_of l.p l.table.corners) None l.group
+invariant-loop-k l = least_from (leads_behind l.p l.table.corners) (far_of l.p l.table.corners) l.least
+    (drop l.k l.group) ≡ least_from (leads_behind l.p l.table.corners) (far_of l.p l.table.corners) None l.group

@@ -1,4 +1,4 @@
-use Rattle.std.proofs.Common.{◌≡◌, ℕ, ◌<◌, ◌≤◌, rules, refl, get_or, length, take}
+use Rattle.std.proofs.Common.{◌≡◌, ◌<◌, ◌≤◌, rules, refl, get_or, length, take}
 use Rattle.std.specs.Prelude.{◌||◌}
 use Rattle.sight_sweep.specs.Events.{corner_of}
 use Rattle.sight_sweep.specs.Rounds.{all_kept, begins_among}
@@ -9,8 +9,11 @@ pub loop-k-preserved : goal.loop-k-preserved
 loop-k-preserved c test way a old new =
     let inside : c.loop-k.k < length c.args.group.now = search rules in
     let corner : c.corner_at.result ≡ corner_of (get_or c.args.group.now c.loop-k.k 0) = search rules in
-    begun_group_step c.args.table.now c.args.p all_kept test c.args.group.now c.loop-k.k c.corner_at.result c.put_begun.new.active.items inside corner
-    (c.in_ok-put_begun.ensures.put all_kept (λ n s. test n s || begins_among c.args.p c.args.table.now.corners (take c.loop-k.k c.args.group.now) s) way (c.loop-k.invariant test way a old new)
+    begun_group_step c.args.table.now c.args.p all_kept test c.args.group.now c.loop-k.k c.corner_at.result
+    c.put_begun.new.active.items inside corner
+    (c.in_ok-put_begun.ensures.put all_kept
+    (λ n s. test n s || begins_among c.args.p c.args.table.now.corners (take c.loop-k.k c.args.group.now) s) way
+    (c.loop-k.invariant test way a old new)
     (spans_group c.args.table.now c.args.p way all_kept test c.args.group.now c.loop-k.k old new)
     (spans_one c.args.table.now c.args.p way all_kept c.args.group.now c.loop-k.k c.corner_at.result inside corner new)
     (λ n s within is h. refl))
@@ -19,5 +22,6 @@ pub returns : goal.returns
 returns c = record {
   put = λ test way a old new.
       let end : length c.args.group.now ≤ c.loop-k.k = search rules in
-      begun_group_all c.args.table.now c.args.p all_kept test c.args.group.now c.loop-k.k c.loop-k.active.items end (c.loop-k.invariant test way a old new);
+      begun_group_all c.args.table.now c.args.p all_kept test c.args.group.now c.loop-k.k c.loop-k.active.items end
+      (c.loop-k.invariant test way a old new);
 }

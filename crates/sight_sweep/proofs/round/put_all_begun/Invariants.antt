@@ -8,5 +8,7 @@ use Rattle.sight_sweep.proofs.round.put_all_begun.Given as goal
 
 abbrev pub invariant-loop-k : goal.invariant-loop-k
 invariant-loop-k l = (test : ℕ → Seen → Bool) (way : Point) → IsActive l.table l.p all_kept test l.fn.active.items
-    → SpansAll l.table l.p all_kept test way → SpansAll l.table l.p all_kept (λ n s. begins_among l.p l.table.corners l.group s) way
-    → IsActive l.table l.p all_kept (λ n s. test n s || begins_among l.p l.table.corners (take l.k l.group) s) l.active.items
+    → SpansAll l.table l.p all_kept test way
+    → SpansAll l.table l.p all_kept (λ n s. begins_among l.p l.table.corners l.group s) way
+    → IsActive l.table l.p all_kept
+    (λ n s. test n s || begins_among l.p l.table.corners (take l.k l.group) s) l.active.items

@@ -14,7 +14,9 @@ returns c = record {
       let number = c.in-Some.ensures.number in
       let facts = own (seen c.in-Some.blocker) known here in
       on_ok_weaker c.put_in.result
-      (λ active. begun_now c.args.table.now c.args.p c.args.v kept test c.put_in.new.active.items c.args.number (seen c.in-Some.blocker) known here
+      (λ active. begun_now c.args.table.now c.args.p c.args.v kept test c.put_in.new.active.items c.args.number
+      (seen c.in-Some.blocker) known here
       (subst (λ n. IsActive c.args.table.now c.args.p kept (beside n test) c.put_in.new.active.items) number active))
-      (c.put_in.ensures.put c.args.table.now c.args.p kept test way c.requires.station.walls a c.in-Some.ensures.known (subst (λ n. kept n ≡ true) (sym number) facts.0) old facts.1);
+      (c.put_in.ensures.put c.args.table.now c.args.p kept test way c.requires.station.walls a c.in-Some.ensures.known
+      (subst (λ n. kept n ≡ true) (sym number) facts.0) old facts.1);
 }

@@ -8,4 +8,6 @@ pub returns : goal.returns
 returns c =
     let b = c.args.self.now in
     let value : to_z w64 (of_z w64 c.plus_cross.result) ≡ b.spread +ℤ c.cross.result = search rules in
-    value ∙ ap (λ t. t +ℤ c.cross.result) b.spread_is ∙ ap (λ t. cross_of b.from b.to +ℤ t) (c.cross.ensures.value ∙ ap (λ e. cross_of e c.args.c) b.edge_is) ∙ side_is (seen b) c.args.c
+    value ∙ ap (λ t. t +ℤ c.cross.result) b.spread_is
+    ∙ ap (λ t. cross_of b.from b.to +ℤ t) (c.cross.ensures.value ∙ ap (λ e. cross_of e c.args.c) b.edge_is)
+    ∙ side_is (seen b) c.args.c
