@@ -12,7 +12,7 @@ use plan_check::{Plan, PlanData, check};
 use plan_spec::{GridSpec, Item, Items, Limit, Points, Why};
 use plane_spec::Point;
 use report_spec::Reason;
-use segment_core::{Piece, neighbours, pieces};
+use segment_core::{neighbours, pieces};
 use sight_core::scene_of;
 use std::alloc::Global;
 use std::process::Abort;
@@ -34,7 +34,7 @@ enum Given<'a> {
     Isovists(&'a Plan),
     Axial(&'a [AxialLine]),
     Lines(&'a [Measure]),
-    Segments(&'a Plan, &'a [Piece], &'a [u32]),
+    Segments(&'a Plan),
     Turns(&'a [Option<u32>; 4]),
     Plan(&'a [Item]),
 }
@@ -54,6 +54,17 @@ fn put_isovists_of(
     }
 }
 
+fn put_segments_of(
+    alloc: Global,
+    out: &mut MemSink,
+    form: Form,
+    plan: &Plan,
+) -> Result<(), ReportFault> {
+    let pieces = pieces(alloc, plan)?;
+    let counts = neighbours(alloc, &pieces)?;
+    put_segments(alloc, out, form, plan, &pieces, &counts)
+}
+
 fn put(alloc: Global, out: &mut MemSink, form: Form, given: &Given) -> Result<(), ReportFault> {
     match given {
         Given::Done(line) => put_ok(alloc, out, form, *line),
@@ -66,9 +77,7 @@ fn put(alloc: Global, out: &mut MemSink, form: Form, given: &Given) -> Result<()
         Given::Isovists(plan) => put_isovists_of(alloc, out, form, plan),
         Given::Axial(lines) => put_axial(alloc, out, form, lines),
         Given::Lines(measures) => put_lines(alloc, out, form, measures),
-        Given::Segments(plan, pieces, counts) => put_segments(
-            alloc, out, form, plan, pieces, counts,
-        ),
+        Given::Segments(plan) => put_segments_of(alloc, out, form, plan),
         Given::Turns(depths) => put_turns(alloc, out, form, *depths),
         Given::Plan(items) => put_plan(alloc, out, form, items),
     }
@@ -348,9 +357,7 @@ fn tables_of_a_room(rt: HostRuntime) -> Result<(), Fail> {
     let text =
         "table segments\n0 R 0/1 0/1 5/1 1/2 3\n1 R 5/1 1/2 10/1 1/1 3\n2 S-2 1/1 1/1 5/1 1/2 3\n\
         3 S-2 5/1 1/2 9/1 0/1 3\nend 4\n";
-    let pieces = pieces(alloc, &plan)?;
-    let counts = neighbours(alloc, &pieces)?;
-    prints(&rt, alloc, &Given::Segments(&plan, &pieces, &counts), text)?;
+    prints(&rt, alloc, &Given::Segments(&plan), text)?;
     let scene = scene_of(alloc, &plan)?;
     let Ok(seen) = isovist(alloc, &plan, &scene, known(&rt, Point { x: 0, y: 4 })) else {
         panic!(&rt; "the point is open")
