@@ -1,0 +1,96 @@
+-- What an edit leaves of what is kept.
+use Rattle.std.proofs.Common.{Bool, ◌&&◌, ◌||◌, not, ap, ◌≡◌, ◌∙◌, true, false, refl, sym, subst, List, Option, Some, None, option_map, map, length, ◌≤◌}
+use Rattle.std.specs.Option.{IfSome}
+use Rattle.plan_spec.specs.declared.edit.Edit.{Edit}
+use Rattle.plan_spec.specs.declared.edit.Edit.TheVariants.{Add, Remove, Move, AddScreen, RemoveScreen, AddRoute, RemoveRoute}
+use Rattle.plan_spec.specs.declared.limits.TheConstants.{MAX_AXIAL_LINES}
+use Rattle.plan_spec.specs.Plan.{Plan, with_item}
+use Rattle.plan_spec.specs.Edits.{plan_after_edit}
+use Rattle.sight_spec.specs.Scene.{Scene, scene_of}
+use Rattle.sight_spec.specs.Sight.{is_open}
+use Rattle.sight_spec.specs.Visibility.{visibility_graph}
+use Rattle.sight_spec.specs.Axial.{AxialLine, axial_lines}
+use Rattle.vga_grid.specs.Rows.{Matrix, graph_of}
+use Rattle.report_spec.specs.Replies.{has_too_many_lines}
+use Rattle.plan_edit.specs.Sessions.{IsKept, Session, has_lines_after, is_of_route, session_after}
+
+-- an edit of a route keeps the scene
+pub same_scene : (plan : Plan) (edit : Edit) → is_of_route edit ≡ true
+    → scene_of (plan_after_edit plan edit) ≡ scene_of plan
+unfolding plan_after_edit with_item
+same_scene plan (AddRoute name from to) h = refl
+same_scene plan (RemoveRoute name) h = refl
+same_scene plan (Add name points) h = cc
+same_scene plan (Remove name) h = cc
+same_scene plan (Move name dx dy) h = cc
+same_scene plan (AddScreen name from to) h = cc
+same_scene plan (RemoveScreen name) h = cc
+
+-- and the visibility graph
+pub same_graph : (plan : Plan) (edit : Edit) → is_of_route edit ≡ true
+    → visibility_graph (plan_after_edit plan edit) ≡ visibility_graph plan
+unfolding plan_after_edit with_item is_open
+same_graph plan (AddRoute name from to) h = refl
+same_graph plan (RemoveRoute name) h = refl
+same_graph plan (Add name points) h = cc
+same_graph plan (Remove name) h = cc
+same_graph plan (Move name dx dy) h = cc
+same_graph plan (AddScreen name from to) h = cc
+same_graph plan (RemoveScreen name) h = cc
+
+-- so all that is kept stays
+pub kept_over_route : (plan after : Plan) (edit : Edit) (scene : Scene) (graph : Option Matrix)
+    (lines : Option (List AxialLine)) → after ≡ plan_after_edit plan edit → is_of_route edit ≡ true
+    → IsKept plan scene graph lines → IsKept after scene graph lines
+kept_over_route plan after edit scene graph lines is route k =
+    subst (λ p. IsKept p scene graph lines) (sym is) (
+    record {
+      scene_is = k.scene_is ∙ sym (same_scene plan edit route);
+      graph_is = subst (λ v. IfSome graph (λ g. graph_of g ≡ v)) (sym (same_graph plan edit route)) k.graph_is;
+      lines_are = subst (λ s. IfSome lines (λ ls. ls ≡ axial_lines s)) (sym (same_scene plan edit route)) k.lines_are;
+      at_most = k.at_most;
+    })
+
+-- ---- any other edit
+
+-- what is in an option of containers
+in_each : {V X : Type 0} (items : V → X) (P : X → Type 0) (found : Option V) → IfSome found (λ v. P (items v))
+    → IfSome (option_map items found) P
+in_each items P None h = h
+in_each items P (Some v) h = h
+
+-- a new scene, and lines that are its own
+pub kept_anew : {V : Type 0} (items : V → List AxialLine) (plan : Plan) (scene : Scene) (found : Option V)
+    → scene ≡ scene_of plan → IfSome found (λ v. items v ≡ axial_lines scene)
+    → IfSome found (λ v. length (items v) ≤ MAX_AXIAL_LINES) → IsKept plan scene None (option_map items found)
+kept_anew items plan scene found is lines few =
+    record {
+      scene_is = is;
+      graph_is = tt;
+      lines_are = in_each items (λ ls. ls ≡ axial_lines (scene_of plan)) found
+          (subst (λ s. IfSome found (λ v. items v ≡ axial_lines s)) is lines);
+      at_most = in_each items (λ ls. length ls ≤ MAX_AXIAL_LINES) found few;
+    }
+
+and_false : (t u : Bool) → u ≡ false → false ≡ (t && u)
+and_false true u e = sym e
+and_false false u e = refl
+
+-- the session after it
+pub session_changed : (old : Session) (edit : Edit) (plan : Plan) (scene : Scene) (found : Bool)
+    → is_of_route edit ≡ false → plan ≡ plan_after_edit old.plan edit → scene ≡ scene_of plan
+    → found ≡ (old.keeps_lines && not (has_too_many_lines scene))
+    → record { plan = plan; keeps_graph = false; keeps_lines = found } ≡ session_after old edit
+session_changed old edit plan scene found route makes is few =
+    ap (λ p. session p false found) makes
+    ∙ ap (λ t. session after t found) (and_false old.keeps_graph (is_of_route edit) route)
+    ∙ ap (λ t. session after (old.keeps_graph && is_of_route edit) t) (
+    few
+    ∙ ap (λ s. old.keeps_lines && not (has_too_many_lines s)) (is ∙ ap scene_of makes)
+    ∙ ap (λ t. old.keeps_lines && (t || has_lines_after old.plan edit)) (sym route))
+  where
+    after : Plan
+    after = plan_after_edit old.plan edit
+
+    session : Plan → Bool → Bool → Session
+    session p g l = record { plan = p; keeps_graph = g; keeps_lines = l }

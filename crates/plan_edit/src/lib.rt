@@ -1,0 +1,21 @@
+//! A session on an accepted plan: the plan and what is found of it, kept over edits as far as it stays.
+//!
+//! | item | what it is |
+//! |---|---|
+//! | [`Session`] | a plan, its scene, and its visibility graph and axial lines once they were asked for |
+//!
+//! What is kept never is that of an earlier plan:
+//!
+//! ```text
+//!   edit of            scene    graph     axial lines
+//!   a route            stays    stays     stay
+//!   an obstacle        anew     let go    changed, where they were there and aren't too many now
+//!   a screen           anew     let go    likewise
+//! ```
+#![tactic(auto)]
+
+mod session;
+#[cfg(test)]
+mod tests;
+
+pub use session::Session;

@@ -1,0 +1,198 @@
+//! The session.
+
+ghost use Rattle.std.specs.Prelude.{Err, IfErr, IfOk, IsTrue, None, OnErr, OnOk, Some, ◌≡◌, ◌≤◌, ◌&&◌, false, is_some, length, not};
+ghost use Rattle.std.specs.Option.{IfSome};
+ghost use Rattle.plan_spec.specs.declared.limits.TheConstants.{MAX_AXIAL_LINES};
+ghost use Rattle.plan_spec.specs.Edits.{HasShift, why_not_edit};
+ghost use Rattle.sight_spec.specs.Scene as scenes;
+ghost use Rattle.sight_spec.specs.Visibility.{visibility_graph};
+ghost use Rattle.sight_spec.specs.Axial.{axial_lines};
+ghost use Rattle.report_spec.specs.Replies.{has_too_many_lines};
+ghost use Rattle.dirty_laws.specs.Scenes.{IsEdited};
+ghost use Rattle.plan_check.specs.Faults.{IfRefused};
+ghost use Rattle.vga_grid.specs.Rows.{graph_of};
+ghost use Rattle.axial_lines.specs.declared.fault.LinesFault.TheVariants.{TooManyLines};
+ghost use Rattle.plan_edit.specs.Sessions as sessions;
+
+use axial_lines::{AxialLine, LinesFault, all_lines, update_lines};
+use plan_check::{Changed, Edit, EditFault, Plan};
+use sight_core::{Scene, scene_of};
+use std::alloc::Global;
+use std::marker::Model;
+use text_spec::NoMemory;
+use vga_grid::BitGraph;
+use vga_looks::graph_by_looks;
+
+/// A plan, its scene, and its visibility graph and axial lines once they were asked for. Contracts see the plan, and
+/// whether the graph and the lines are kept.
+#[derive(Drop)]
+pub struct Session {
+    plan: Plan,
+    scene: Scene,
+    graph: Option<BitGraph>,
+    lines: Option<Vec<AxialLine>>,
+}
+
+impl Model for Session {
+    ghost use Rattle.std.specs.Prelude.{is_some, option_map};
+    ghost use Rattle.plan_edit.specs.Sessions.{IsKept, Session as SessionParts};
+
+    ghost Value = { SessionParts };
+
+    ghost view = { λ a. record { plan = a.plan; keeps_graph = is_some a.graph; keeps_lines = is_some a.lines } };
+
+    ghost invariant = { λ a. IsKept a.plan a.scene a.graph (option_map (λ v. v.items) a.lines) };
+}
+
+/// Whether the edit is of a route, which blocks nothing.
+fn is_of_route(edit: &Edit) -> bool
+    ensures { result ≡ sessions.is_of_route edit.now }
+{
+    match edit {
+        Edit::AddRoute(_name, _from, _to) => true,
+        Edit::RemoveRoute(_name) => true,
+        _ => false,
+    }
+}
+
+/// The axial lines after an edit, from those before it where they were kept; none where there are too many.
+fn lines_after(
+    alloc: Global,
+    kept: &Option<Vec<AxialLine>>,
+    before: &Scene,
+    after: &Scene,
+    boxes: Changed,
+) -> Result<Option<Vec<AxialLine>>, NoMemory>
+    requires kept_are { IfSome kept.now (λ lines. lines.items ≡ axial_lines before.now) }
+    requires edited { IsEdited before.now after.now boxes }
+    ensures kept { IfOk result (λ new. is_some new ≡ (is_some kept.now && not (has_too_many_lines after.now))) }
+    ensures lines { IfOk result (λ new. IfSome new (λ lines. lines.items ≡ axial_lines after.now)) }
+    ensures at_most { IfOk result (λ new. IfSome new (λ lines. length lines.items ≤ MAX_AXIAL_LINES)) }
+{
+    let Some(old) = kept else {
+        return Ok(None);
+    };
+    match update_lines(alloc, old, before, after, boxes) {
+        Ok(lines) => Ok(Some(lines)),
+        Err(LinesFault::TooManyLines) => Ok(None),
+        Err(LinesFault::NoMemory) => Err(NoMemory),
+    }
+}
+
+impl Session {
+    /// A session that begins with this plan, and keeps neither graph nor lines.
+    ///
+    /// Cost: that of the plan's scene.
+    pub fn begin(alloc: Global, plan: Plan) -> Result<Session, NoMemory>
+        ensures { IfOk result (λ session. session ≡ sessions.begun plan) }
+    {
+        let scene = scene_of(alloc, &plan)?;
+        Ok(Session {
+            plan,
+            scene,
+            graph: None,
+            lines: None,
+        })
+    }
+
+    /// The plan as the edits left it.
+    pub fn plan(&self) -> &Plan
+        ensures { result.now ≡ self.now.plan }
+    {
+        &self.plan
+    }
+
+    /// The walls, screens and corners of the plan.
+    pub fn scene(&self) -> &Scene
+        ensures { result.now ≡ scenes.scene_of self.now.plan }
+    {
+        &self.scene
+    }
+
+    /// Changes the plan by the edit. Where the edit is refused, or there is no memory, nothing is changed.
+    ///
+    /// An edit of a route keeps the graph and the lines. After any other the graph is let go, and lines that were kept
+    /// are those of the new plan, or are let go where there are more than `MAX_AXIAL_LINES`.
+    ///
+    /// `Err(Refused)` names the first cause for which the edit is refused. The shift of a move is at most `MAX_SHIFT`.
+    ///
+    /// Cost: that of `Plan::with`; where the edit is of an obstacle or a screen that of the scene, too, and where lines
+    /// are kept that of `update_lines`.
+    pub fn apply(&mut self, alloc: Global, edit: &Edit) -> Result<(), EditFault>
+        requires shift { HasShift edit.now }
+        ensures session { OnOk result (self.new ≡ sessions.session_after self.old edit.now) }
+        ensures valid { OnOk result (why_not_edit self.old.plan edit.now ≡ None) }
+        ensures refused { IfErr result (λ fault. IfRefused fault (λ why. why_not_edit self.old.plan edit.now ≡ Some why)) }
+        ensures refused_stays { OnErr result (self.new ≡ self.old) }
+    {
+        let plan = self.plan.with(alloc, edit)?;
+        if is_of_route(edit) {
+            self.plan = plan;
+            return Ok(());
+        }
+        let scene = scene_of(alloc, &plan)?;
+        // a plan says that it is sound where its outer polygon is read
+        let _outer = self.plan.outer();
+        let boxes = self.plan.changed(edit);
+        let lines = lines_after(alloc, &self.lines, &self.scene, &scene, boxes)?;
+        self.plan = plan;
+        self.scene = scene;
+        self.graph = None;
+        self.lines = lines;
+        Ok(())
+    }
+
+    /// Makes the visibility graph of the plan, where it isn't kept. Without memory nothing is changed.
+    ///
+    /// Cost: that of `graph_by_looks`, once for a plan.
+    pub fn make_graph(&mut self, alloc: Global) -> Result<(), NoMemory>
+        ensures made { OnOk result (self.new ≡ sessions.with_graph self.old) }
+        ensures stays { OnErr result (self.new ≡ self.old) }
+    {
+        if self.graph.is_none() {
+            let graph = graph_by_looks(alloc, &self.plan, &self.scene)?;
+            self.graph = Some(graph);
+        }
+        Ok(())
+    }
+
+    /// The visibility graph of the plan, which was made.
+    pub fn graph(&self) -> &BitGraph
+        requires { IsTrue self.now.keeps_graph }
+        ensures { graph_of result.now ≡ visibility_graph self.now.plan }
+    {
+        match &self.graph {
+            Some(graph) => graph,
+            None => unreachable!(),
+        }
+    }
+
+    /// Finds the axial lines of the plan, where they aren't kept. Where there are too many, or no memory, nothing is
+    /// changed.
+    ///
+    /// Cost: that of `all_lines`, once for a plan.
+    pub fn make_lines(&mut self, alloc: Global) -> Result<(), LinesFault>
+        ensures made { OnOk result (self.new ≡ sessions.with_lines self.old) }
+        ensures at_most { OnOk result (has_too_many_lines (scenes.scene_of self.old.plan) ≡ false) }
+        ensures too_many { result ≡ Err TooManyLines → IsTrue (has_too_many_lines (scenes.scene_of self.old.plan)) }
+        ensures stays { OnErr result (self.new ≡ self.old) }
+    {
+        if self.lines.is_none() {
+            let lines = all_lines(alloc, &self.scene)?;
+            self.lines = Some(lines);
+        }
+        Ok(())
+    }
+
+    /// The axial lines of the plan, which were found: at most `MAX_AXIAL_LINES`.
+    pub fn lines(&self) -> &[AxialLine]
+        requires { IsTrue self.now.keeps_lines }
+        ensures lines { result.now ≡ axial_lines (scenes.scene_of self.now.plan) }
+        ensures at_most { length result.now ≤ MAX_AXIAL_LINES }
+    {
+        match &self.lines {
+            Some(lines) => lines,
+            None => unreachable!(),
+        }
+    }
+}
