@@ -1,10 +1,12 @@
 //! What answers the lines of a script.
 
 ghost use Rattle.std.specs.Prelude.{◌≡◌, ◌⊎◌, IfOk, IsErrOf, List, OnErr, OnOk, option_map, ℕ};
+ghost use Rattle.std.specs.Thread.{IsSync};
 ghost use Rattle.dm_io.specs.Streams.{Rose, WritesPrefix, appended_to};
 ghost use Rattle.script_loop.specs.Steps.{LineStep, Shows};
 
 use dm_io::Sink;
+use std::thread::Threads;
 
 /// Why a line wasn't answered.
 #[derive(Clone, Copy, Debug, PartialEq, Eq)]
@@ -28,13 +30,15 @@ pub trait Answerer {
 
     /// Answers a line on `out`, shown without its newline and a carriage return before it, or `None` where it was too long
     /// and is skipped; whether it is refused. After a fault a prefix of the reply was written,
-    /// and any state is left.
-    fn answer<O: Sink>(
+    /// and any state is left. It may make threads by `rt`.
+    fn answer<R: Threads + Sync, O: Sink>(
         &mut self,
+        rt: &R,
         number: u64,
         line: Option<&[u8]>,
         out: &mut O,
     ) -> Result<bool, AnswerFault>
+        requires { IsSync R.row }
         ensures written { OnOk result ((whole : List ℕ) → Shows whole (option_map (λ bytes. bytes.now) line.entry) → O.written out.new ≡ appended_to (O.written out.old) (step (state self.old) number whole).reply) }
         ensures leaves { OnOk result ((whole : List ℕ) → Shows whole (option_map (λ bytes. bytes.now) line.entry) → state self.new ≡ (step (state self.old) number whole).state) }
         ensures refused { IfOk result (λ refused. (whole : List ℕ) → Shows whole (option_map (λ bytes. bytes.now) line.entry) → refused ≡ (step (state self.old) number whole).refused) }

@@ -5,6 +5,7 @@ ghost use Rattle.script_loop.specs.Ends.{Counts, Leaves};
 
 use crate::answerer::{AnswerFault, Answerer};
 use dm_io::{LineReader, Next, Sink, Source};
+use std::thread::Threads;
 
 /// How the answering of a script ends.
 #[derive(Clone, Copy, Debug, PartialEq, Eq)]
@@ -26,6 +27,7 @@ pub enum ScriptEnd {
 ///
 /// Cost: one pass over the script's bytes, and that of the answers; memory for one line.
 pub fn answer_script<A: Answerer, S: Source, O: Sink>(
+    rt: &(impl Threads + Sync),
     answerer: &mut A,
     limit: u64,
     script: &mut S,
@@ -45,7 +47,7 @@ pub fn answer_script<A: Answerer, S: Source, O: Sink>(
             Next::Failed => return ScriptEnd::Failed,
             Next::Over => return ScriptEnd::Over,
         };
-        match answerer.answer(reader.number(), line, out) {
+        match answerer.answer(rt, reader.number(), line, out) {
             Ok(line_refused) => refused = refused || line_refused,
             Err(AnswerFault::Write) => return ScriptEnd::Unwritten,
             Err(AnswerFault::NoMemory) => return ScriptEnd::NoMemory,

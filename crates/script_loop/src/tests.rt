@@ -5,7 +5,9 @@ ghost use Rattle.std.specs.Prelude.{◌<◌, ◌≤◌, ◌^◌};
 use crate::answerer::{AnswerFault, Answerer};
 use crate::script::{ScriptEnd, answer_script};
 use dm_io::{MemSink, MemSource, Sink, put_all};
+use std::alloc::Global;
 use std::test::Fail;
+use std::thread::Threads;
 
 /// Answers a line with a dot, and refuses one that is too long with an exclamation mark.
 #[derive(Drop)]
@@ -21,8 +23,9 @@ impl Answerer for Dots {
 
     ghost step = { λ state number line. if is_long line then record { state = state; reply = 33 ∷ []; refused = true } else record { state = state; reply = 46 ∷ []; refused = false } };
 
-    fn answer<O: Sink>(
+    fn answer<R: Threads + Sync, O: Sink>(
         &mut self,
+        _rt: &R,
         _number: u64,
         line: Option<&[u8]>,
         out: &mut O,
@@ -37,7 +40,8 @@ impl Answerer for Dots {
 
 /// Answers a script of which a take gives `most` bytes, where the calls of a number fail: how that ends, and what is written.
 fn answered(
-    rt: &HostRuntime,
+    threads: &(impl Threads + Sync),
+    alloc: Global,
     text: &[u8],
     most: usize,
     limit: u64,
@@ -47,15 +51,15 @@ fn answered(
     requires most { 1 ≤ most }
     requires limit { limit < 2 ^ 63 }
 {
-    let mut bytes = Vec::new(rt.alloc());
+    let mut bytes = Vec::new(alloc);
     bytes.extend_from_slice(text)?;
-    let mut failing = Vec::new(rt.alloc());
+    let mut failing = Vec::new(alloc);
     failing.extend_from_slice(script_fails)?;
     let mut script = MemSource::new(bytes, most, failing);
-    let mut failing = Vec::new(rt.alloc());
+    let mut failing = Vec::new(alloc);
     failing.extend_from_slice(out_fails)?;
-    let mut out = MemSink::new(rt.alloc(), 8, 8, failing)?;
-    let end = answer_script(&mut Dots, limit, &mut script, &mut out);
+    let mut out = MemSink::new(alloc, 8, 8, failing)?;
+    let end = answer_script(threads, &mut Dots, limit, &mut script, &mut out);
     Ok((end, out))
 }
 
@@ -84,7 +88,7 @@ fn each_line_is_answered_once(rt: HostRuntime) -> Result<(), Fail> {
         (b"a\nb\nc", 1, 9, &[], &[1], ScriptEnd::Unwritten, b"."),
     ];
     for (text, most, limit, script_fails, out_fails, wanted, written) in table {
-        let (end, out) = answered(&rt, text, most, limit, script_fails, out_fails)?;
+        let (end, out) = answered(&rt, rt.alloc(), text, most, limit, script_fails, out_fails)?;
         assert_eq!(rt; end, wanted);
         assert!(rt; out.bytes() == written);
     }
@@ -95,7 +99,7 @@ fn each_line_is_answered_once(rt: HostRuntime) -> Result<(), Fail> {
 fn a_line_that_is_too_long_is_refused(rt: HostRuntime) -> Result<(), Fail> {
     let mut text = vec![in rt.alloc(); b'a'; 20001]?;
     text.extend_from_slice(b"\nb\n")?;
-    let (end, out) = answered(&rt, &text, 4096, 30000, &[], &[])?;
+    let (end, out) = answered(&rt, rt.alloc(), &text, 4096, 30000, &[], &[])?;
     assert_eq!(rt; end, ScriptEnd::All(true));
     assert!(rt; out.bytes() == b"!.".as_slice());
     Ok(())

@@ -1,0 +1,7 @@
+mod Printed
+mod PlanTables
+mod Shown
+mod Asked
+mod Stepped
+mod Places
+mod TrialSums

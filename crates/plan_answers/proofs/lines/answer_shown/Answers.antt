@@ -1,0 +1,27 @@
+use Rattle.std.proofs.Common.{refl}
+use Rattle.plan_answers.proofs.Printed.{nothing}
+use Rattle.plan_answers.proofs.Shown.{always}
+use Rattle.plan_answers.proofs.Stepped.{line_leaves, line_replied, read_badly}
+use Rattle.plan_answers.proofs.lines.answer_shown.Goals as goal
+
+pub returns-in-Ok-clause-answers : goal.returns-in-Ok-clause-answers
+returns-in-Ok-clause-answers g c =
+    line_replied _ _ _ _ _ _ _ _ c.in-Ok.ensures.reads c.answer_read.ensures.answers
+
+pub returns-in-Ok-clause-leaves : goal.returns-in-Ok-clause-leaves
+returns-in-Ok-clause-leaves g c =
+    line_leaves _ _ _ c.answer_read.result _ _ c.in-Ok.ensures.reads c.answer_read.ensures.leaves
+
+pub returns-in-Err-Bad-clause-answers : goal.returns-in-Err-Bad-clause-answers
+returns-in-Err-Bad-clause-answers g c =
+    line_replied _ _ _ _ _ _ _ _ (read_badly _ c.in-Err-Bad.field-0 c.in-Err-Bad.why c.in-Err-Bad.field-0-is c.in-Err-Bad.ensures.reads)
+    c.put_refusal.ensures.answers
+
+pub returns-in-Err-Bad-clause-leaves : goal.returns-in-Err-Bad-clause-leaves
+returns-in-Err-Bad-clause-leaves g c =
+    line_leaves _ _ _ c.put_refusal.result _ _ (read_badly _ c.in-Err-Bad.field-0 c.in-Err-Bad.why c.in-Err-Bad.field-0-is c.in-Err-Bad.ensures.reads)
+    (always c.put_refusal.result refl)
+
+pub returns-in-Err-NoMemory-clause-answers : goal.returns-in-Err-NoMemory-clause-answers
+returns-in-Err-NoMemory-clause-answers g c =
+    nothing _ _
