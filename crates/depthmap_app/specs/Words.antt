@@ -1,18 +1,25 @@
--- What the words of the command name.
-use Rattle.std.specs.Prelude.{ℕ, List, [], ◌∷◌, map, Option, Some, None, option_and_then, codes, bytes_eq, string_bytes, String, if◌then◌else◌}
+-- What the words of the command ask for.
+use Rattle.std.specs.Prelude.{ℕ, List, map, Option, Some, None, option_and_then, string_bytes, String}
 use Rattle.std.specs.Global.{Global}
+use Rattle.options_spec.specs.declared.options.Job.{Job}
+use Rattle.options_spec.specs.declared.options.Job.TheVariants.{Analyse, Trial}
+use Rattle.options_spec.specs.declared.options.Options.{Options}
+use Rattle.words_spec.specs.CommandWords.{options_in}
 
--- the name in the words `-f NAME`, or none
-abbrev pub name_in : List (List ℕ) → Option (List ℕ)
-name_in [] = None
-name_in (word ∷ []) = None
-name_in (flag ∷ name ∷ []) = if bytes_eq flag (codes "-f") then Some name else None
-name_in (flag ∷ name ∷ word ∷ words) = None
+-- the options that the words give, or none
+abbrev pub options_given : List (String Global) → Option Options
+options_given words = options_in (map string_bytes words)
 
--- the name of the file in the words, or none
-abbrev pub file_in : List (String Global) → Option (List ℕ)
-file_in words = name_in (map string_bytes words)
+-- the name of the file that is to be analysed, or none
+abbrev pub file_of_job : Job → Option (List ℕ)
+file_of_job (Analyse mode file) = Some file
+file_of_job (Trial boxes) = None
 
--- the bytes of the file that the words name, where they are known
-abbrev pub known_file : List (String Global) → (List ℕ → Option (List ℕ)) → Option (List ℕ)
-known_file words holds = option_and_then holds (file_in words)
+-- the name of the file that the options ask for, or none
+abbrev pub file_of : Option Options → Option (List ℕ)
+file_of None = None
+file_of (Some options) = file_of_job options.job
+
+-- the bytes of the file that the options ask for, where they are known
+abbrev pub known_file : Option Options → (List ℕ → Option (List ℕ)) → Option (List ℕ)
+known_file options holds = option_and_then holds (file_of options)

@@ -31,9 +31,9 @@ fn words(rt: &HostRuntime) -> Option<Vec<String>> {
     Some(words)
 }
 
-/// All that a program's `main` does: it makes the real files and streams, calls [`run`] and ends with its status. Ends
-/// with [`NO_WORDS`] where there are no words to run on. A `main` hands over its runtime twice, `start(&rt, rt)`, since it
-/// alone may make threads of it.
+/// All that a program's `main` does: it makes the real files and streams, calls [`run`] and ends with its status.
+/// Ends with [`NO_WORDS`] where there are no words to run on. A `main` hands over its runtime twice,
+/// `start(&rt, rt)`, since it alone may make threads of it.
 pub fn start(threads: &(impl Threads + Sync), rt: HostRuntime) -> ExitCode
     ensures { (exit_status result ≡ NO_WORDS) ⊎ ((status : Status) × (exit_status result ≡ code_of status)) }
 {

@@ -1,5 +1,5 @@
-//! The program as one call over files, a script and sinks that are handed in: it reads a plan and prints the edges of its
-//! visibility graph, and each of its statuses has a stated cause.
+//! The program as one call over files, a script and sinks that are handed in: it answers a script line by line over a
+//! plan and prints the tables of a mode, and each of its statuses has a stated cause.
 //!
 //! | item | what it is |
 //! |---|---|
@@ -7,15 +7,15 @@
 //! | [`Status`] | how a run ended, with the number that the program ends with |
 //! | [`start`], [`exit`], [`NO_WORDS`] | what a program's `main` does: [`run`] over the system's own files and streams |
 //!
-//! Data goes one way: words and bytes, plan, grid points and scene, edges, records (`edges`), bytes. The definitions that
-//! the contract of [`run`] cites stand in `specs/`: `Words` says which words name a file, `Outputs` what is written for a
-//! plan, `Statuses` what each status says of the output, of the plan's file, of standard error and of the faults.
+//! Data goes one way: words, options, the plan's file, a session on the plan, the script's lines and their replies,
+//! the tables of the mode. The definitions that the contract of [`run`] cites stand in `specs/`, in the order in
+//! which they are read: `Words` says which options the words give, `Streams` what a run reads and writes, `PlanFiles`
+//! which plan a file holds, `Ends` what each status says of them, `Statuses` what is said on standard error.
 #![tactic(auto)]
 
-mod edges;
+mod desk;
 mod host;
 mod messages;
-mod output;
 mod plan_file;
 mod program;
 mod status;

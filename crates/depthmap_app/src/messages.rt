@@ -1,18 +1,18 @@
 //! The line on standard error.
 
-ghost use Rattle.std.specs.Prelude.{◌≡◌, ◌⊎◌, ◌<◌, ◌-◌, ◌^◌, ◌++◌, IfNone, IfSome, OnErr, OnOk};
+ghost use Rattle.std.specs.Prelude.{◌≡◌, ◌⊎◌, ◌<◌, ◌-◌, ◌^◌, ◌++◌, IfNone, IfSome, List, OnErr, OnOk, option_map, ℕ};
 ghost use Rattle.std.specs.List.{flat_map, join_with_byte};
 ghost use Rattle.report_spec.specs.Messages.{plan_message};
-ghost use Rattle.report_spec.specs.Replies.{reason_words, text_why_word, why_words};
+ghost use Rattle.report_spec.specs.Replies.{reason_words};
+ghost use Rattle.reports.specs.Causes.{words_in};
 ghost use Rattle.dm_io.specs.Streams.{WritesPrefix, Rose, appended_to};
 ghost use Rattle.depthmap_app.specs.Statuses.{IsSaid, IsSilent, message_of};
 
 use crate::status::Status;
 use dm_io::{PutFailed, Sink, put_all};
-use grammar_spec::TextWhy;
 use itoa::Buffer;
-use plan_spec::{Limit, Why};
 use report_spec::Reason;
+use reports::reason_parts;
 
 /// How the command is used.
 const USAGE: &[u8] =
@@ -31,62 +31,24 @@ fn put_pieces<E: Sink>(err: &mut E, pieces: &[&[u8]]) -> Result<(), PutFailed>
     Ok(())
 }
 
-fn text_why_word(why: TextWhy) -> &'static str
-    ensures { result.now ≡ text_why_word why }
+/// What stands after the word of a cause: a space and what the cause is about, or nothing.
+fn after_word(detail: Option<&[u8]>) -> (&[u8], &[u8])
+    ensures { (word : List ℕ) → word ++ (result.0.now ++ result.1.now)
+        ≡ join_with_byte 32 (words_in word (option_map (λ detail. detail.now) detail.entry)) }
 {
-    match why {
-        TextWhy::Long => "long",
-        TextWhy::Kind => "kind",
-        TextWhy::Words => "words",
-        TextWhy::Name => "name",
-        TextWhy::Number => "number",
+    match detail {
+        Some(detail) => (b" ", detail),
+        None => (b"", b""),
     }
 }
 
-/// The words for a limit that would be passed.
-fn full_words(limit: Limit) -> &'static str
-    ensures { result.now ≡ join_with_byte 32 (why_words (Why.Full limit)) }
+/// The words of a reason: the first of them, and what stands after it.
+fn reason_text(reason: &Reason) -> (&[u8], &[u8], &[u8])
+    ensures { result.0.now ++ (result.1.now ++ result.2.now) ≡ join_with_byte 32 (reason_words reason.now) }
 {
-    match limit {
-        Limit::Obstacles => "full obstacles",
-        Limit::Corners => "full corners",
-        Limit::Screens => "full screens",
-        Limit::Routes => "full routes",
-        Limit::Points => "full points",
-    }
-}
-
-/// The words of a cause, and the name that follows them or nothing.
-fn why_text(why: &Why) -> (&str, &[u8])
-    ensures { result.0.now ++ result.1.now ≡ join_with_byte 32 (why_words why.now) }
-{
-    match why {
-        Why::Order => ("order", b""),
-        Why::Count => ("count", b""),
-        Why::Range => ("range", b""),
-        Why::Repeat => ("repeat", b""),
-        Why::Cross => ("cross", b""),
-        Why::Outside => ("outside", b""),
-        Why::Touch(name) => ("touch ", name.bytes()),
-        Why::Screen(name) => ("screen ", name.bytes()),
-        Why::NameTaken => ("taken", b""),
-        Why::Missing => ("missing", b""),
-        Why::Full(limit) => (full_words(*limit), b""),
-        Why::Overlap(name) => ("overlap ", name.bytes()),
-    }
-}
-
-/// The words of a reason, and the name that follows them or nothing.
-fn reason_text(reason: &Reason) -> (&str, &[u8])
-    ensures { result.0.now ++ result.1.now ≡ join_with_byte 32 (reason_words reason.now) }
-{
-    match reason {
-        Reason::Text(why) => (text_why_word(*why), b""),
-        Reason::Edit(why) => why_text(why),
-        Reason::NoPoint => ("nopoint", b""),
-        Reason::Closed => ("closed", b""),
-        Reason::Lines => ("lines", b""),
-    }
+    let (word, detail) = reason_parts(reason);
+    let (space, detail) = after_word(detail);
+    (word, space, detail)
 }
 
 /// Writes the line of a refused plan.
@@ -97,13 +59,14 @@ fn put_plan_message<E: Sink>(err: &mut E, line: u32, reason: &Reason) -> Result<
     ensures only_on_fault { OnErr result (Rose (E.faults err.old) (E.faults err.new)) }
 {
     let mut digits = Buffer::new();
-    let (words, name) = reason_text(reason);
-    let pieces: [&[u8]; 6] = [
+    let (word, space, detail) = reason_text(reason);
+    let pieces: [&[u8]; 7] = [
         b"depthmap: plan line ",
         digits.format(line).as_bytes(),
         b": ",
-        words.as_bytes(),
-        name,
+        word,
+        space,
+        detail,
         b"\n",
     ];
     put_pieces(err, &pieces)

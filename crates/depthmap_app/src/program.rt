@@ -1,105 +1,199 @@
 //! The top call.
 
-ghost use Rattle.std.specs.Prelude.{◌≡◌, ◌⊎◌, ◌↔◌, ◌<◌, ◌-◌, ◌^◌, ℕ, IfSome, IsTrue};
-ghost use Rattle.depthmap_app.specs.Statuses.{Counts, IsComplete, IsSilent, Says, SaysWhy, TakesPlan, Writes, faults};
-ghost use Rattle.depthmap_app.specs.Words.{file_in, known_file};
+ghost use Rattle.std.specs.Prelude.{◌≡◌, ◌⊎◌, ◌≤◌, ◌<◌, ◌-◌, ◌^◌, ◌||◌, IfSome, IsTrue, List, Option, ℕ};
+ghost use Rattle.options_spec.specs.declared.options.TheConstants.{MAX_TRIAL_BOXES};
+ghost use Rattle.depthmap_app.specs.Ends.{Ends, EndsAnalysis, EndsJob, EndsOverPlan, EndsTrial, HasOutput, IsComplete};
+ghost use Rattle.depthmap_app.specs.Statuses.{IsSilent, Says, SaysWhy, done_status};
+ghost use Rattle.depthmap_app.specs.Streams.{faults, streams};
+ghost use Rattle.depthmap_app.specs.Words.{file_of, file_of_job, known_file, options_given};
 
+use crate::desk::Desk;
 use crate::messages::{say, say_why};
-use crate::output::{PrintFault, put_output};
-use crate::plan_file::read_file;
+use crate::plan_file::{PlanFault, plan_in_file};
 use crate::status::Status;
-use crate::words::file_name;
-use dm_io::{AllFault, Files, Gate, Sink, Source};
-use plan_check::{CheckFault, check};
-use plan_text::{ReadPlanFault, read_plan};
-use report_spec::Reason;
+use crate::words::texts_of;
+use command_words::options_in;
+use dm_io::{Files, Gate, Sink, Source};
+use grammar_spec::MAX_SCRIPT_BYTES;
+use options_spec::{Form, Job, Mode, Options};
+use plan_answers::{put_mode, put_trial_of};
+use plan_check::Plan;
+use plan_edit::Session;
+use reports::ReportFault;
+use script_loop::{ScriptEnd, answer_script};
 use std::alloc::Global;
 use std::thread::Threads;
 
-/// Prints the output for the plan in the file of a name. Where the file holds none, it says why on `err`.
-fn print_file<F: Files, O: Sink, E: Sink>(
+/// How a run ends whose output was written whole, by whether a reply is `refused` and whether the tables are.
+fn done(refused: bool, mode_refused: bool) -> Status
+    ensures { result ≡ done_status (refused || mode_refused) }
+{
+    if refused || mode_refused {
+        Status::DoneWithRefusals
+    } else {
+        Status::Done
+    }
+}
+
+/// Answers the script over a plan, and prints the tables of the mode over the plan that it leaves.
+fn answer_over<S: Source, O: Sink>(
+    rt: &(impl Threads + Sync),
     alloc: Global,
-    files: &mut F,
+    plan: Plan,
+    mode: Mode,
+    form: Form,
+    workers: usize,
+    script: &mut S,
+    out: &mut O,
+) -> Status
+    requires script_below { S.faults script.old < 2 ^ 64 - 1 }
+    requires out_below { O.faults out.old < 2 ^ 64 - 1 }
+    ensures { (before after : Option (List ℕ)) (files : ℕ) →
+        EndsOverPlan mode form plan (streams before (S.left script.old) (O.written out.old) (faults files (S.faults script.old) (O.faults out.old)))
+            (streams after (S.left script.new) (O.written out.new) (faults files (S.faults script.new) (O.faults out.new)))
+        result }
+{
+    let Ok(session) = Session::begin(alloc, plan) else {
+        return Status::NoMemory;
+    };
+    let mut desk = Desk {
+        alloc,
+        session,
+        form,
+        workers,
+    };
+    let refused = match answer_script(rt, &mut desk, MAX_SCRIPT_BYTES, script, out) {
+        ScriptEnd::All(refused) => refused,
+        ScriptEnd::Failed => return Status::ReadFault,
+        ScriptEnd::Unwritten => return Status::WriteFault,
+        ScriptEnd::NoMemory => return Status::NoMemory,
+        ScriptEnd::Over => return Status::TooLong,
+    };
+    match put_mode(rt, alloc, &mut desk.session, form, workers, mode, out) {
+        Ok(mode_refused) => done(refused, mode_refused),
+        Err(ReportFault::Write) => Status::WriteFault,
+        Err(ReportFault::NoMemory) => Status::NoMemory,
+    }
+}
+
+/// Answers the script over the plan in the file of a name. Where the file holds none, it says why on `err`.
+fn analyse<F: Files, S: Source, O: Sink, E: Sink>(
+    rt: &(impl Threads + Sync),
+    alloc: Global,
     name: &str,
+    mode: Mode,
+    form: Form,
+    workers: usize,
+    files: &mut F,
+    script: &mut S,
     out: &mut O,
     err: &mut E,
 ) -> Status
     requires files_below { F.faults files.old < 2 ^ 64 - 1 }
+    requires script_below { S.faults script.old < 2 ^ 64 - 1 }
     requires out_below { O.faults out.old < 2 ^ 64 - 1 }
     requires err_below { E.faults err.old < 2 ^ 64 - 1 }
     requires allowed { IsTrue (F.allows files.old name.now) }
-    ensures writes { Writes (F.holds files.old name.now) (O.written out.old) (O.written out.new) result }
-    ensures takes { TakesPlan (F.holds files.old name.now) (F.left files.old) (F.left files.new) result }
-    ensures why { result ≡ Status.BadPlan → SaysWhy (F.holds files.old name.now) (E.written err.old) (E.written err.new) (E.faults err.old) (E.faults err.new) }
-    ensures silent { (result ≡ Status.BadPlan) ⊎ IsSilent (E.written err.old) (E.written err.new) (E.faults err.old) (E.faults err.new) }
-    ensures counts { (script : ℕ) → Counts (faults (F.faults files.old) script (O.faults out.old)) (faults (F.faults files.new) script (O.faults out.new)) result }
-    ensures named { result ≡ Status.BadWords → ⊥ }
+    ensures ends { EndsAnalysis mode form (F.holds files.old name.now)
+        (streams (F.left files.old) (S.left script.old) (O.written out.old)
+            (faults (F.faults files.old) (S.faults script.old) (O.faults out.old)))
+        (streams (F.left files.new) (S.left script.new) (O.written out.new)
+            (faults (F.faults files.new) (S.faults script.new) (O.faults out.new)))
+        result }
+    ensures why { result ≡ Status.BadPlan →
+        SaysWhy (F.holds files.old name.now) (F.left files.new)
+        (E.written err.old) (E.written err.new) (E.faults err.old) (E.faults err.new) }
+    ensures silent { (result ≡ Status.BadPlan)
+        ⊎ IsSilent (E.written err.old) (E.written err.new) (E.faults err.old) (E.faults err.new) }
 {
-    let bytes = match read_file(alloc, files, name) {
-        Ok(bytes) => bytes,
-        Err(AllFault::Failed) => return Status::ReadFault,
-        Err(AllFault::Over) => return Status::TooLong,
-        Err(AllFault::NoMemory) => return Status::NoMemory,
-    };
-    let text = match read_plan(alloc, &bytes) {
-        Ok(text) => text,
-        Err(ReadPlanFault::Bad { line, why }) => {
-            say_why(err, line, &Reason::Text(why));
-            return Status::BadPlan;
+    match plan_in_file(alloc, files, name) {
+        Ok(plan) => answer_over(rt, alloc, plan, mode, form, workers, script, out),
+        Err(PlanFault::Refused { line, reason }) => {
+            say_why(err, line, &reason);
+            Status::BadPlan
         }
-        Err(ReadPlanFault::NoMemory) => return Status::NoMemory,
-    };
-    let plan = match check(alloc, &text.plan) {
-        Ok(plan) => plan,
-        Err(CheckFault::Bad { item, why }) => {
-            say_why(
-                err,
-                text.lines.as_slice()[item as usize],
-                &Reason::Edit(why),
-            );
-            return Status::BadPlan;
-        }
-        Err(CheckFault::NoMemory) => return Status::NoMemory,
-    };
-    match put_output(alloc, out, &plan) {
+        Err(PlanFault::Unread) => Status::ReadFault,
+        Err(PlanFault::NoMemory) => Status::NoMemory,
+        Err(PlanFault::TooLong) => Status::TooLong,
+    }
+}
+
+/// Prints the record of the trial plan of so many boxes.
+fn trial<O: Sink>(
+    rt: &(impl Threads + Sync),
+    alloc: Global,
+    boxes: u32,
+    form: Form,
+    workers: usize,
+    out: &mut O,
+) -> Status
+    requires out_below { O.faults out.old < 2 ^ 64 - 1 }
+    requires some { 1 ≤ boxes }
+    requires few { boxes ≤ MAX_TRIAL_BOXES }
+    ensures { (file script : Option (List ℕ)) (files scripts : ℕ) →
+        EndsTrial form boxes (streams file script (O.written out.old) (faults files scripts (O.faults out.old)))
+            (streams file script (O.written out.new) (faults files scripts (O.faults out.new)))
+        result }
+{
+    match put_trial_of(rt, alloc, out, form, workers, boxes) {
         Ok(()) => Status::Done,
-        Err(PrintFault::Write) => Status::WriteFault,
-        Err(PrintFault::NoMemory) => Status::NoMemory,
+        Err(ReportFault::Write) => Status::WriteFault,
+        Err(ReportFault::NoMemory) => Status::NoMemory,
     }
 }
 
 /// Does what the words ask for. On `err` it says why a plan is refused, and nothing else.
-fn answer<F: Files, O: Sink, E: Sink>(
+fn answer<F: Files, S: Source, O: Sink, E: Sink>(
+    rt: &(impl Threads + Sync),
     alloc: Global,
     words: &[String],
     files: &mut F,
+    script: &mut S,
     out: &mut O,
     err: &mut E,
 ) -> Status
     requires files_below { F.faults files.old < 2 ^ 64 - 1 }
+    requires script_below { S.faults script.old < 2 ^ 64 - 1 }
     requires out_below { O.faults out.old < 2 ^ 64 - 1 }
     requires err_below { E.faults err.old < 2 ^ 64 - 1 }
-    requires allowed { IfSome (file_in words.now) (λ name. IsTrue (F.allows files.old name)) }
-    ensures writes { Writes (known_file words.now (F.holds files.old)) (O.written out.old) (O.written out.new) result }
-    ensures takes { TakesPlan (known_file words.now (F.holds files.old)) (F.left files.old) (F.left files.new) result }
-    ensures why { result ≡ Status.BadPlan → SaysWhy (known_file words.now (F.holds files.old)) (E.written err.old) (E.written err.new) (E.faults err.old) (E.faults err.new) }
-    ensures silent { (result ≡ Status.BadPlan) ⊎ IsSilent (E.written err.old) (E.written err.new) (E.faults err.old) (E.faults err.new) }
-    ensures counts { (script : ℕ) → Counts (faults (F.faults files.old) script (O.faults out.old)) (faults (F.faults files.new) script (O.faults out.new)) result }
-    ensures bad_words { (result ≡ Status.BadWords) ↔ (file_in words.now ≡ None) }
+    requires allowed { IfSome (file_of (options_given words.now)) (λ name. IsTrue (F.allows files.old name)) }
+    ensures ends { Ends (options_given words.now) (F.holds files.old)
+        (streams (F.left files.old) (S.left script.old) (O.written out.old)
+            (faults (F.faults files.old) (S.faults script.old) (O.faults out.old)))
+        (streams (F.left files.new) (S.left script.new) (O.written out.new)
+            (faults (F.faults files.new) (S.faults script.new) (O.faults out.new)))
+        result }
+    ensures why { result ≡ Status.BadPlan →
+        SaysWhy (known_file (options_given words.now) (F.holds files.old)) (F.left files.new)
+        (E.written err.old) (E.written err.new) (E.faults err.old) (E.faults err.new) }
+    ensures silent { (result ≡ Status.BadPlan)
+        ⊎ IsSilent (E.written err.old) (E.written err.new) (E.faults err.old) (E.faults err.new) }
 {
-    match file_name(words) {
-        Some(name) => print_file(alloc, files, name, out, err),
-        None => Status::BadWords,
+    let Ok(texts) = texts_of(alloc, words) else {
+        return Status::NoMemory;
+    };
+    let Options { job, workers, form } = match options_in(alloc, &texts) {
+        Ok(Some(options)) => options,
+        Ok(None) => return Status::BadWords,
+        Err(_) => return Status::NoMemory,
+    };
+    match job {
+        Job::Analyse(mode, file) => {
+            analyse(rt, alloc, file.as_str(), mode, form, workers, files, script, out, err)
+        }
+        Job::Trial(boxes) => trial(rt, alloc, boxes, form, workers, out),
     }
 }
 
-/// Prints the edges of the plan in the file that the words `-f FILE` name, and says in one line on `err` why where it
-/// can't. The script isn't taken from.
+/// Answers the script line by line over the plan in the file that the words name, prints the tables of the mode over
+/// the plan that the script leaves, and says in one line on `err` why where it can't. More of the script is taken
+/// only once every line that was taken whole is answered. A trial takes nothing of the files and of the script.
 ///
-/// The first event in the order of work decides the status: words, file, plan, output. A fault of `err` changes none.
+/// The first event in the order of work decides the status: words, file, plan, the script's lines, tables. A fault of
+/// `err` changes none, nor does the number of workers.
 ///
-/// Cost: a test of openness for each grid point of the plan, and one of sight for each two open points; memory for the
-/// file's bytes, the plan and its grid points.
+/// Cost: of each line what its edit or its question costs, and of the tables what they cost; memory for the file's
+/// bytes, the plan, one line, and what the tables are made of.
 pub fn run<F: Files, S: Source, O: Sink, E: Sink, G: Gate>(
     rt: &(impl Threads + Sync),
     alloc: Global,
@@ -114,22 +208,37 @@ pub fn run<F: Files, S: Source, O: Sink, E: Sink, G: Gate>(
     requires script_below { S.faults script.old < 2 ^ 64 - 1 }
     requires out_below { O.faults out.old < 2 ^ 64 - 1 }
     requires err_below { E.faults err.old < 2 ^ 64 - 1 }
-    requires allowed { IfSome (file_in words.now) (λ name. IsTrue (F.allows files.old name)) }
+    requires allowed { IfSome (file_of (options_given words.now)) (λ name. IsTrue (F.allows files.old name)) }
 
-    // What each status says of the output, of the plan's file, of standard error, and of the faults.
-    ensures writes { Writes (known_file words.now (F.holds files.old)) (O.written out.old) (O.written out.new) result }
-    ensures takes { TakesPlan (known_file words.now (F.holds files.old)) (F.left files.old) (F.left files.new) result }
-    ensures says { Says (known_file words.now (F.holds files.old)) (E.written err.old) (E.written err.new) (E.faults err.old) (E.faults err.new) result }
-    ensures counts { Counts (faults (F.faults files.old) (S.faults script.old) (O.faults out.old)) (faults (F.faults files.new) (S.faults script.new) (O.faults out.new)) result }
+    // With 0 and 1 the whole output was written, and 1 tells that a reply of it is `refused`.
+    ensures output { HasOutput (options_given words.now) (F.holds files.old)
+        (streams (F.left files.old) (S.left script.old) (O.written out.old)
+            (faults (F.faults files.old) (S.faults script.old) (O.faults out.old)))
+        (streams (F.left files.new) (S.left script.new) (O.written out.new)
+            (faults (F.faults files.new) (S.faults script.new) (O.faults out.new)))
+        result }
 
-    // When the words are at fault, and when all is done.
-    ensures bad_words { (result ≡ Status.BadWords) ↔ (file_in words.now ≡ None) }
-    ensures complete { IfSome (known_file words.now (F.holds files.old)) (λ bytes. IsComplete bytes (faults (F.faults files.old) (S.faults script.old) (O.faults out.old)) (faults (F.faults files.new) (S.faults script.new) (O.faults out.new)) result) }
+    // By the options and the status: what was taken of the plan's file and of the script, what was written, what failed.
+    ensures ends { Ends (options_given words.now) (F.holds files.old)
+        (streams (F.left files.old) (S.left script.old) (O.written out.old)
+            (faults (F.faults files.old) (S.faults script.old) (O.faults out.old)))
+        (streams (F.left files.new) (S.left script.new) (O.written out.new)
+            (faults (F.faults files.new) (S.faults script.new) (O.faults out.new)))
+        result }
 
-    // The script stays as it is.
-    ensures script { S.left script.new ≡ S.left script.old }
+    // By the status: what was said on standard error.
+    ensures says { Says (known_file (options_given words.now) (F.holds files.old)) (F.left files.new)
+        (E.written err.old) (E.written err.new) (E.faults err.old) (E.faults err.new) result }
+
+    // Where nothing fails and the limits are kept, all is done or there is no memory.
+    ensures complete { IsComplete (options_given words.now) (F.holds files.old)
+        (streams (F.left files.old) (S.left script.old) (O.written out.old)
+            (faults (F.faults files.old) (S.faults script.old) (O.faults out.old)))
+        (streams (F.left files.new) (S.left script.new) (O.written out.new)
+            (faults (F.faults files.new) (S.faults script.new) (O.faults out.new)))
+        result }
 {
-    let status = answer(alloc, words, files, out, err);
+    let status = answer(rt, alloc, words, files, script, out, err);
     say(err, status);
     status
 }

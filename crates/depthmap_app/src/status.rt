@@ -6,21 +6,21 @@ ghost use Rattle.depthmap_app.specs.Statuses.{code_of};
 /// How a run ended.
 #[derive(Clone, Copy, Debug, PartialEq, Eq)]
 pub enum Status {
-    /// All was written.
+    /// The script was read to its end, no reply is `refused`, and all was written.
     Done,
-    /// The same, and a reply to a line of a script is `refused`. No run ends so as long as no script is read.
+    /// The same, and a reply is `refused`.
     DoneWithRefusals,
     /// The words ask for nothing that the program does.
     BadWords,
     /// The file holds no accepted plan.
     BadPlan,
-    /// The plan's file couldn't be read.
+    /// The plan's file or the script couldn't be read.
     ReadFault,
     /// The output couldn't be written.
     WriteFault,
     /// Out of memory.
     NoMemory,
-    /// The plan's file is longer than its limit.
+    /// The plan's file or the script is longer than its limit.
     TooLong,
 }
 

@@ -1,14 +1,17 @@
-//! The words of the command.
+//! The words of the command as texts.
 
-ghost use Rattle.std.specs.Prelude.{◌≡◌, option_map};
-ghost use Rattle.depthmap_app.specs.Words.{file_in};
+ghost use Rattle.std.specs.Prelude.{◌≡◌, IfOk, map, string_bytes};
 
-/// The name in the words `-f NAME`, or `None` where the words are others.
-pub fn file_name(words: &[String]) -> Option<&str>
-    ensures { option_map (λ name. name.now) result ≡ file_in words.now }
+use std::alloc::Global;
+use text_spec::NoMemory;
+
+/// The texts of the words, in order.
+pub fn texts_of<'a>(alloc: Global, words: &'a [String]) -> Result<Vec<&'a str>, NoMemory>
+    ensures { IfOk result (λ texts. map (λ text. text.now) texts.items ≡ map string_bytes words.now) }
 {
-    match words {
-        [flag, name] if flag.as_str() == "-f" => Some(name.as_str()),
-        _ => None,
+    let mut texts = Vec::new(alloc);
+    'words: for word in words {
+        texts.push(word.as_str())?;
     }
+    Ok(texts)
 }
