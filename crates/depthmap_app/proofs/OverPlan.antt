@@ -95,8 +95,11 @@ replied-in_part mode form plan first file later script left before after counts 
       within = part.within;
       written = elim part.written [
         | inl w ↦ inl (subst (WritesPrefix before after) (bytes-are form plan (whole_lines_of part.bytes)) w)
-        | inr w ↦ inr (w.0, replies-begun mode form plan before after (lines_of part.bytes)
-            (subst (WritesPrefix before after) (bytes-are form plan (lines_of part.bytes)) w.1))
+        | inr w ↦ inr (
+          w.0,
+          replies-begun mode form plan before after (lines_of part.bytes)
+              (subst (WritesPrefix before after) (bytes-are form plan (lines_of part.bytes)) w.1),
+        )
       ];
     }
 

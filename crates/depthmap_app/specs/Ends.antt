@@ -164,7 +164,7 @@ IsDone status = (status ≡ Done) ⊎ ((status ≡ DoneWithRefusals) ⊎ (status
 abbrev pub IsCompleteAnalysis : Option (List ℕ) → Streams → Streams → Status → Type 0
 IsCompleteAnalysis known old new status =
     IfSome known (λ bytes. IfSome old.script (λ text.
-        (plan : Plan) → HoldsPlan bytes plan → length text ≤ MAX_SCRIPT_BYTES → new.faults ≡ old.faults → IsDone status))
+    (plan : Plan) → HoldsPlan bytes plan → length text ≤ MAX_SCRIPT_BYTES → new.faults ≡ old.faults → IsDone status))
 
 -- by the job
 abbrev pub IsCompleteJob : Job → (List ℕ → Option (List ℕ)) → Streams → Streams → Status → Type 0

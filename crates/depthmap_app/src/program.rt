@@ -50,7 +50,7 @@ fn answer_over<S: Source, O: Sink>(
     requires out_below { O.faults out.old < 2 ^ 64 - 1 }
     ensures { (before after : Option (List ℕ)) (files : ℕ) →
         EndsOverPlan mode form plan (streams before (S.left script.old) (O.written out.old) (faults files (S.faults script.old) (O.faults out.old)))
-            (streams after (S.left script.new) (O.written out.new) (faults files (S.faults script.new) (O.faults out.new)))
+        (streams after (S.left script.new) (O.written out.new) (faults files (S.faults script.new) (O.faults out.new)))
         result }
 {
     let Ok(session) = Session::begin(alloc, plan) else {
@@ -96,9 +96,9 @@ fn analyse<F: Files, S: Source, O: Sink, E: Sink>(
     requires allowed { IsTrue (F.allows files.old name.now) }
     ensures ends { EndsAnalysis mode form (F.holds files.old name.now)
         (streams (F.left files.old) (S.left script.old) (O.written out.old)
-            (faults (F.faults files.old) (S.faults script.old) (O.faults out.old)))
+        (faults (F.faults files.old) (S.faults script.old) (O.faults out.old)))
         (streams (F.left files.new) (S.left script.new) (O.written out.new)
-            (faults (F.faults files.new) (S.faults script.new) (O.faults out.new)))
+        (faults (F.faults files.new) (S.faults script.new) (O.faults out.new)))
         result }
     ensures why { result ≡ Status.BadPlan →
         SaysWhy (F.holds files.old name.now) (F.left files.new)
@@ -132,7 +132,7 @@ fn trial<O: Sink>(
     requires few { boxes ≤ MAX_TRIAL_BOXES }
     ensures { (file script : Option (List ℕ)) (files scripts : ℕ) →
         EndsTrial form boxes (streams file script (O.written out.old) (faults files scripts (O.faults out.old)))
-            (streams file script (O.written out.new) (faults files scripts (O.faults out.new)))
+        (streams file script (O.written out.new) (faults files scripts (O.faults out.new)))
         result }
 {
     match put_trial_of(rt, alloc, out, form, workers, boxes) {
@@ -159,9 +159,9 @@ fn answer<F: Files, S: Source, O: Sink, E: Sink>(
     requires allowed { IfSome (file_of (options_given words.now)) (λ name. IsTrue (F.allows files.old name)) }
     ensures ends { Ends (options_given words.now) (F.holds files.old)
         (streams (F.left files.old) (S.left script.old) (O.written out.old)
-            (faults (F.faults files.old) (S.faults script.old) (O.faults out.old)))
+        (faults (F.faults files.old) (S.faults script.old) (O.faults out.old)))
         (streams (F.left files.new) (S.left script.new) (O.written out.new)
-            (faults (F.faults files.new) (S.faults script.new) (O.faults out.new)))
+        (faults (F.faults files.new) (S.faults script.new) (O.faults out.new)))
         result }
     ensures why { result ≡ Status.BadPlan →
         SaysWhy (known_file (options_given words.now) (F.holds files.old)) (F.left files.new)
@@ -179,7 +179,18 @@ fn answer<F: Files, S: Source, O: Sink, E: Sink>(
     };
     match job {
         Job::Analyse(mode, file) => {
-            analyse(rt, alloc, file.as_str(), mode, form, workers, files, script, out, err)
+            analyse(
+                rt,
+                alloc,
+                file.as_str(),
+                mode,
+                form,
+                workers,
+                files,
+                script,
+                out,
+                err,
+            )
         }
         Job::Trial(boxes) => trial(rt, alloc, boxes, form, workers, out),
     }
@@ -213,17 +224,17 @@ pub fn run<F: Files, S: Source, O: Sink, E: Sink, G: Gate>(
     // With 0 and 1 the whole output was written, and 1 tells that a reply of it is `refused`.
     ensures output { HasOutput (options_given words.now) (F.holds files.old)
         (streams (F.left files.old) (S.left script.old) (O.written out.old)
-            (faults (F.faults files.old) (S.faults script.old) (O.faults out.old)))
+        (faults (F.faults files.old) (S.faults script.old) (O.faults out.old)))
         (streams (F.left files.new) (S.left script.new) (O.written out.new)
-            (faults (F.faults files.new) (S.faults script.new) (O.faults out.new)))
+        (faults (F.faults files.new) (S.faults script.new) (O.faults out.new)))
         result }
 
     // By the options and the status: what was taken of the plan's file and of the script, what was written, what failed.
     ensures ends { Ends (options_given words.now) (F.holds files.old)
         (streams (F.left files.old) (S.left script.old) (O.written out.old)
-            (faults (F.faults files.old) (S.faults script.old) (O.faults out.old)))
+        (faults (F.faults files.old) (S.faults script.old) (O.faults out.old)))
         (streams (F.left files.new) (S.left script.new) (O.written out.new)
-            (faults (F.faults files.new) (S.faults script.new) (O.faults out.new)))
+        (faults (F.faults files.new) (S.faults script.new) (O.faults out.new)))
         result }
 
     // By the status: what was said on standard error.
@@ -233,9 +244,9 @@ pub fn run<F: Files, S: Source, O: Sink, E: Sink, G: Gate>(
     // Where nothing fails and the limits are kept, all is done or there is no memory.
     ensures complete { IsComplete (options_given words.now) (F.holds files.old)
         (streams (F.left files.old) (S.left script.old) (O.written out.old)
-            (faults (F.faults files.old) (S.faults script.old) (O.faults out.old)))
+        (faults (F.faults files.old) (S.faults script.old) (O.faults out.old)))
         (streams (F.left files.new) (S.left script.new) (O.written out.new)
-            (faults (F.faults files.new) (S.faults script.new) (O.faults out.new)))
+        (faults (F.faults files.new) (S.faults script.new) (O.faults out.new)))
         result }
 {
     let status = answer(rt, alloc, words, files, script, out, err);

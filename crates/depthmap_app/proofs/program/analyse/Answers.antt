@@ -19,11 +19,11 @@ returns-in-Ok-clause-ends g c =
       c.in-Ok.plan,
       held.takes,
       subst (λ f. EndsOverPlan c.args.mode c.args.form c.in-Ok.plan
-      (streams (left old_files) (g.S.Source.left c.args.script.now) (g.O.Sink.written c.args.out.now)
-      (faults (count old_files) (g.S.Source.faults c.args.script.now) (g.O.Sink.faults c.args.out.now)))
-      (streams (left new_files) (g.S.Source.left c.answer_over.new.script) (g.O.Sink.written c.answer_over.new.out)
-      (faults f (g.S.Source.faults c.answer_over.new.script) (g.O.Sink.faults c.answer_over.new.out))) c.answer_over.result)
-      (sym stays) over,
+          (streams (left old_files) (g.S.Source.left c.args.script.now) (g.O.Sink.written c.args.out.now)
+          (faults (count old_files) (g.S.Source.faults c.args.script.now) (g.O.Sink.faults c.args.out.now)))
+          (streams (left new_files) (g.S.Source.left c.answer_over.new.script) (g.O.Sink.written c.answer_over.new.out)
+          (faults f (g.S.Source.faults c.answer_over.new.script) (g.O.Sink.faults c.answer_over.new.out))) c.answer_over.result)
+          (sym stays) over,
     )
 
 pub returns-in-Ok-clause-why : goal.returns-in-Ok-clause-why

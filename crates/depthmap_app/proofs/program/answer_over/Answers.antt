@@ -16,16 +16,14 @@ returns-in-Failed g c = λ before after files.
 
 pub returns-in-Unwritten : goal.returns-in-Unwritten
 returns-in-Unwritten g c = λ before after files.
-    let n = c.in-Unwritten.ensures in
-    (
+    let n = c.in-Unwritten.ensures in (
       replied-in_part c.args.mode c.args.form c.args.plan _ before after _ _ _ _ _ _ (ap (λ s. desk s.plan c.args.form) c.in-Ok.ensures) n.leaves,
       (refl, n.counts.0, omega (arith, n.counts.1, c.requires.out_below)),
     )
 
 pub returns-in-NoMemory : goal.returns-in-NoMemory
 returns-in-NoMemory g c = λ before after files.
-    let n = c.in-NoMemory.ensures in
-    (
+    let n = c.in-NoMemory.ensures in (
       replied-in_part c.args.mode c.args.form c.args.plan _ before after _ _ _ _ _ _ (ap (λ s. desk s.plan c.args.form) c.in-Ok.ensures) n.leaves,
       same_counts files _ _ _ _ n.counts.0 n.counts.1,
     )
@@ -52,8 +50,7 @@ pub returns-in-Err-Write : goal.returns-in-Err-Write
 returns-in-Err-Write g c = λ before after files.
     let n = c.in-All.ensures in
     let m = c.in-Err-Write in
-    let rose = rw (m.field-0-is) at m.ensures.faults in
-    (
+    let rose = rw (m.field-0-is) at m.ensures.faults in (
       begun c.args.mode c.args.form c.args.plan _ _ before after _ _ _ _ _ _ _ c.in-All.refused
           (ap (λ s. desk s.plan c.args.form) c.in-Ok.ensures) n.leaves m.ensures.prefix,
       (refl, n.counts.0, omega (arith, rose, n.counts.1, c.requires.out_below)),
@@ -63,8 +60,7 @@ pub returns : goal.returns
 returns g c = λ before after files.
     let n = c.in-All.ensures in
     let m = c.in-Err-NoMemory in
-    let stays = rw (m.field-0-is) at m.ensures.faults in
-    (
+    let stays = rw (m.field-0-is) at m.ensures.faults in (
       begun c.args.mode c.args.form c.args.plan _ _ before after _ _ _ _ _ _ _ c.in-All.refused
           (ap (λ s. desk s.plan c.args.form) c.in-Ok.ensures) n.leaves m.ensures.prefix,
       same_counts files _ _ _ _ n.counts.0 (stays ∙ n.counts.1),
