@@ -24,3 +24,6 @@ mod words;
 pub use host::{NO_WORDS, exit, start};
 pub use program::run;
 pub use status::Status;
+
+#[cfg(test)]
+mod tests;
