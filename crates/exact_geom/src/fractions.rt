@@ -59,13 +59,30 @@ impl Eq for Frac {
     ghost laws = { Prim.search (comparing, rules) };
 }
 
-/// The greatest common divisor, by remainders: the number of steps grows with the number of digits.
+/// The greatest common divisor of two words, by remainders: the number of steps grows with the number of digits.
+fn divisor_of_words(a: u64, b: u64) -> u64
+    ensures { result ≡ fractions.common_divisor a b }
+{
+    let mut greater = a;
+    let mut lesser = b;
+    while lesser != 0 {
+        let rest = greater % lesser;
+        greater = lesser;
+        lesser = rest;
+    }
+    greater
+}
+
+/// The greatest common divisor. As soon as both numbers fit into words, a step is one instruction and no call.
 fn common_divisor(a: u128, b: u128) -> u128
     ensures { result ≡ fractions.common_divisor a b }
 {
     let mut greater = a;
     let mut lesser = b;
     while lesser != 0 {
+        if let (Ok(greater), Ok(lesser)) = (u64::try_from(greater), u64::try_from(lesser)) {
+            return u128::from(divisor_of_words(greater, lesser));
+        }
         let rest = greater % lesser;
         greater = lesser;
         lesser = rest;
