@@ -24,6 +24,3 @@ mod words;
 pub use host::{NO_WORDS, exit, start};
 pub use program::run;
 pub use status::Status;
-
-#[cfg(test)]
-mod tests;

@@ -22,8 +22,6 @@ mod questions;
 mod replies;
 mod table;
 mod tables;
-#[cfg(test)]
-mod tests;
 mod trials;
 mod turns_table;
 

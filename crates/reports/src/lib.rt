@@ -45,8 +45,6 @@ mod replies;
 mod row_text;
 mod segments;
 mod table;
-#[cfg(test)]
-mod tests;
 mod turns;
 mod words;
 

@@ -2,7 +2,6 @@
 
 ghost use Rattle.plane_spec.specs.Vectors.{InRange};
 
-use super::*;
 use axial_lines::AxialLine;
 use dm_io::MemSink;
 use exact_geom::{Frac, RPoint, in_range};
@@ -12,6 +11,7 @@ use plan_check::{Plan, PlanData, check};
 use plan_spec::{GridSpec, Item, Items, Limit, Points, Why};
 use plane_spec::Point;
 use report_spec::Reason;
+use reports::*;
 use segment_core::{neighbours, pieces};
 use sight_core::scene_of;
 use std::alloc::Global;

@@ -1,9 +1,9 @@
 //! The replies to a script over a small plan, the tables of each mode, and a trial. What is expected is what an
 //! independent program prints.
 
-use crate::{answer_line, put_mode, put_trial_of};
 use dm_io::MemSink;
 use options_spec::{Form, Mode};
+use plan_answers::{answer_line, put_mode, put_trial_of};
 use plan_check::check;
 use plan_edit::Session;
 use plan_text::read_plan;
