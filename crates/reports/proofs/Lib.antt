@@ -5,3 +5,4 @@ mod JoinedFields
 mod PlainFields
 mod RouteNames
 mod RowByRow
+mod InParts

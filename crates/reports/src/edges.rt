@@ -3,6 +3,7 @@
 ghost use Rattle.std.specs.Prelude.{◌≡◌, OnErr, OnOk};
 ghost use Rattle.dm_io.specs.Streams.{WritesPrefix, appended_to};
 ghost use Rattle.graph_spec.specs.Graphs.{edges_of};
+ghost use Rattle.options_spec.specs.declared.options.Form.TheVariants.{Csv, Text};
 ghost use Rattle.vga_grid.specs.Rows.{graph_of};
 ghost use Rattle.report_spec.specs.Records.{records_bytes};
 ghost use Rattle.report_spec.specs.Tables.{edge_row, edges_table};
@@ -10,8 +11,10 @@ ghost use Rattle.reports.specs.Faults.{Counts};
 
 use crate::fault::ReportFault;
 use crate::record::Record;
-use crate::table::{Rows, put_table};
+use crate::replies::put_record;
+use crate::table::{Rows, make_end, make_head, put_table};
 use dm_io::Sink;
+use edge_text::EdgeText;
 use options_spec::Form;
 use std::alloc::Global;
 use text_spec::NoMemory;
@@ -51,10 +54,46 @@ impl<'a> Rows for EdgeRows<'a> {
     }
 }
 
+/// Prints the table in text form, where a row is two copies of digits that are made once.
+fn put_edges_as_text<O: Sink>(
+    alloc: Global,
+    out: &mut O,
+    graph: &BitGraph,
+) -> Result<(), ReportFault>
+    ensures all { OnOk result (O.written out.new ≡ appended_to (O.written out.old) (records_bytes Text (edges_table (edges_of (graph_of graph.now))))) }
+    ensures prefix { OnErr result (WritesPrefix (O.written out.old) (O.written out.new) (records_bytes Text (edges_table (edges_of (graph_of graph.now))))) }
+    ensures faults { Counts result (O.faults out.old) (O.faults out.new) }
+{
+    let mut rows = EdgeText::new(alloc, graph.len())?;
+    let mut row = Record::new(alloc);
+    make_head(&mut row, b"edges")?;
+    put_record(alloc, out, Form::Text, &row)?;
+    let count = rows.put_rows(out, graph)?;
+    make_end(&mut row, count)?;
+    put_record(alloc, out, Form::Text, &row)
+}
+
+/// Prints the table in csv form.
+fn put_edges_as_csv<O: Sink>(
+    alloc: Global,
+    out: &mut O,
+    graph: &BitGraph,
+) -> Result<(), ReportFault>
+    ensures all { OnOk result (O.written out.new ≡ appended_to (O.written out.old) (records_bytes Csv (edges_table (edges_of (graph_of graph.now))))) }
+    ensures prefix { OnErr result (WritesPrefix (O.written out.old) (O.written out.new) (records_bytes Csv (edges_table (edges_of (graph_of graph.now))))) }
+    ensures faults { Counts result (O.faults out.old) (O.faults out.new) }
+{
+    let _count = graph.edge_count();
+    let mut rows = EdgeRows {
+        edges: graph.edges(),
+    };
+    put_table(alloc, out, Form::Csv, b"edges", &mut rows)
+}
+
 /// Prints the table of the edges of a graph, each once, its smaller node first, in order.
 ///
 /// Cost: two passes over the words of the graph and one over its edges, and a call of the sink for each 64 KiB; memory
-/// for one row, and in csv form for some thousand records.
+/// in text form for the digits of each node, and in csv form for some thousand records.
 pub fn put_edges<O: Sink>(
     alloc: Global,
     out: &mut O,
@@ -65,9 +104,8 @@ pub fn put_edges<O: Sink>(
     ensures prefix { OnErr result (WritesPrefix (O.written out.old) (O.written out.new) (records_bytes form (edges_table (edges_of (graph_of graph.now))))) }
     ensures faults { Counts result (O.faults out.old) (O.faults out.new) }
 {
-    let _count = graph.edge_count();
-    let mut rows = EdgeRows {
-        edges: graph.edges(),
-    };
-    put_table(alloc, out, form, b"edges", &mut rows)
+    match form {
+        Form::Text => put_edges_as_text(alloc, out, graph),
+        Form::Csv => put_edges_as_csv(alloc, out, graph),
+    }
 }

@@ -46,7 +46,7 @@ fn put_as_csv<O: Sink>(alloc: Global, out: &mut O, row: &Record) -> Result<(), R
 }
 
 /// Prints one record.
-fn put_record<O: Sink>(
+pub fn put_record<O: Sink>(
     alloc: Global,
     out: &mut O,
     form: Form,

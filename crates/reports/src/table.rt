@@ -27,7 +27,7 @@ pub trait Rows {
 }
 
 /// The record that begins a table of a kind.
-fn make_head(row: &mut Record, kind: &[u8]) -> Result<(), NoMemory>
+pub fn make_head(row: &mut Record, kind: &[u8]) -> Result<(), NoMemory>
     requires { is_plain kind.now ≡ true }
     ensures { OnOk result (row.new ≡ head kind.now) }
 {
@@ -37,7 +37,7 @@ fn make_head(row: &mut Record, kind: &[u8]) -> Result<(), NoMemory>
 }
 
 /// The record that ends a table of so many rows.
-fn make_end(row: &mut Record, count: u64) -> Result<(), NoMemory>
+pub fn make_end(row: &mut Record, count: u64) -> Result<(), NoMemory>
     ensures { OnOk result (row.new ≡ end count) }
 {
     row.clear();
