@@ -2,4 +2,5 @@ pub mod Sorting
 pub mod Lists
 pub mod Steps
 pub mod Sectors
+pub mod Shown
 pub mod Rounded

@@ -1,22 +1,17 @@
 -- Runs sector by sector.
-use Rattle.std.proofs.Common.{◌≡◌, ◌∙◌, ℕ, ◌+◌, ◌-◌, ◌<◌, ◌≤◌, Bool, true, false, List, [], ◌∷◌, ◌++◌, map, take, length, get_or, set, Option, Some, None, refl, sym, ap, subst, arith, min}
-use Rattle.std.specs.Prelude.{int_le, pos}
-use Rattle.std.specs.List.{zip}
-use Rattle.std.proofs.lemmas.Int.{ints}
+use Rattle.std.proofs.Common.{◌≡◌, ◌∙◌, ℕ, ◌+◌, ◌-◌, ◌<◌, ◌≤◌, List, [], ◌∷◌, ◌++◌, map, take, length, get_or, set}
+use Rattle.std.proofs.Common.{Option, Some, None, refl, sym, ap, subst, arith}
 use Rattle.std.proofs.lemmas.List.{take_more, take_all, get_or-map, length-map}
-use Rattle.std.proofs.lemmas.Slice.Zip.{length-zip, get_or-zip}
 use Rattle.plane_spec.specs.declared.Point.{Point}
-use Rattle.plane_spec.specs.Vectors.{cross_of, turns_left}
 use Rattle.sight_spec.specs.Scene.{Scene}
-use Rattle.sight_spec.specs.Stops.{RayHit, ray_hit}
-use Rattle.sight_spec.specs.Isovist.{Sector, Run, run, wall_by, wall_between, sector_in, sector_by, sectors_by, sectors_of, gaps_of, corner_directions, runs_of}
+use Rattle.sight_spec.specs.Isovist.{Sector, Run, run, sector_in, sectors_of, gaps_of, corner_directions, runs_of}
 use Rattle.sight_spec.proofs.Runs.{ends_with, reaching_to, with_run, with_sector, runs_push}
-use Rattle.list_laws.proofs.Elements.{map_twice}
+use Rattle.view_laws.specs.declared.view.View.{View}
 use Rattle.isovist_core.specs.declared.heading.Heading.{Heading}
-use Rattle.isovist_core.specs.declared.ray.Ray.{Ray}
 use Rattle.isovist_core.specs.declared.gap.Gap.{Gap}
 use Rattle.isovist_core.specs.declared.sighted_run.SightedRun.{SightedRun}
-use Rattle.isovist_core.specs.Gaps.{pair_of, look_of, way_of}
+use Rattle.isovist_core.specs.Gaps.{pair_of}
+use Rattle.isovist_core.specs.Shown.{sector_shown, wall_shown}
 use Rattle.isovist_core.specs.Sightings.{run_of, is_wall, put_sector}
 
 -- the wall of the last sector, if there is one and it has one
@@ -60,58 +55,10 @@ pub last_more : (sectors : List Sector) (k : ℕ) (d : Sector) → k < length se
     → last_wall (take (k + 1) sectors) ≡ (get_or sectors k d).wall
 last_more sectors k d h = ap last_wall (take_more sectors k d h) ∙ last_of_more (take k sectors) (get_or sectors k d)
 
--- ---- the sectors of gaps and hits
+-- ---- the sectors that a view shows
 
-abbrev pub sectors_in : List Gap → List RayHit → List Sector
-sectors_in gaps hits = sectors_by (map pair_of gaps) hits
-
-pub sectors_are : (gaps : List (Point × Point)) (hits : List RayHit) → sectors_by gaps hits ≡ map sector_by (zip gaps hits)
-unfolding sectors_by
-sectors_are gaps hits = refl
-
-pub length_sectors : (gaps : List Gap) (hits : List RayHit) → length hits ≡ length gaps
-    → length (sectors_in gaps hits) ≡ length gaps
-length_sectors gaps hits same =
-    ap length (sectors_are (map pair_of gaps) hits) ∙ length-map (zip (map pair_of gaps) hits) sector_by
-    ∙ length-zip (map pair_of gaps) hits ∙ ap (λ t. min t (length hits)) (length-map gaps pair_of)
-    ∙ ap (min (length gaps)) same ∙ min_itself (length gaps)
-  where
-    min_itself : (n : ℕ) → min n n ≡ n
-    min_itself n = omega arith
-
--- the sector at a place
-pub sector_at : (gaps : List Gap) (hits : List RayHit) (k : ℕ) (s : Sector) (g : Gap) (h : RayHit)
-    → length hits ≡ length gaps → k < length gaps
-    → get_or (sectors_in gaps hits) k s ≡ sector_by (pair_of (get_or gaps k g), get_or hits k h)
-sector_at gaps hits k s g h same below =
-    ap (λ t. get_or t k s) (sectors_are (map pair_of gaps) hits)
-    ∙ get_or-map sector_by (zip (map pair_of gaps) hits) k (pair_of g, h) s
-    (rw (length-zip (map pair_of gaps) hits, length-map gaps pair_of) (omega arith))
-    ∙ ap sector_by
-    (get_or-zip (map pair_of gaps) hits k (pair_of g, h) (rw (length-map gaps pair_of) below) (omega arith)
-    ∙ ap (λ t. (t, get_or hits k h)) (get_or-map pair_of gaps k g (pair_of g) below))
-
--- ---- what the rays into gaps meet
-
-look_shows : (scene : Scene) (p : Point) (gap : Point × Point)
-    → sector_by (gap, ray_hit scene p (look_of gap)) ≡ sector_in scene p gap
-unfolding wall_between
-look_shows scene p gap = by (turns_left gap.0 gap.1) refl
-  where
-    half : turns_left gap.0 gap.1 ≡ false → int_le (cross_of gap.0 gap.1) (pos 0) ≡ true
-    half h = grind (arith, ints)
-
-    by : (t : Bool) → turns_left gap.0 gap.1 ≡ t
-        → sector_by (gap, ray_hit scene p (look_of gap)) ≡ sector_in scene p gap
-    by true e = rw e refl
-    by false e = rw (e, half e) refl
-
--- rays into all gaps give the sectors
-pub rays_show : (scene : Scene) (p : Point) (gaps : List (Point × Point))
-    → sectors_by gaps (map (ray_hit scene p) (map look_of gaps)) ≡ map (sector_in scene p) gaps
-unfolding sectors_by
-rays_show scene p [] = refl
-rays_show scene p (gap ∷ gaps) = rw (look_shows scene p gap) (ap (λ r. sector_in scene p gap ∷ r) (rays_show scene p gaps))
+abbrev pub sectors_in : View → List Gap → List Sector
+sectors_in view gaps = map (sector_shown view) gaps
 
 -- ---- the last run reaches on
 
@@ -141,56 +88,36 @@ pub no_runs : runs_of [] ≡ []
 unfolding runs_of
 no_runs = refl
 
-module _ (gaps : List Gap) (hits : List RayHit) (same : length hits ≡ length gaps) (k : ℕ) (below : k < length gaps)
-    (g : Gap) (h : RayHit) (g_is : g ≡ get_or gaps k g) (h_is : h ≡ get_or hits k h) where
+module _ (view : View) (gaps : List Gap) (k : ℕ) (below : k < length gaps) (g : Gap) (g_is : g ≡ get_or gaps k g) where
   abbrev here : Sector
-  here = sector_by (pair_of g, h)
+  here = sector_shown view g
 
-  sector_is : get_or (sectors_in gaps hits) k here ≡ here
-  sector_is =
-      sector_at gaps hits k here g h same below
-      ∙ ap (λ (t : Gap). sector_by (pair_of t, get_or hits k h)) (sym g_is)
-      ∙ ap (λ t. sector_by (pair_of g, t)) (sym h_is)
+  sector_is : get_or (sectors_in view gaps) k here ≡ here
+  sector_is = get_or-map (sector_shown view) gaps k g here below ∙ ap (sector_shown view) (sym g_is)
 
-  in_sectors : k < length (sectors_in gaps hits)
-  in_sectors = rw (length_sectors gaps hits same) below
+  in_sectors : k < length (sectors_in view gaps)
+  in_sectors = rw (length-map gaps (sector_shown view)) below
 
-  pub runs_step : runs_of (take (k + 1) (sectors_in gaps hits))
-      ≡ put_sector (last_wall (take k (sectors_in gaps hits))) (pair_of g) (wall_by g.from.step g.to.step h)
-      (runs_of (take k (sectors_in gaps hits)))
+  pub runs_step : runs_of (take (k + 1) (sectors_in view gaps))
+      ≡ put_sector (last_wall (take k (sectors_in view gaps))) (pair_of g) (wall_shown view (pair_of g))
+      (runs_of (take k (sectors_in view gaps)))
   runs_step =
-      runs_more (sectors_in gaps hits) k here in_sectors
-      ∙ ap (λ (s : Sector). put_sector (last_wall (take k (sectors_in gaps hits))) (s.from, s.to) s.wall
-      (runs_of (take k (sectors_in gaps hits)))) sector_is
+      runs_more (sectors_in view gaps) k here in_sectors
+      ∙ ap (λ (s : Sector). put_sector (last_wall (take k (sectors_in view gaps))) (s.from, s.to) s.wall
+      (runs_of (take k (sectors_in view gaps)))) sector_is
 
-  pub last_step : last_wall (take (k + 1) (sectors_in gaps hits)) ≡ wall_by g.from.step g.to.step h
-  last_step = last_more (sectors_in gaps hits) k here in_sectors ∙ ap (λ (s : Sector). s.wall) sector_is
+  pub last_step : last_wall (take (k + 1) (sectors_in view gaps)) ≡ wall_shown view (pair_of g)
+  last_step = last_more (sectors_in view gaps) k here in_sectors ∙ ap (λ (s : Sector). s.wall) sector_is
 
-pub all_sectors : (gaps : List Gap) (hits : List RayHit) (k : ℕ) → length hits ≡ length gaps → length gaps ≤ k
-    → take k (sectors_in gaps hits) ≡ sectors_in gaps hits
-all_sectors gaps hits k same last =
-    take_all k (sectors_in gaps hits) (rw (length_sectors gaps hits same) last)
+pub all_sectors : (view : View) (gaps : List Gap) (k : ℕ) → length gaps ≤ k
+    → take k (sectors_in view gaps) ≡ sectors_in view gaps
+all_sectors view gaps k last = take_all k (sectors_in view gaps) (rw (length-map gaps (sector_shown view)) last)
 
 -- ---- all together
 
--- what the rays into the gaps meet
-pub hits_are : (scene : Scene) (p : Point) (gaps : List Gap) (rays : List Ray) (hits : List RayHit)
-    → map way_of rays ≡ map (λ gap. look_of (pair_of gap)) gaps → hits ≡ map (ray_hit scene p) (map way_of rays)
-    → hits ≡ map (ray_hit scene p) (map look_of (map pair_of gaps))
-hits_are scene p gaps rays hits looks met =
-    met ∙ ap (map (ray_hit scene p)) (looks ∙ sym (map_twice look_of pair_of gaps))
-
-pub as_many : (scene : Scene) (p : Point) (gaps : List Gap) (hits : List RayHit)
-    → hits ≡ map (ray_hit scene p) (map look_of (map pair_of gaps)) → length hits ≡ length gaps
-as_many scene p gaps hits is =
-    ap length is ∙ length-map (map look_of (map pair_of gaps)) (ray_hit scene p)
-    ∙ length-map (map pair_of gaps) look_of ∙ length-map gaps pair_of
-
-pub runs_are : (scene : Scene) (p : Point) (directions : List Point) (gaps : List Gap) (hits : List RayHit)
+pub runs_are : (scene : Scene) (p : Point) (view : View) (directions : List Point) (gaps : List Gap)
     → directions ≡ corner_directions scene p → map pair_of gaps ≡ gaps_of directions
-    → hits ≡ map (ray_hit scene p) (map look_of (map pair_of gaps))
-    → runs_of (sectors_by (map pair_of gaps) hits) ≡ runs_of (sectors_of scene p)
-runs_are scene p directions gaps hits ds gs hs =
-    ap (λ t. runs_of (sectors_by (map pair_of gaps) t)) hs
-    ∙ ap runs_of (rays_show scene p (map pair_of gaps))
-    ∙ ap (λ t. runs_of (map (sector_in scene p) t)) (gs ∙ ap gaps_of ds)
+    → sectors_in view gaps ≡ map (sector_in scene p) (map pair_of gaps)
+    → runs_of (sectors_in view gaps) ≡ runs_of (sectors_of scene p)
+runs_are scene p view directions gaps ds gs shown =
+    ap runs_of shown ∙ ap (λ t. runs_of (map (sector_in scene p) t)) (gs ∙ ap gaps_of ds)

@@ -1,10 +1,10 @@
 -- The directions of corners are what a stable sort of the vectors to corners leaves, without repeats.
-use Rattle.std.proofs.Common.{◌≡◌, ◌∙◌, List, map, filter, get_or, refl, sym, ap}
+use Rattle.std.proofs.Common.{◌≡◌, ◌∙◌, ℕ, arith, List, map, filter, get_or, refl, sym, ap}
 use Rattle.std.specs.List.{All, dedup}
 use Rattle.std.specs.List.Sorted.{ties, IsSortedBy, IsStableBy}
 use Rattle.std.specs.Cmp.{IsStrictWeakOrder}
-use Rattle.std.specs.Ordering.{is_lt, is_eq}
-use Rattle.std.specs.Prelude.{Bool, true, false, not, ◌&&◌, if◌then◌else◌}
+use Rattle.std.specs.Ordering.{is_lt, is_eq, nat_cmp}
+use Rattle.std.specs.Prelude.{Bool, true, false, not, ◌&&◌, ◌==◌, nat_lt, if◌then◌else◌}
 use Rattle.std.specs.declared.cmp.Ordering.{Ordering}
 use Rattle.std.specs.declared.cmp.Ordering.TheVariants.{Less, Equal, Greater}
 use Rattle.std.proofs.lemmas.List.Elements.{All-map}
@@ -15,12 +15,16 @@ use Rattle.plane_spec.specs.Lists.{distinct_by, in_order}
 use Rattle.plane_spec.specs.Vectors.{turns_before, turn_order_of, IsDirected}
 use Rattle.exact_geom.proofs.TurnLaws.{directions_ranked, is_less}
 use Rattle.sight_spec.specs.Scene.{Scene}
+use Rattle.front_laws.proofs.Tests.{by_cases, own_number, tested_number_less, tested_number_not_less, tested_same_number}
+use Rattle.turn_laws.specs.Places.{place_of}
+use Rattle.turn_laws.proofs.Places.{place_tells}
 use Rattle.sight_spec.specs.Isovist.{corner_directions, same_way}
 use Rattle.isovist_laws.specs.Vectors.{vectors_to_corners}
 use Rattle.isovist_laws.proofs.Firsts.{level_from_sorted, level_map, dedup_map, sorted_firsts}
 use Rattle.isovist_laws.proofs.Directions.{directions_order, corner_directions_are}
 use Rattle.isovist_core.specs.declared.heading.Heading.{Heading}
 use Rattle.isovist_core.specs.Steps.{IsStep}
+use Rattle.isovist_core.proofs.Steps.{step_is_direction}
 use Rattle.isovist_core.specs.Headings.{step_of, comes_before, tied}
 
 -- the order of directions as a sort asks for it
@@ -30,6 +34,37 @@ headings_order = directions_ranked step_of (λ h. h.directed)
 -- an answer says whether the first comes before the second
 pub answers : (a b : Heading) (r : Ordering) → r ≡ turn_order_of a.step b.step → is_lt r ≡ comes_before a b
 answers a b r h = ap is_lt h ∙ is_less a.step b.step
+
+-- places are in the order of directions
+pub place_order : (a b : Heading) → nat_cmp a.place b.place ≡ turn_order_of a.step b.step
+unfolding turn_order_of
+place_order a b =
+    let a_in = step_is_direction a.step a.small in
+    let b_in = step_is_direction b.step b.small in
+    rw (a.placed, b.placed, place_tells a.step b.step a_in a.directed b_in b.directed,
+        place_tells b.step a.step b_in b.directed a_in a.directed)
+    (same_order (place_of a.step) (place_of b.step) (nat_lt (place_of a.step) (place_of b.step))
+    (nat_lt (place_of b.step) (place_of a.step)) refl refl)
+  where
+    apart : (m n : ℕ) → nat_lt n m ≡ true → (m == n) ≡ false
+    apart m n h =
+        by_cases (m == n)
+        (λ yes. let same = tested_same_number m n yes in let less = tested_number_less n m h in
+        absurd (omega (arith, same, less)))
+        (λ no. no)
+
+    one : (m n : ℕ) → nat_lt m n ≡ false → nat_lt n m ≡ false → (m == n) ≡ true
+    one m n h k =
+        let up = tested_number_not_less m n h in
+        let down = tested_number_not_less n m k in
+        let same : m ≡ n = omega (arith, up, down) in
+        rw same (own_number n)
+
+    same_order : (m n : ℕ) (t u : Bool) → nat_lt m n ≡ t → nat_lt n m ≡ u
+        → nat_cmp m n ≡ (if nat_lt m n then Less else (if nat_lt n m then Greater else Equal))
+    same_order m n true u h k = rw h refl
+    same_order m n false true h k = rw (h, k, apart m n k) refl
+    same_order m n false false h k = rw (h, k, one m n h k) refl
 
 -- equal are those that point the same way
 pub equal_alike : (d e : Point) → is_eq (turn_order_of d e) ≡ same_way d e
@@ -60,7 +95,8 @@ stable_steps : (hs ss : List Heading) → IsStableBy comes_before hs ss → (x :
     → filter (ties turns_before x) (map step_of ss) ≡ filter (ties turns_before x) (map step_of hs)
 stable_steps hs ss stable x h =
     filter_map_first (ties turns_before x) step_of ss
-    ∙ ap (map step_of) (stable (record { step = x; small = h.small; directed = h.directed }))
+    ∙ ap (map step_of)
+    (stable (record { step = x; place = place_of x; small = h.small; directed = h.directed; placed = refl }))
     ∙ sym (filter_map_first (ties turns_before x) step_of hs)
 
 -- the directions in which corners lie

@@ -4,6 +4,7 @@ ghost use Rattle.std.specs.Prelude.{◌≡◌, ◌∷◌, ◌++◌, [], IfOk, On
 ghost use Rattle.plane_spec.specs.Cones.{IsCornerInRange};
 ghost use Rattle.plane_spec.specs.Vectors as vectors;
 ghost use Rattle.plane_spec.specs.Vectors.{InRange, turn_order_of, turns_before};
+ghost use Rattle.sight_core.specs.Scenes.{IsOfSoundPlan};
 ghost use Rattle.sight_spec.specs.Isovist as isovists;
 ghost use Rattle.std.specs.List.{dedup};
 ghost use Rattle.std.specs.List.Sorted.{IsSortedBy, IsStableBy};
@@ -11,7 +12,8 @@ ghost use Rattle.isovist_laws.specs.Vectors.{is_elsewhere, vectors_to_corners};
 ghost use Rattle.isovist_core.specs.Headings.{step_of, tied, comes_before};
 
 use crate::heading::Heading;
-use exact_geom::{same_point, turn_order, vector};
+use crate::places::place_of;
+use exact_geom::{same_point, vector};
 use plane_spec::{Corner, Point};
 use sight_core::Scene;
 use std::alloc::Global;
@@ -25,7 +27,11 @@ fn heading_to(p: Point, q: Point) -> Heading
     requires apart { vectors.same_point q p ≡ false }
     ensures { result.step ≡ vectors.vector p q }
 {
-    Heading { step: vector(p, q) }
+    let step = vector(p, q);
+    Heading {
+        step,
+        place: place_of(step),
+    }
 }
 
 /// Appends the vector from `p` to a corner, unless it is at `p`.
@@ -44,7 +50,8 @@ fn put_heading(headings: &mut Vec<Heading>, p: Point, corner: &Corner) -> Result
 /// The vectors from `p` to the corners other than `p`, in the order of the corners.
 fn headings_to_corners(alloc: Global, scene: &Scene, p: Point) -> Result<Vec<Heading>, NoMemory>
     requires { InRange p }
-    ensures { IfOk result (λ headings. map step_of headings.items ≡ vectors_to_corners scene.now p) }
+    ensures vectors { IfOk result (λ headings. map step_of headings.items ≡ vectors_to_corners scene.now p) }
+    ensures of_plan { IsOfSoundPlan scene.now }
 {
     let mut headings = Vec::new(alloc);
     let corners = scene.corners();
@@ -58,7 +65,7 @@ fn headings_to_corners(alloc: Global, scene: &Scene, p: Point) -> Result<Vec<Hea
 fn order_of(a: &Heading, b: &Heading) -> Ordering
     ensures { result ≡ turn_order_of a.now.step b.now.step }
 {
-    turn_order(a.step, b.step)
+    a.place.cmp(&b.place)
 }
 
 /// Whether two directions point the same way.
@@ -98,7 +105,8 @@ pub(crate) fn corner_directions(
     p: Point,
 ) -> Result<Vec<Heading>, NoMemory>
     requires { InRange p }
-    ensures { IfOk result (λ headings. map step_of headings.items ≡ isovists.corner_directions scene.now p) }
+    ensures directions { IfOk result (λ headings. map step_of headings.items ≡ isovists.corner_directions scene.now p) }
+    ensures of_plan { IsOfSoundPlan scene.now }
 {
     let mut headings = headings_to_corners(alloc, scene, p)?;
     sort_headings(&mut headings)?;

@@ -1,19 +1,16 @@
-//! The gaps between directions, and the rays that are sent into them.
+//! The gaps between directions, and where one looks into them.
 
 ghost use Rattle.std.specs.Prelude.{◌≡◌, ◌<◌, ◌+ℤ◌, length, IfOk, map, true};
 ghost use Rattle.sight_spec.specs.Isovist as isovists;
 ghost use Rattle.sight_spec.specs.Isovist.{gaps_of};
-ghost use Rattle.plane_spec.specs.Vectors.{IsDirection, IsWithin, turns_left};
+ghost use Rattle.plane_spec.specs.Vectors.{IsDirected, IsDirection, IsWithin, turns_left};
 ghost use Rattle.plane_spec.specs.declared.TheConstants.{MAX_COMPONENT};
 ghost use Rattle.exact_geom.specs.declared.limits.TheConstants.{MAX_DIFFERENCE};
-ghost use Rattle.isovist_core.specs.Steps.{IsStep};
 ghost use Rattle.isovist_core.specs.Headings.{step_of};
-ghost use Rattle.isovist_core.specs.Gaps.{direction_at, next_of, pair_of, look_of, way_of};
+ghost use Rattle.isovist_core.specs.Gaps.{direction_at, next_of, pair_of};
 
 use crate::gap::Gap;
 use crate::heading::Heading;
-use crate::ray::Ray;
-use exact_geom::turns_left;
 use plane_spec::Point;
 use std::alloc::Global;
 use text_spec::NoMemory;
@@ -62,55 +59,16 @@ fn plus(a: i64, b: i64) -> i64
     a + b
 }
 
-/// The sum of two directions.
-fn sum_of(e: Point, f: Point) -> Point
-    requires e_in { IsStep e }
-    requires f_in { IsStep f }
-    ensures value { result ≡ isovists.sum_of e f }
+/// The sum of the two directions of a gap that is less than a half turn.
+pub(crate) fn sum_of(gap: &Gap) -> Point
+    requires { turns_left gap.now.from.step gap.now.to.step ≡ true }
+    ensures value { result ≡ isovists.sum_of gap.now.from.step gap.now.to.step }
     ensures direction { IsDirection result }
+    ensures directed { IsDirected result }
 {
+    let (e, f) = (gap.from.step, gap.to.step);
     Point {
         x: plus(e.x, f.x),
         y: plus(e.y, f.y),
     }
-}
-
-/// The ray in the direction of the sum of two directions, of which the second is left of the first.
-fn ray_between(gap: &Gap) -> Ray
-    requires { turns_left gap.now.from.step gap.now.to.step ≡ true }
-    ensures { result.way ≡ isovists.sum_of gap.now.from.step gap.now.to.step }
-{
-    Ray {
-        way: sum_of(gap.from.step, gap.to.step),
-    }
-}
-
-/// The ray in a direction.
-fn ray_along(heading: &Heading) -> Ray
-    ensures { result.way ≡ heading.now.step }
-{
-    Ray { way: heading.step }
-}
-
-/// The ray that is sent into a gap: in the direction of the sum. Where the gap is a half turn or more, its ray doesn't
-/// matter, and goes in the first direction.
-fn look_into(gap: &Gap) -> Ray
-    ensures { result.way ≡ look_of (pair_of gap.now) }
-{
-    if turns_left(gap.from.step, gap.to.step) {
-        ray_between(gap)
-    } else {
-        ray_along(&gap.from)
-    }
-}
-
-/// The rays that are sent into gaps.
-pub(crate) fn looks_into(alloc: Global, gaps: &[Gap]) -> Result<Vec<Ray>, NoMemory>
-    ensures { IfOk result (λ rays. map way_of rays.items ≡ map (λ gap. look_of (pair_of gap)) gaps.now) }
-{
-    let mut rays = Vec::new(alloc);
-    for gap in gaps {
-        rays.push(look_into(gap))?;
-    }
-    Ok(rays)
 }

@@ -4,6 +4,7 @@
 //! |---|---|
 //! | [`isovist`] | the isovist of an open point |
 //! | [`isovist_totals`], [`IsovistTotals`] | how many triangles an isovist has, and the sums of their areas, without the triangles |
+//! | [`isovist_totals_by`] | the same by a table of the scene, which serves for many points |
 //! | [`IsovistParts`] | the triangles of an isovist, and the sums of floors and ceilings of their doubled areas |
 //! | [`Triangle`] | a triangle of the point that sees, with its doubled area and the wall or screen on its far side |
 //! | [`IsovistFault`] | why there is no isovist |
@@ -30,13 +31,12 @@ mod fault;
 mod gap;
 mod gaps;
 mod heading;
-mod meeting;
 mod parts;
-mod ray;
-mod rays;
+mod places;
 mod runs;
 mod seeing;
 mod sighted_run;
+mod sights;
 mod sums;
 #[cfg(test)]
 mod tests;
@@ -47,6 +47,6 @@ mod ways;
 
 pub use fault::IsovistFault;
 pub use parts::{IsovistParts, types_are_shared};
-pub use seeing::{isovist, isovist_totals};
+pub use seeing::{isovist, isovist_totals, isovist_totals_by};
 pub use totals::IsovistTotals;
 pub use triangle::Triangle;

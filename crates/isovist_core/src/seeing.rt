@@ -16,28 +16,44 @@ use crate::triangles::triangles_of;
 use plan_check::Plan;
 use plane_spec::Point;
 use sight_core::{Scene, is_open};
+use sight_sweep::{SceneTable, table_of};
 use std::alloc::Global;
 use text_spec::NoMemory;
 
 /// What is seen from a point of a scene.
-fn isovist_in_scene(alloc: Global, scene: &Scene, p: Point) -> Result<IsovistParts, NoMemory>
+fn isovist_in_scene(
+    alloc: Global,
+    scene: &Scene,
+    table: &SceneTable,
+    p: Point,
+) -> Result<IsovistParts, NoMemory>
     requires p_in { InRange p }
     requires of_plan { IsOfPlan scene.now }
+    requires tabled { table.now ≡ scene.now }
     ensures { IfOk result (λ parts. parts ≡ isovist_in scene.now p) }
 {
-    let runs = sighted_runs(alloc, scene, p)?;
+    let runs = sighted_runs(alloc, scene, table, p)?;
     let triangles = triangles_of(alloc, scene, p, &runs)?;
     let sums = sums_of(scene, p, &runs);
     Ok(IsovistParts::of(triangles, sums.floor, sums.ceil))
 }
 
-/// The totals of what is seen from a point of a scene.
-fn totals_in_scene(alloc: Global, scene: &Scene, p: Point) -> Result<IsovistTotals, NoMemory>
+/// The totals of what is seen from a point of a scene, by the scene's table, which is made once for many points. For an
+/// open point they are those of its isovist.
+///
+/// Cost: one sort of the corners, and one look all round.
+pub fn isovist_totals_by(
+    alloc: Global,
+    scene: &Scene,
+    table: &SceneTable,
+    p: Point,
+) -> Result<IsovistTotals, NoMemory>
     requires p_in { InRange p }
     requires of_plan { IsOfPlan scene.now }
+    requires tabled { table.now ≡ scene.now }
     ensures { IfOk result (λ totals. AreTotals (isovist_in scene.now p) totals) }
 {
-    let runs = sighted_runs(alloc, scene, p)?;
+    let runs = sighted_runs(alloc, scene, table, p)?;
     let totals = sums_of(scene, p, &runs);
     Ok(totals)
 }
@@ -47,7 +63,7 @@ fn totals_in_scene(alloc: Global, scene: &Scene, p: Point) -> Result<IsovistTota
 ///
 /// No doubled area is above 8 * 10^10, and no number on the way above 10^36.
 ///
-/// Cost: one sort of the corners, a ray for each of their directions, and five greatest common divisors for each triangle.
+/// Cost: a table of the scene, one sort of the corners, one look all round, and five greatest common divisors for each triangle.
 ///
 /// Source: isovists after Benedikt (1979), as exact triangles.
 pub fn isovist(
@@ -64,14 +80,15 @@ pub fn isovist(
     if !is_open(plan, p) {
         return Err(IsovistFault::Closed);
     }
-    let parts = isovist_in_scene(alloc, scene, p)?;
+    let table = table_of(alloc, scene)?;
+    let parts = isovist_in_scene(alloc, scene, &table, p)?;
     Ok(parts)
 }
 
 /// How many triangles the isovist of `p` has, and its sums, without the triangles. The scene is the plan's.
 /// [`IsovistFault::Closed`] exactly where `p` isn't open.
 ///
-/// Cost: that of [`isovist`] without its greatest common divisors for triangles.
+/// Cost: that of [`isovist`] without its greatest common divisors for triangles. For many points call [`isovist_totals_by`].
 pub fn isovist_totals(
     alloc: Global,
     plan: &Plan,
@@ -86,6 +103,7 @@ pub fn isovist_totals(
     if !is_open(plan, p) {
         return Err(IsovistFault::Closed);
     }
-    let totals = totals_in_scene(alloc, scene, p)?;
+    let table = table_of(alloc, scene)?;
+    let totals = isovist_totals_by(alloc, scene, &table, p)?;
     Ok(totals)
 }

@@ -7,6 +7,7 @@ pub isovist_in_scene-requires : goal.isovist_in_scene-requires
 isovist_in_scene-requires c = record {
   p_in = c.requires.p_in;
   of_plan = record { plan = c.args.plan.now; seen = c.requires.seen };
+  tabled = c.in_ok-table.ensures;
 }
 
 pub returns : goal.returns

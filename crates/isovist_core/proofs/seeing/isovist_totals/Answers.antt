@@ -3,10 +3,11 @@ use Rattle.sight_spec.specs.Sight.{is_open}
 use Rattle.isovist_core.proofs.Rounded.{opened_totals}
 use Rattle.isovist_core.proofs.seeing.isovist_totals.Goals as goal
 
-pub totals_in_scene-requires : goal.totals_in_scene-requires
-totals_in_scene-requires c = record {
+pub isovist_totals_by-requires : goal.isovist_totals_by-requires
+isovist_totals_by-requires c = record {
   p_in = c.requires.p_in;
   of_plan = record { plan = c.args.plan.now; seen = c.requires.seen };
+  tabled = c.in_ok-table.ensures;
 }
 
 pub returns : goal.returns

@@ -1,7 +1,7 @@
 use Rattle.std.proofs.Common.{map, subst}
 use Rattle.isovist_core.specs.Sums.{triangle_of_run, AreSums}
 use Rattle.isovist_core.proofs.Rounded.{all_spanned, totals_are}
-use Rattle.isovist_core.proofs.seeing.totals_in_scene.Goals as goal
+use Rattle.isovist_core.proofs.seeing.isovist_totals_by.Goals as goal
 
 pub sums_of-totals-requires : goal.sums_of-totals-requires
 sums_of-totals-requires c = record {
