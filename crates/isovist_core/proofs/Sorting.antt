@@ -41,8 +41,12 @@ unfolding turn_order_of
 place_order a b =
     let a_in = step_is_direction a.step a.small in
     let b_in = step_is_direction b.step b.small in
-    rw (a.placed, b.placed, place_tells a.step b.step a_in a.directed b_in b.directed,
-        place_tells b.step a.step b_in b.directed a_in a.directed)
+    rw (
+      a.placed,
+      b.placed,
+      place_tells a.step b.step a_in a.directed b_in b.directed,
+      place_tells b.step a.step b_in b.directed a_in a.directed,
+    )
     (same_order (place_of a.step) (place_of b.step) (nat_lt (place_of a.step) (place_of b.step))
     (nat_lt (place_of b.step) (place_of a.step)) refl refl)
   where
