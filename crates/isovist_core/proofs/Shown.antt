@@ -4,30 +4,38 @@ use Rattle.std.proofs.Common.{subst, arith}
 use Rattle.std.specs.Ordering.{int_eq}
 use Rattle.std.specs.Prelude.{Bool, true, false, ◌||◌, cond, not, int_lt, int_le, unsigned_abs, Option, Some, None}
 use Rattle.std.specs.Option.{option_map}
+use Rattle.std.specs.List.Sorted.{IsNonDecreasingBy}
 use Rattle.std.proofs.lemmas.Int.{ints}
 use Rattle.plane_spec.specs.declared.Point.{Point}
 use Rattle.plane_spec.specs.declared.Corner.{Corner}
 use Rattle.plane_spec.specs.Vectors.{point, vector, cross_of, dot_of, turns_left, InRange, IsDirection, IsDirected, IsWithin}
+use Rattle.plane_spec.specs.Cones.{IsCornerInRange}
+use Rattle.plane_spec.specs.Segments.{IsSegmentInRange}
 use Rattle.plane_spec.specs.Fractions.{Fraction, is_before, reduced, whole}
 use Rattle.sight_spec.specs.Scene.{Scene, blockers_of_scene}
 use Rattle.sight_spec.specs.Stops.{stop_of, near_wall_of, ray_hit}
 use Rattle.sight_spec.specs.Isovist as isovists
 use Rattle.sight_spec.specs.Isovist.{sum_of, stops_at_once, wall_by, wall_between, sector_in}
 use Rattle.sight_core.specs.Scenes.{IsOfSoundPlan}
-use Rattle.front_laws.specs.Seen.{Seen}
-use Rattle.front_laws.proofs.Tests.{by_cases, tested_zero}
+use Rattle.sight_core.proofs.Seen.{corners-in_range, walls-in_range}
+use Rattle.front_laws.specs.Seen.{Seen, nowhere}
+use Rattle.front_laws.proofs.Tests.{by_cases, by_lt, tested_zero}
 use Rattle.sweep_laws.specs.First.{IsFirst}
 use Rattle.sweep_laws.specs.Groups.{is_ahead, no_corner}
 use Rattle.sweep_laws.specs.Parts.{nearer_hit, start_stop}
+use Rattle.round_laws.specs.Rounds.{AreWalls}
 use Rattle.view_laws.specs.declared.view.Arc.TheVariants as arcs
 use Rattle.view_laws.specs.declared.view.Front.{Front}
+use Rattle.view_laws.specs.declared.view.Ground.{Ground}
 use Rattle.view_laws.specs.declared.view.Sector.{Sector}
 use Rattle.view_laws.specs.declared.view.View.{View}
 use Rattle.view_laws.specs.Views.{IsViewOf, Radial, IsRadial, IsSoFarOrNone, corner_by, front_of, hit_by, is_led_into}
 use Rattle.view_laws.specs.Views.{AreInOrder, is_in_arc, length_of, radial_at, radial_between, radial_by, number_by, radial_of, stop_by}
 use Rattle.view_laws.proofs.Answers.{ahead_along}
 use Rattle.view_laws.proofs.Cursor.{near_wall_by_view, radial_before, radial_from, stop_by_view}
-use Rattle.sight_sweep.proofs.Stations.{station_of}
+use Rattle.sight_sweep.specs.Grounds.{IsGroundInRange}
+use Rattle.station_laws.specs.Grounds.{IsGroundOf, at_corner, on_wall, on_nothing}
+use Rattle.station_laws.proofs.Ranges.{walls_of_sound}
 use Rattle.exact_geom.specs.declared.limits.TheConstants.{MAX_DIFFERENCE}
 use Rattle.exact_geom.proofs.Lowest.{divisor_of, whole_is_reduced}
 use Rattle.exact_geom.proofs.Values.{numerator_is, reduced_again}
@@ -88,7 +96,8 @@ by_start a b false h k = away_lowest (nearer_hit a (nearer_hit b None)) (both_aw
 front_away : (scene : Scene) (p d : Point) (first : Option (ℕ × Seen)) → IsOfSoundPlan scene → InRange p
     → IsFirst scene p d first → IsAway (hit_by d (option_map (front_of scene p) first))
 front_away scene p d None of p_in h = refl
-front_away scene p d (Some f) of p_in h = ((station_of scene p of p_in).walls.blockers f.0 f.1 h.within h.seen).up
+front_away scene p d (Some f) of p_in h =
+    ((subst (λ t. AreWalls t p) (sym of.seen) (walls_of_sound of.plan p of.sound p_in)).blockers f.0 f.1 h.within h.seen).up
 
 corner_away : (p d : Point) (corners : List Corner) (far : Option ℕ) → IsSoFarOrNone p (is_ahead p d) corners far
     → IsAway (corner_by d far)
@@ -120,7 +129,33 @@ stops_by_ground scene p d view of p_in v d_in d_some =
     (subst (λ t. IsAway (hit_by d t)) (sym r.front) (front_away scene p d r.first of p_in r.is_first))
     (corner_away p d scene.corners (radial_of view d).ahead r.ahead.some)
 
+-- ---- what the point stands on
+
+pub ground_in : (scene : Scene) (p : Point) (under : Ground) → IsOfSoundPlan scene → IsGroundOf scene p under
+    → IsGroundInRange under
+ground_in scene p under of (at_corner c f) = subst IsCornerInRange f.corner
+    ((corners-in_range scene of) f.number no_corner f.within)
+ground_in scene p under of (on_wall w none o) = subst IsSegmentInRange o.wall
+    ((walls-in_range scene of) o.number nowhere o.within)
+ground_in scene p under of (on_nothing none bare) = refl
+
 -- ---- what it tells of a place
+
+pub by_place : (sectors : List Sector) → AreInOrder sectors → IsNonDecreasingBy (λ s. s.place) sectors
+by_place sectors order i j d le lt =
+    by_lt i j (λ early. at_most (get_or sectors i d).place (get_or sectors j d).place (order i j d early lt))
+    (λ late. same i j late le)
+  where
+    at_most : (m n : ℕ) → m < n → m ≤ n
+    at_most m n h = omega (arith, h)
+
+    own : (n : ℕ) → n ≤ n
+    own n = omega arith
+
+    same : (i j : ℕ) → j ≤ i → i ≤ j → (get_or sectors i d).place ≤ (get_or sectors j d).place
+    same i j h k =
+        let e : i ≡ j = omega (arith, h, k) in
+        subst (λ m. (get_or sectors i d).place ≤ (get_or sectors m d).place) e (own (get_or sectors i d).place)
 
 no_sector : Sector
 no_sector = record { place = 0; way = point (pos 0) (pos 0); on = None; ahead = None; behind = None; after = None }

@@ -1,14 +1,12 @@
 //! The table of the isovists of a plan's open points.
 
-ghost use Rattle.std.specs.Prelude.{◌≡◌, ◌<◌, ◌+◌, ◌∷◌, [], true, IfNone, IfOk, IfSome, OnErr, OnOk};
+ghost use Rattle.std.specs.Prelude.{◌≡◌, ◌<◌, ◌+◌, ◌∷◌, [], true, IfNone, IfSome, OnErr, OnOk};
 ghost use Rattle.std.specs.Fmt.{decimal, signed_decimal};
 ghost use Rattle.dm_io.specs.Streams.{WritesPrefix, appended_to};
 ghost use Rattle.plane_spec.specs.Vectors.{InRange};
 ghost use Rattle.plan_spec.specs.declared.limits.TheConstants.{MAX_GRID_POINTS};
-ghost use Rattle.sight_spec.specs.Isovist.{isovist_in};
 ghost use Rattle.sight_spec.specs.Scene.{scene_of};
 ghost use Rattle.sight_spec.specs.Sight as sight;
-ghost use Rattle.isovist_core.specs.Sums.{AreTotals};
 ghost use Rattle.report_spec.specs.Records.{records_bytes};
 ghost use Rattle.report_spec.specs.Tables.{isovists_table_of};
 ghost use Rattle.reports.specs.Faults.{Counts};
@@ -19,11 +17,12 @@ use crate::open_isovists::OpenIsovists;
 use crate::record::Record;
 use crate::table::{Rows, put_table};
 use dm_io::Sink;
-use isovist_core::{IsovistTotals, isovist_totals};
+use isovist_core::{IsovistTotals, isovist_totals_by};
 use options_spec::Form;
 use plan_check::Plan;
 use plane_spec::Point;
 use sight_core::{Scene, is_open};
+use sight_sweep::table_of;
 use std::alloc::Global;
 use text_spec::NoMemory;
 use vga_grid::Grid;
@@ -44,20 +43,6 @@ fn next_open(plan: &Plan, from: u32) -> Option<(u32, Point)>
         }
     }
     None
-}
-
-/// The totals of the isovist of an open point.
-fn totals_at(alloc: Global, plan: &Plan, scene: &Scene, p: Point) -> Result<IsovistTotals, NoMemory>
-    requires p_in { InRange p }
-    requires seen { scene.now ≡ scene_of plan.now }
-    requires open { sight.is_open plan.now p ≡ true }
-    ensures { IfOk result (λ totals. AreTotals (isovist_in (scene_of plan.now) p) totals) }
-{
-    match isovist_totals(alloc, plan, scene, p) {
-        Ok(totals) => Ok(totals),
-        // the point is open
-        Err(_) => Err(NoMemory),
-    }
 }
 
 /// The row of a point with the totals of its isovist.
@@ -84,7 +69,7 @@ impl<'a> Rows for OpenIsovists<'a> {
         let Some((number, point)) = next_open(self.plan, self.number) else {
             return Ok(false);
         };
-        let totals = totals_at(self.alloc, self.plan, self.scene, point)?;
+        let totals = isovist_totals_by(self.alloc, self.scene, self.table, point)?;
         make_totals(row, number, totals)?;
         self.number = number + 1;
         Ok(true)
@@ -94,7 +79,7 @@ impl<'a> Rows for OpenIsovists<'a> {
 /// Prints the table of the isovists of a plan's open grid points, in the order of their numbers: number, number of
 /// triangles, and the sums of the floors and of the ceilings of their doubled areas. The scene is the plan's.
 ///
-/// Cost: an isovist's totals for each open point, and a call of the sink for each 64 KiB; memory for one isovist's
+/// Cost: a table of the scene, an isovist's totals for each open point, and a call of the sink for each 64 KiB; memory for one isovist's
 /// directions, one row, and in csv form for some thousand records.
 #[tactic(auto, unfolding(report_spec::specs::Tables::isovists_table))]
 pub fn put_isovists<O: Sink>(
@@ -110,10 +95,12 @@ pub fn put_isovists<O: Sink>(
     ensures faults { Counts result (O.faults out.old) (O.faults out.new) }
 {
     let _points = Grid::of(plan).count();
+    let table = table_of(alloc, scene)?;
     let mut rows = OpenIsovists {
         alloc,
         plan,
         scene,
+        table: &table,
         number: 0,
     };
     put_table(alloc, out, form, b"isovists", &mut rows)

@@ -1,11 +1,10 @@
 use Rattle.std.proofs.Common.{◌≡◌, ◌∙◌, map, subst, sym}
 use Rattle.sight_spec.specs.Isovist.{gaps_of, runs_of}
-use Rattle.sight_sweep.proofs.Telling.{ground_in}
 use Rattle.isovist_core.specs.Headings.{step_of}
 use Rattle.isovist_core.specs.Gaps.{pair_of}
 use Rattle.isovist_core.specs.Sightings.{run_of}
 use Rattle.isovist_core.proofs.Sectors.{runs_are, sectors_in}
-use Rattle.isovist_core.proofs.Shown.{sectors_are_shown}
+use Rattle.isovist_core.proofs.Shown.{ground_in, sectors_are_shown}
 use Rattle.isovist_core.proofs.runs.sighted_runs.Goals as goal
 
 pub runs_by-requires-clause-ground_in : goal.runs_by-requires-clause-ground_in

@@ -2,7 +2,7 @@ use Rattle.std.proofs.Common.{◌≡◌, ◌<◌, ◌≤◌, ◌-◌, ℕ, rules
 use Rattle.std.specs.Prelude.{true, false}
 use Rattle.std.specs.List.Sorted.{IsPartitionPoint}
 use Rattle.std.proofs.lemmas.List.Sorted.{IsPartitionPoint-from_clause, IsPartitionedBy-leb}
-use Rattle.sight_sweep.proofs.Telling.{by_place}
+use Rattle.isovist_core.proofs.Shown.{by_place}
 use Rattle.isovist_core.proofs.sights.count_up_to.Goals as goal
 
 point : (c : goal.After-partition_point)
