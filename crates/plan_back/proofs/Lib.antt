@@ -1,0 +1,13 @@
+pub mod Places
+pub mod Turned
+pub mod Moved
+pub mod Listed
+pub mod Few
+pub mod Causes
+pub mod Names
+pub mod Obstacles
+pub mod Screens
+pub mod Routes
+pub mod Accepted
+pub mod Shifting
+pub mod Backs
