@@ -1,12 +1,12 @@
 -- The items of a plan with one more at its place are accepted, and make the plan with it there.
-use Rattle.std.specs.Prelude.{◌≡◌, ◌≤◌, ℕ, ◌+◌, true, List, [], ◌∷◌, ◌++◌, length, map, None, Result, Ok, Err, IfOk}
-use Rattle.std.proofs.Common.{refl, sym, ap, ◌∙◌, arith}
+use Rattle.std.specs.Prelude.{◌≡◌, ◌≤◌, ℕ, ◌+◌, true, List, ◌++◌, length, map, None, Result, Ok, Err, IfOk}
+use Rattle.std.proofs.Common.{ap, ◌∙◌, arith}
 use Rattle.std.proofs.lemmas.List.{length-map, length-append}
 use Rattle.plane_spec.specs.declared.Point.{Point}
 use Rattle.plan_spec.specs.declared.edit.Edit.TheVariants.{Add, AddScreen, AddRoute}
 use Rattle.plan_spec.specs.declared.item.Item.{Item}
 use Rattle.plan_spec.specs.declared.why.Why.{Why}
-use Rattle.plan_spec.specs.Plan.{Plan, obstacle, screen, route, with_obstacles, with_screens, with_routes, grid_items, obstacle_item, screen_item, route_item, items_of}
+use Rattle.plan_spec.specs.Plan.{Plan, obstacle, screen, route, grid_items, obstacle_item, screen_item, route_item, items_of}
 use Rattle.plan_spec.specs.Accepted.{is_accepted, is_sound}
 use Rattle.plan_spec.specs.Refusals.{check_of}
 use Rattle.plan_spec.specs.Edits.{why_not_edit}
@@ -32,11 +32,15 @@ if_ok P Q f (Err e) h = h
 items_count : (p : Plan) → length (items_of p) ≡ items_before_routes p + length p.routes
 unfolding items_of
 items_count p =
-    omega (arith,
+    omega (
+      arith,
       length-append (grid_items p.grid) (map obstacle_item p.obstacles ++ (map screen_item p.screens ++ map route_item p.routes)),
       length-append (map obstacle_item p.obstacles) (map screen_item p.screens ++ map route_item p.routes),
       length-append (map screen_item p.screens) (map route_item p.routes),
-      length-map p.obstacles obstacle_item, length-map p.screens screen_item, length-map p.routes route_item)
+      length-map p.obstacles obstacle_item,
+      length-map p.screens screen_item,
+      length-map p.routes route_item,
+    )
 
 -- items that are a sound plan's are accepted, and make that plan
 accepted_as : (items : List Item) (q : Plan) → items ≡ items_of q → is_sound q ≡ true → is_accepted items ≡ true

@@ -1,7 +1,6 @@
 -- Every change that names places: an edit as one, and the one that takes it back.
 use Rattle.std.specs.Prelude.{◌≡◌, true, None}
-use Rattle.std.proofs.Common.{refl, ap, ◌∙◌, arith}
-use Rattle.plane_spec.specs.declared.Point.{Point}
+use Rattle.std.proofs.Common.{refl, ap, arith}
 use Rattle.plan_spec.specs.declared.edit.Edit.{Edit}
 use Rattle.plan_spec.specs.declared.edit.Edit.TheVariants.{Add, Remove, Move, AddScreen, RemoveScreen, AddRoute, RemoveRoute}
 use Rattle.plan_spec.specs.Plan.{Plan, obstacle, screen, route, with_obstacles, with_screens, with_routes, with_item}
@@ -10,7 +9,7 @@ use Rattle.plan_spec.specs.Edits.{HasShift, plan_after_edit}
 use Rattle.plan_laws.proofs.Edits.Refused.{edited_is_sound}
 use Rattle.plan_back.specs.declared.back.Back.{Back}
 use Rattle.plan_back.specs.declared.back.Back.TheVariants.{Take, Put, Shift, TakeScreen, PutScreen, TakeRoute, PutRoute}
-use Rattle.plan_back.specs.Backs.{HasPlace, TakesBack, back_of, inverse_of, like_edit, plan_after_back, why_not_back}
+use Rattle.plan_back.specs.Backs.{HasPlace, TakesBack, back_of, edit_name, inverse_of, like_edit, name_of, plan_after_back, why_not_back}
 use Rattle.plan_back.proofs.Places.{put_last}
 use Rattle.plan_back.proofs.Obstacles.{obstacle_put_is_sound, obstacle_taken_back, obstacle_put_back}
 use Rattle.plan_back.proofs.Screens.{screen_put_is_sound, screen_taken_back, screen_put_back}
@@ -36,6 +35,15 @@ back_is_like p (AddScreen name from to) = refl
 back_is_like p (RemoveScreen name) = refl
 back_is_like p (AddRoute name from to) = refl
 back_is_like p (RemoveRoute name) = refl
+
+pub like_named : (b : Back) → edit_name (like_edit b) ≡ name_of b
+like_named (Take name) = refl
+like_named (Put k name points) = refl
+like_named (Shift name dx dy) = refl
+like_named (TakeScreen name) = refl
+like_named (PutScreen k name from to) = refl
+like_named (TakeRoute name) = refl
+like_named (PutRoute k name from to) = refl
 
 pub back_makes : (p : Plan) (e : Edit) → plan_after_back p (back_of p e) ≡ plan_after_edit p e
 unfolding plan_after_back plan_after_edit with_item

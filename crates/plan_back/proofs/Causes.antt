@@ -1,5 +1,5 @@
 -- Where nothing refuses.
-use Rattle.std.specs.Prelude.{◌≡◌, Bool, true, false, not, ◌&&◌, Option, Some, None, is_none}
+use Rattle.std.specs.Prelude.{◌≡◌, Bool, true, false, ◌&&◌, Option, Some, None, is_none}
 use Rattle.std.proofs.Common.{refl, sym, ap, ◌∙◌, arith}
 use Rattle.plan_spec.specs.declared.edit.Edit.{Edit}
 use Rattle.plan_spec.specs.declared.why.Why.{Why}

@@ -1,13 +1,12 @@
 -- Whether a plan is sound doesn't depend on where among its like a part stands.
-use Rattle.std.specs.Prelude.{◌≡◌, ℕ, ◌+◌, ◌*◌, not, nat_le, ◌&&◌, List, [], ◌∷◌, ◌++◌, length}
-use Rattle.std.specs.List.{list_all, list_any, sum_by}
-use Rattle.std.proofs.Common.{refl, sym, ap, ap₂, ◌∙◌}
+use Rattle.std.specs.Prelude.{◌≡◌, not, ◌&&◌, List, [], ◌∷◌, ◌++◌}
+use Rattle.std.specs.List.{list_all, list_any}
+use Rattle.std.proofs.Common.{refl, ap, ap₂}
 use Rattle.plane_spec.specs.Lists.{pairs}
 use Rattle.plan_spec.specs.declared.item.Screen.{Screen}
 use Rattle.plan_spec.specs.declared.item.Route.{Route}
-use Rattle.plan_spec.specs.declared.limits.TheConstants.{MAX_OBSTACLES, MAX_SCREENS, MAX_ROUTES, MAX_CORNERS}
 use Rattle.plan_spec.specs.Plan.{Obstacle, Plan, with_obstacles, with_screens, with_routes, corners_of_obstacle_count}
-use Rattle.plan_spec.specs.Accepted.{is_polygon, is_proper_segment, lies_within, segment_lies_within, segment_meets_polygon, obstacles_apart, screens_apart, routes_apart, is_grid_sound, are_obstacles_sound, are_screens_sound, are_routes_sound, is_within_limits, is_sound}
+use Rattle.plan_spec.specs.Accepted.{is_polygon, is_proper_segment, lies_within, segment_lies_within, segment_meets_polygon, obstacles_apart, screens_apart, routes_apart, are_obstacles_sound, are_screens_sound, are_routes_sound, is_within_limits, is_sound}
 use Rattle.list_laws.proofs.Tests.{list_all_agree}
 use Rattle.plan_back.proofs.Places.{all_moved, any_moved, each_two_moved, length_moved, sum_moved}
 use Rattle.plan_back.proofs.Turned.{obstacles_turned, screens_turned, routes_turned}

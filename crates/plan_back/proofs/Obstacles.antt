@@ -1,11 +1,12 @@
 -- An obstacle that is put in or removed, and the change that takes it back.
-use Rattle.std.specs.Prelude.{◌≡◌, ◌≤◌, ℕ, true, false, not, List, [], ◌∷◌, ◌++◌, length, take, drop, None, Some}
+use Rattle.std.specs.Prelude.{◌≡◌, ℕ, true, false, List, [], ◌∷◌, ◌++◌, length, take, drop, None, Some}
 use Rattle.std.specs.List.{list_any}
 use Rattle.std.proofs.Common.{refl, sym, ap, ◌∙◌, arith}
 use Rattle.std.proofs.lemmas.List.{take-append-drop, length-append}
+use Rattle.std.proofs.lemmas.Slice.Eq.{bytes_eq-Decides}
 use Rattle.plane_spec.specs.declared.Point.{Point}
 use Rattle.plan_spec.specs.declared.edit.Edit.TheVariants.{Add, Remove}
-use Rattle.plan_spec.specs.Plan.{Obstacle, Plan, obstacle, with_obstacles, with_item, is_obstacle_named}
+use Rattle.plan_spec.specs.Plan.{Plan, obstacle, with_obstacles, with_item, is_obstacle_named}
 use Rattle.plan_spec.specs.Accepted.{is_sound}
 use Rattle.plan_spec.specs.Edits.{without_obstacle, why_not_edit, plan_after_edit}
 use Rattle.list_laws.proofs.Single.{Single, all_but_single}
@@ -13,7 +14,7 @@ use Rattle.plan_laws.proofs.Names.{obstacle_alone}
 use Rattle.plan_laws.proofs.Adding.Obstacles.{new_obstacle}
 use Rattle.plan_back.specs.declared.back.Back.TheVariants.{Take, Put}
 use Rattle.plan_back.specs.Places.{put_at, first_from}
-use Rattle.plan_back.specs.Backs.{put_obstacle, plan_after_back, inverse_of, why_not_back, TakesBack}
+use Rattle.plan_back.specs.Backs.{plan_after_back, inverse_of, TakesBack}
 use Rattle.plan_back.proofs.Places.{put_between, found_where_put, removed_where_put, first_found}
 use Rattle.plan_back.proofs.Turned.{name_itself}
 use Rattle.plan_back.proofs.Moved.{sound_obstacle_moved}
@@ -51,6 +52,7 @@ obstacle_taken_back p k name points sound none = record {
       (found_where_put (is_obstacle_named name) k (obstacle name points) p.obstacles (name_itself name))
       (ap is_sound gone ∙ sound);
   gives = gone;
+  named = refl;
 }
   where
     gone : with_obstacles p (without_obstacle name (put_at k (obstacle name points) p.obstacles)) ≡ p
@@ -84,4 +86,5 @@ obstacle_put_back p name sound none =
               not_refused (plan_after_edit p (Remove name)) (Add s.it.name s.it.points) fewer_sound refl
               (sym (sound_with_obstacle_put (plan_after_edit p (Remove name)) (length s.before) s.it.name s.it.points) ∙ ap is_sound gives ∙ sound);
           gives = gives;
+          named = (bytes_eq-Decides s.it.name name).0 s.passes;
         }

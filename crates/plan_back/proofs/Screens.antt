@@ -1,11 +1,11 @@
 -- A screen that is put in or removed, and the change that takes it back.
-use Rattle.std.specs.Prelude.{◌≡◌, ◌≤◌, ℕ, true, false, not, List, [], ◌∷◌, ◌++◌, length, filter, take, drop, None, Some}
+use Rattle.std.specs.Prelude.{◌≡◌, ℕ, true, false, not, List, [], ◌∷◌, ◌++◌, length, filter, take, drop, None, Some}
 use Rattle.std.specs.List.{list_any}
 use Rattle.std.proofs.Common.{refl, sym, ap, ◌∙◌, arith}
 use Rattle.std.proofs.lemmas.List.{take-append-drop, length-append}
+use Rattle.std.proofs.lemmas.Slice.Eq.{bytes_eq-Decides}
 use Rattle.plane_spec.specs.declared.Point.{Point}
 use Rattle.plan_spec.specs.declared.edit.Edit.TheVariants.{AddScreen, RemoveScreen}
-use Rattle.plan_spec.specs.declared.item.Screen.{Screen}
 use Rattle.plan_spec.specs.Plan.{Plan, screen, with_screens, with_item, is_screen_named}
 use Rattle.plan_spec.specs.Accepted.{is_sound}
 use Rattle.plan_spec.specs.Edits.{why_not_edit, plan_after_edit}
@@ -14,7 +14,7 @@ use Rattle.plan_laws.proofs.Names.{screen_alone}
 use Rattle.plan_laws.proofs.Adding.Screens.{new_screen}
 use Rattle.plan_back.specs.declared.back.Back.TheVariants.{TakeScreen, PutScreen}
 use Rattle.plan_back.specs.Places.{put_at, first_from}
-use Rattle.plan_back.specs.Backs.{put_screen, plan_after_back, inverse_of, why_not_back, TakesBack}
+use Rattle.plan_back.specs.Backs.{plan_after_back, inverse_of, TakesBack}
 use Rattle.plan_back.proofs.Places.{put_between, found_where_put, removed_where_put, first_found}
 use Rattle.plan_back.proofs.Turned.{name_itself}
 use Rattle.plan_back.proofs.Moved.{sound_screen_moved}
@@ -52,6 +52,7 @@ screen_taken_back p k name from to sound none = record {
       (found_where_put (is_screen_named name) k (screen name from to) p.screens (name_itself name))
       (ap is_sound gone ∙ sound);
   gives = gone;
+  named = refl;
 }
   where
     gone : with_screens p (filter (λ x. not (is_screen_named name x)) (put_at k (screen name from to) p.screens)) ≡ p
@@ -85,4 +86,5 @@ screen_put_back p name sound none =
               not_refused (plan_after_edit p (RemoveScreen name)) (AddScreen s.it.name s.it.from s.it.to) fewer_sound refl
               (sym (sound_with_screen_put (plan_after_edit p (RemoveScreen name)) (length s.before) s.it.name s.it.from s.it.to) ∙ ap is_sound gives ∙ sound);
           gives = gives;
+          named = (bytes_eq-Decides s.it.name name).0 s.passes;
         }

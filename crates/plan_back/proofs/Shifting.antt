@@ -1,7 +1,6 @@
 -- An obstacle that is moved, and moved back.
 use Rattle.std.specs.Prelude.{◌≡◌, ℕ, ℤ, neg_ℤ, ◌+ℤ◌, Bool, true, false, cond, List, [], ◌∷◌, map, None, if◌then◌else◌}
-use Rattle.std.specs.List.{list_any}
-use Rattle.std.proofs.Common.{refl, sym, ap, ap₂, ◌∙◌, arith}
+use Rattle.std.proofs.Common.{refl, ap, ap₂, ◌∙◌, arith}
 use Rattle.std.proofs.lemmas.Int.{ints}
 use Rattle.plane_spec.specs.declared.Point.{Point}
 use Rattle.plane_spec.specs.Vectors.{IsWithin, point}
@@ -72,6 +71,7 @@ obstacle_moved_back p name dx dy sound shift none =
           ∙ there.0)
           (ap is_sound back ∙ sound);
       gives = back;
+      named = refl;
     }
   where
     back : with_obstacles p (map (moved_if name (neg_ℤ dx) (neg_ℤ dy)) (map (moved_if name dx dy) p.obstacles)) ≡ p

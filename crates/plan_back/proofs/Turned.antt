@@ -1,6 +1,6 @@
 -- Whether two parts of a plan stand apart doesn't depend on which is named first.
-use Rattle.std.specs.Prelude.{◌≡◌, ℕ, ℤ, Bool, true, false, cond, not, ◌&&◌, ◌||◌, List, [], ◌∷◌, ◌++◌, filter}
-use Rattle.std.specs.List.{list_all, list_any}
+use Rattle.std.specs.Prelude.{◌≡◌, ℕ, ℤ, Bool, true, false, cond, not, ◌&&◌, List, [], ◌∷◌, ◌++◌, filter}
+use Rattle.std.specs.List.{list_any}
 use Rattle.std.specs.Ordering.{int_eq}
 use Rattle.std.specs.Str.{bytes_eq}
 use Rattle.std.proofs.Common.{refl, sym, ap, ap₂, ◌∙◌}
@@ -12,12 +12,12 @@ use Rattle.std.proofs.lemmas.Slice.Eq.{bytes_eq-Decides}
 use Rattle.plane_spec.specs.declared.Point.{Point}
 use Rattle.plane_spec.specs.Lists.{pairs}
 use Rattle.plane_spec.specs.Vectors.{same_point}
-use Rattle.plane_spec.specs.Segments.{do_touch, is_on_segment}
+use Rattle.plane_spec.specs.Segments.{is_on_segment}
 use Rattle.plane_spec.proofs.Laws.{touching_is_symmetric}
 use Rattle.plan_spec.specs.declared.item.Screen.{Screen}
 use Rattle.plan_spec.specs.declared.item.Route.{Route}
 use Rattle.plan_spec.specs.Plan.{Obstacle}
-use Rattle.plan_spec.specs.Accepted.{each_two, polygons_meet, do_segments_overlap, shared_ends, obstacles_apart, screens_apart, routes_apart}
+use Rattle.plan_spec.specs.Accepted.{each_two, do_segments_overlap, shared_ends, obstacles_apart, screens_apart, routes_apart}
 use Rattle.plan_laws.proofs.Meeting.{meeting_turned}
 use Rattle.list_laws.proofs.Tests.{list_all_not}
 use Rattle.plan_back.proofs.Places.{each_two_moved}

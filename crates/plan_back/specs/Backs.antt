@@ -1,6 +1,5 @@
 -- Changes that name places: what they are refused for, the plan after one, and the change that takes one back.
 use Rattle.std.specs.Prelude.{◌≡◌, ◌≤◌, ℕ, ⊤, neg_ℤ, List, length, Option, Some, None}
-use Rattle.plane_spec.specs.declared.Point.{Point}
 use Rattle.plan_spec.specs.declared.item.Screen.{Screen}
 use Rattle.plan_spec.specs.declared.item.Route.{Route}
 use Rattle.plan_spec.specs.declared.edit.Edit.{Edit}
@@ -21,6 +20,16 @@ name_of (TakeScreen name) = name
 name_of (PutScreen place name from to) = name
 name_of (TakeRoute name) = name
 name_of (PutRoute place name from to) = name
+
+-- the name of what an edit changes
+abbrev pub edit_name : Edit → List ℕ
+edit_name (Add name points) = name
+edit_name (Remove name) = name
+edit_name (Move name dx dy) = name
+edit_name (AddScreen name from to) = name
+edit_name (RemoveScreen name) = name
+edit_name (AddRoute name from to) = name
+edit_name (RemoveRoute name) = name
 
 -- ---- refusals
 
@@ -93,10 +102,11 @@ inverse_of plan (PutScreen place name from to) = TakeScreen name
 inverse_of plan (TakeRoute name) = put_route (TakeRoute name) (first_from 0 (is_route_named name) plan.routes)
 inverse_of plan (PutRoute place name from to) = TakeRoute name
 
--- the other change is allowed on the plan after this one, isn't refused there, and gives back the plan itself, with all
--- places
+-- the other change is allowed on the plan after this one, isn't refused there, gives back the plan itself, with all
+-- places, and has the same name
 pub record TakesBack (plan : Plan) (back other : Back) : Type 0 where
   pub place : HasPlace (plan_after_back plan back) other
   pub shift : HasShift (like_edit other)
   pub valid : why_not_back (plan_after_back plan back) other ≡ None
   pub gives : plan_after_back (plan_after_back plan back) other ≡ plan
+  pub named : name_of other ≡ name_of back

@@ -1,10 +1,10 @@
 //! Changes that name places.
 
 ghost use Rattle.std.specs.Prelude.{◌≡◌, IfOk};
-ghost use Rattle.plan_back.specs.Backs.{name_of};
+ghost use Rattle.plan_back.specs.Backs.{edit_name, name_of};
 
 use crate::copies::copied_points;
-use plan_spec::Points;
+use plan_spec::{Edit, Points};
 use plane_spec::Point;
 use std::alloc::Global;
 use text_spec::{Name, NoMemory};
@@ -65,5 +65,20 @@ impl Back {
                 Back::PutRoute(*place, name.copy(), *from, *to)
             }
         })
+    }
+}
+
+/// The name of what an edit changes.
+pub fn edit_name(edit: &Edit) -> Name
+    ensures { result ≡ edit_name edit.now }
+{
+    match edit {
+        Edit::Add(name, _points) => name.copy(),
+        Edit::Remove(name) => name.copy(),
+        Edit::Move(name, _dx, _dy) => name.copy(),
+        Edit::AddScreen(name, _from, _to) => name.copy(),
+        Edit::RemoveScreen(name) => name.copy(),
+        Edit::AddRoute(name, _from, _to) => name.copy(),
+        Edit::RemoveRoute(name) => name.copy(),
     }
 }

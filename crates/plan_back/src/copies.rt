@@ -35,11 +35,7 @@ fn copied_item(alloc: Global, item: &Item) -> Result<Item, NoMemory>
 }
 
 /// Appends copies of the items.
-pub(crate) fn push_copies(
-    alloc: Global,
-    list: &mut Items,
-    items: &[Item],
-) -> Result<(), NoMemory>
+pub(crate) fn push_copies(alloc: Global, list: &mut Items, items: &[Item]) -> Result<(), NoMemory>
     ensures { OnOk result (list.new ≡ list.old ++ items.now) }
 {
     for item in items {

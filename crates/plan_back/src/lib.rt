@@ -6,6 +6,7 @@
 //! | [`with_back`] | the plan after one |
 //! | [`back_of`] | an edit as one |
 //! | [`inverse`] | the one that takes another back |
+//! | [`edit_name`] | the name of what an edit changes |
 //! | [`Editor`] | an object that keeps a plan and makes changes of it |
 //! | [`Desk`] | the plain editor: a plan |
 //! | [`an_edit_as_back`], [`taking_back`] | laws: an edit and its `Back` are one change; the inverse gives back the plan itself |
@@ -24,11 +25,8 @@ mod inverting;
 mod laws;
 mod placing;
 
-pub use back::Back;
+pub use back::{Back, edit_name};
 pub use change::with_back;
 pub use editor::{Desk, Editor};
 pub use inverting::{back_of, inverse};
 pub use laws::{an_edit_as_back, taking_back};
-
-#[cfg(test)]
-mod tests;

@@ -18,12 +18,7 @@ use std::alloc::Global;
 use text_spec::{Name, NoMemory};
 
 /// The items with one more at the place.
-fn with_item_at(
-    alloc: Global,
-    items: &[Item],
-    place: usize,
-    item: Item,
-) -> Result<Items, NoMemory>
+fn with_item_at(alloc: Global, items: &[Item], place: usize, item: Item) -> Result<Items, NoMemory>
     requires { place ≤ length items.now }
     ensures { IfOk result (λ list. list ≡ put_at place item items.now) }
 {
@@ -35,12 +30,7 @@ fn with_item_at(
 }
 
 /// The plan of the items with one more at the place, which are accepted.
-fn plan_with_item_at(
-    alloc: Global,
-    plan: &Plan,
-    place: usize,
-    item: Item,
-) -> Result<Plan, NoMemory>
+fn plan_with_item_at(alloc: Global, plan: &Plan, place: usize, item: Item) -> Result<Plan, NoMemory>
     requires within { place ≤ length (items_of plan.now) }
     requires accepted { IsTrue (is_accepted (put_at place item (items_of plan.now))) }
     ensures { IfOk result (λ new. check_of (put_at place item (items_of plan.now)) ≡ Ok new) }
@@ -94,7 +84,12 @@ pub(crate) fn with_obstacle_at(
     ensures { IfOk result (λ new. new ≡ plan_after_back plan.now (Back.Put place name.now points.now)) }
 {
     let item = Item::Obstacle(name.copy(), copied_points(alloc, points)?);
-    plan_with_item_at(alloc, plan, items_before_obstacles(plan) + place as usize, item)
+    plan_with_item_at(
+        alloc,
+        plan,
+        items_before_obstacles(plan) + place as usize,
+        item,
+    )
 }
 
 /// The plan with a new screen at the place, which isn't refused.
@@ -111,7 +106,12 @@ pub(crate) fn with_screen_at(
     ensures { IfOk result (λ new. new ≡ plan_after_back plan.now (Back.PutScreen place name.now from to)) }
 {
     let item = Item::Screen(name.copy(), from, to);
-    plan_with_item_at(alloc, plan, items_before_screens(plan) + place as usize, item)
+    plan_with_item_at(
+        alloc,
+        plan,
+        items_before_screens(plan) + place as usize,
+        item,
+    )
 }
 
 /// The plan with a new route at the place, which isn't refused.
@@ -128,5 +128,10 @@ pub(crate) fn with_route_at(
     ensures { IfOk result (λ new. new ≡ plan_after_back plan.now (Back.PutRoute place name.now from to)) }
 {
     let item = Item::Route(name.copy(), from, to);
-    plan_with_item_at(alloc, plan, items_before_routes(plan) + place as usize, item)
+    plan_with_item_at(
+        alloc,
+        plan,
+        items_before_routes(plan) + place as usize,
+        item,
+    )
 }

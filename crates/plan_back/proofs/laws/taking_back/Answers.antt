@@ -1,5 +1,4 @@
 use Rattle.plan_back.proofs.Backs.{changed_is_sound, inverse_takes_back}
-use Rattle.plan_back.proofs.Listed.{obstacle_listed}
 use Rattle.plan_back.proofs.laws.taking_back.Goals as goal
 
 pub returns-clause-sound : goal.returns-clause-sound
