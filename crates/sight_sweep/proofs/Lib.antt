@@ -8,6 +8,7 @@ mod Listing
 mod Tables
 mod Leasts
 mod Stations
+mod Counting
 mod Ends
 mod Telling
 mod Replies

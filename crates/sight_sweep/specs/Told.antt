@@ -1,8 +1,10 @@
 -- What a view tells of one direction.
-use Rattle.std.specs.Prelude.{ℕ, pos, ◌<ℤ◌, ◌≤◌, IfSome}
+use Rattle.std.specs.Prelude.{ℕ, pos, ◌<ℤ◌, ◌<◌, ◌≤◌, List, length, IfSome}
+use Rattle.std.proofs.Common.{get_or}
 use Rattle.plane_spec.specs.declared.Point.{Point}
 use Rattle.plane_spec.specs.Vectors.{cross_of, IsDirection, IsWithin}
 use Rattle.view_laws.specs.declared.view.Front.{Front}
+use Rattle.view_laws.specs.declared.view.Sector.{Sector}
 use Rattle.view_laws.specs.Views.{Radial}
 use Rattle.sight_sweep.specs.declared.told.Told.{Told}
 
@@ -24,3 +26,9 @@ IsFar far = far ≤ 800000
 pub record IsTold (d : Point) (told : Told) : Type 0 where
   pub front : IfSome told.front (IsFrontTo d)
   pub ahead : IfSome told.ahead IsFar
+
+-- so many of the sectors have a place up to this one: the first ones
+pub record IsCount (sectors : List Sector) (place count : ℕ) : Type 0 where
+  pub within : count ≤ length sectors
+  pub reached : (k : ℕ) (s : Sector) → k < count → (get_or sectors k s).place ≤ place
+  pub beyond : (k : ℕ) (s : Sector) → count ≤ k → k < length sectors → place < (get_or sectors k s).place

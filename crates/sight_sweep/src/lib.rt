@@ -7,6 +7,7 @@
 //! | [`look`] | the view from a station |
 //! | [`Target`], [`Answer`] | a point or a ray that is asked for, and what is answered |
 //! | [`sweep`] | answers all targets from one point |
+//! | [`sight_by`], [`Sighting`], [`Bearing`], [`bearing_between`] | whether a view sees a point, asked of many points in turn |
 //! | [`Steps`] | how many sweeps were made |
 //! | [`types_are_shared`] | all of these may be shared between threads |
 //!
@@ -29,6 +30,7 @@ mod answering;
 mod answers;
 mod arcs;
 mod around;
+mod bearing;
 mod blocker;
 mod corners;
 mod count;
@@ -42,6 +44,7 @@ mod push;
 mod range;
 mod reach;
 mod round;
+mod row;
 mod shared;
 mod sides;
 mod table;
@@ -51,8 +54,10 @@ mod told;
 
 pub use answering::{answer_by, sweep};
 pub use answers::Answer;
+pub use bearing::{Bearing, bearing_between};
 pub use count::Steps;
 pub use looking::look;
+pub use row::{Sighting, sight_by};
 pub use shared::types_are_shared;
 pub use sight_spec::Target;
 pub use table::{SceneTable, table_of};

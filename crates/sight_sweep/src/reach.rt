@@ -1,16 +1,14 @@
 //! What a view tells of one direction, and what follows from it for a point and for a ray.
 
-ghost use Rattle.std.specs.Prelude.{◌≡◌, ◌||◌, ◌+◌, ◌<◌, ◌≤◌, IfSome, ℕ, length, false, int_lt, nat_lt, not, pos};
+ghost use Rattle.std.specs.Prelude.{◌≡◌, IfSome};
 ghost use Rattle.std.specs.Option.{option_map};
-ghost use Rattle.std.proofs.Common.{get_or};
 ghost use Rattle.plane_spec.specs.Cones.{IsCornerInRange};
 ghost use Rattle.plane_spec.specs.Fractions as fractions;
 ghost use Rattle.plane_spec.specs.Vectors.{IsDirected, IsDirection};
 ghost use Rattle.plane_spec.specs.Segments.{IsSegmentInRange};
-ghost use Rattle.view_laws.specs.declared.view.Sector.{Sector};
 ghost use Rattle.view_laws.specs.Views as views;
 ghost use Rattle.view_laws.specs.Views.{AreInOrder, radial_at, radial_between, radial_by};
-ghost use Rattle.sight_sweep.specs.Told.{IsFrontTo, IsTold, radial};
+ghost use Rattle.sight_sweep.specs.Told.{IsCount, IsFrontTo, IsTold, radial};
 ghost use Rattle.sight_sweep.specs.Grounds.{IsGroundInRange};
 
 use crate::corners::length;
@@ -23,18 +21,15 @@ use sight_core::in_cone;
 use view_laws::{Front, Ground, Sector, View};
 
 /// How many of the sectors have a place up to this one.
-fn count_up_to(sectors: &[Sector], place: u64) -> usize
+pub(crate) fn count_up_to(sectors: &[Sector], place: u64) -> usize
     requires order { AreInOrder sectors.now }
-    ensures within { result ≤ length sectors.now }
-    ensures reached { (k : ℕ) (s : Sector) → k < result → (get_or sectors.now k s).place ≤ place }
-    ensures beyond { (k : ℕ) (s : Sector) → result ≤ k → k < length sectors.now
-        → place < (get_or sectors.now k s).place }
+    ensures { IsCount sectors.now place result }
 {
     sectors.partition_point(|sector: &Sector| sector.place <= place)
 }
 
 /// What is told between two sectors.
-fn told_between(front: Option<Front>) -> Told
+pub(crate) fn told_between(front: Option<Front>) -> Told
     ensures { radial result ≡ radial_between front }
 {
     Told {
@@ -45,7 +40,7 @@ fn told_between(front: Option<Front>) -> Told
 }
 
 /// What the sector tells of a place that is its own, or comes before the next sector's.
-fn told_by(sector: &Sector, place: u64) -> Told
+pub(crate) fn told_by(sector: &Sector, place: u64) -> Told
     ensures { radial result ≡ radial_at sector.now place }
 {
     if place == sector.place {

@@ -19,9 +19,9 @@ up_to m n h = grind arith
 beyond : (m n : ℕ) → leb m n ≡ false → n < m
 beyond m n h = grind arith
 
-pub returns-clause-reached : goal.returns-clause-reached
-returns-clause-reached c k s lt = up_to (get_or c.args.sectors.now k s).place c.args.place
-    ((point c).0 k s (omega arith) lt)
-
-pub returns-clause-beyond : goal.returns-clause-beyond
-returns-clause-beyond c k s le lt = beyond (get_or c.args.sectors.now k s).place c.args.place ((point c).1 k s le lt)
+pub returns : goal.returns
+returns c = record {
+  within = c.partition_point.ensures.bound;
+  reached = λ k s lt. up_to (get_or c.args.sectors.now k s).place c.args.place ((point c).0 k s (omega arith) lt);
+  beyond = λ k s le lt. beyond (get_or c.args.sectors.now k s).place c.args.place ((point c).1 k s le lt);
+}

@@ -1,0 +1,133 @@
+//! Sight of many points from one station, asked one after another.
+
+ghost use Rattle.std.specs.Prelude.{◌≡◌, ◌<◌, ◌≤◌, length, true};
+ghost use Rattle.std.proofs.Common.{get_or};
+ghost use Rattle.plane_spec.specs.Vectors.{InRange, IsDirection, vector};
+ghost use Rattle.sight_core.specs.Scenes.{IsOfSoundPlan};
+ghost use Rattle.sight_spec.specs.Sight.{are_in_sight};
+ghost use Rattle.view_laws.specs.declared.view.Sector.{Sector};
+ghost use Rattle.view_laws.specs.Views as views;
+ghost use Rattle.view_laws.specs.Views.{AreInOrder, is_in_arc, radial_by};
+ghost use Rattle.sight_sweep.specs.Answers.{IsOther, IsSeenFrom};
+ghost use Rattle.sight_sweep.specs.Told.{IsCount, IsTold, radial};
+ghost use Rattle.sight_sweep.specs.declared.told.Told.{Told};
+
+use crate::bearing::{Bearing, place_by, way_between};
+use crate::reach::{count_up_to, is_led_into, is_seen_by, told_between, told_by};
+use crate::table::SceneTable;
+use plane_spec::Point;
+use view_laws::{Arc, Sector, View};
+
+/// Whether the sector of the number, if there is one, has a place up to this one.
+fn is_reached(sectors: &[Sector], number: usize, place: u64) -> bool
+    ensures { result ≡ true → number < length sectors.now → (s : Sector)
+        → (get_or sectors.now number s).place ≤ place }
+{
+    match sectors.get(number) {
+        None => true,
+        Some(sector) => sector.place <= place,
+    }
+}
+
+/// Whether the sector of the number, if there is one, has a place past this one.
+fn is_beyond(sectors: &[Sector], number: usize, place: u64) -> bool
+    ensures { result ≡ true → number < length sectors.now → (s : Sector)
+        → place < (get_or sectors.now number s).place }
+{
+    match sectors.get(number) {
+        None => true,
+        Some(sector) => place < sector.place,
+    }
+}
+
+/// Whether so many of the sectors, and no more, have a place up to this one.
+fn is_count(sectors: &[Sector], place: u64, count: usize) -> bool
+    requires order { AreInOrder sectors.now }
+    ensures { result ≡ true → IsCount sectors.now place count }
+{
+    if sectors.len() < count || !is_beyond(sectors, count, place) {
+        return false;
+    }
+    if count == 0 {
+        return true;
+    }
+    is_reached(sectors, count - 1, place)
+}
+
+/// How many of the sectors have a place up to this one. It comes sooner where it is `near`, or one less.
+fn count_near(sectors: &[Sector], place: u64, near: usize) -> usize
+    requires order { AreInOrder sectors.now }
+    ensures { IsCount sectors.now place result }
+{
+    if is_count(sectors, place, near) {
+        return near;
+    }
+    if near == 0 {
+        return count_up_to(sectors, place);
+    }
+    if is_count(sectors, place, near - 1) {
+        return near - 1;
+    }
+    count_up_to(sectors, place)
+}
+
+/// Whether the point at `d` is seen, where `place` is that of its direction and so many sectors have a place up to it.
+///
+/// Most points are in no corner's direction, and then less is asked of what is told.
+fn is_seen_after(view: &View, place: u64, count: usize, begins: bool, d: Point) -> bool
+    requires order { AreInOrder view.now.sectors.items }
+    requires count { IsCount view.now.sectors.items place count }
+    requires d_in { IsDirection d }
+    requires told_in { (told : Told) → radial told ≡ radial_by view.now.before view.now.sectors.items place
+        → IsTold d told }
+    ensures { result ≡ views.is_seen_by begins (radial_by view.now.before view.now.sectors.items place) d }
+{
+    if count == 0 {
+        return is_seen_by(begins, told_between(view.before), d);
+    }
+    let sector = &view.sectors[count - 1];
+    if place == sector.place {
+        return is_seen_by(begins, told_by(sector, place), d);
+    }
+    is_seen_by(begins, told_between(sector.after), d)
+}
+
+/// Whether a point is seen, and how many sectors the view has up to it.
+#[derive(Clone, Copy, Debug)]
+pub struct Sighting {
+    /// Whether the point is seen.
+    pub is_seen: bool,
+    /// How many of the view's sectors have a direction up to that of the point.
+    pub near: usize,
+}
+
+/// What a view from `p` tells of a point in its arc: whether it is seen. The answer doesn't hang on the bearing nor on
+/// `near`, but comes sooner where the bearing is that of the point's direction, and `near` that of an answer for a point
+/// beside it.
+///
+/// Cost: constant where both are so, and otherwise a division and a search in the sectors.
+pub fn sight_by(
+    table: &SceneTable,
+    p: Point,
+    arc: Arc,
+    view: &View,
+    q: Point,
+    bearing: Option<Bearing>,
+    near: usize,
+) -> Sighting
+    requires p_in { InRange p }
+    requires of_plan { IsOfSoundPlan table.now }
+    requires view { IsSeenFrom table.now p arc view.now }
+    requires other { IsOther p q }
+    requires in_arc { is_in_arc arc (vector p q) ≡ true }
+    ensures { result.is_seen ≡ are_in_sight table.now p q }
+{
+    let d = way_between(p, q);
+    let place = place_by(bearing, d);
+    let count = count_near(&view.sectors, place, near);
+    let begins = is_led_into(view.ground, d);
+    Sighting {
+        is_seen: is_seen_after(view, place, count, begins, d),
+        near: count,
+    }
+}
