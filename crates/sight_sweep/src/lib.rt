@@ -8,6 +8,7 @@
 //! | [`Target`], [`Answer`] | a point or a ray that is asked for, and what is answered |
 //! | [`sweep`] | answers all targets from one point |
 //! | [`sight_by`], [`Sighting`], [`Bearing`], [`bearing_between`] | whether a view sees a point, asked of many points in turn |
+//! | [`place_of`] | the place of a direction on the circle, as a number |
 //! | [`Steps`] | how many sweeps were made |
 //! | [`types_are_shared`] | all of these may be shared between threads |
 //!
@@ -57,6 +58,7 @@ pub use answers::Answer;
 pub use bearing::{Bearing, bearing_between};
 pub use count::Steps;
 pub use looking::look;
+pub use places::place_of;
 pub use row::{Sighting, sight_by};
 pub use shared::types_are_shared;
 pub use sight_spec::Target;

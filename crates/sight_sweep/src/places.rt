@@ -76,7 +76,7 @@ fn turned(quarters: u64, part: u64) -> u64
 ///
 /// Cost: one division.
 #[tactic(auto, unfolding(turn_laws::specs::Places::place_of))]
-pub(crate) fn place_of(d: Point) -> u64
+pub fn place_of(d: Point) -> u64
     requires d_in { IsDirection d }
     requires directed { IsDirected d }
     ensures value { result ≡ places.place_of d }
