@@ -3,6 +3,8 @@
 //! | item | what it is |
 //! |---|---|
 //! | [`graph_by_looks`] | the visibility graph of a plan |
+//! | [`later_in_sight`] | the later points of the grid that one point sees, all by one look |
+//! | [`GridTable`], [`grid_table_of`] | the points of a grid with what looks at them need: made once, used for each point |
 //! | [`later_points_are_above`] | a point of the grid sees those of greater numbers within one half turn |
 //!
 //! ```text
@@ -12,10 +14,12 @@
 //! ```
 #![tactic(auto)]
 
+mod grid_table;
 mod laws;
 mod looks;
 #[cfg(test)]
 mod tests;
 
+pub use grid_table::{GridTable, grid_table_of};
 pub use laws::later_points_are_above;
-pub use looks::graph_by_looks;
+pub use looks::{graph_by_looks, later_in_sight};

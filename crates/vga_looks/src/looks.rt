@@ -1,69 +1,114 @@
 //! The visibility graph by looks.
 
 ghost use Rattle.std.specs.Prelude.{◌≡◌, ◌<◌, IfOk, false, length, slice_index_or, true};
-ghost use Rattle.plane_spec.specs.Vectors.{InRange, is_upper, same_point, vector};
-ghost use Rattle.sight_core.specs.Scenes.{IsOfSoundPlan};
+ghost use Rattle.plan_spec.specs.Accepted.{is_sound};
+ghost use Rattle.plan_spec.specs.Grid.{grid_points};
 ghost use Rattle.sight_spec.specs.Scene.{scene_of};
-ghost use Rattle.sight_spec.specs.Sight.{are_in_sight};
 ghost use Rattle.sight_spec.specs.Visibility.{visibility_graph};
 ghost use Rattle.sight_sweep.specs.Answers.{IsSeenFrom};
+ghost use Rattle.sight_sweep.specs.Steps.{one_more};
 ghost use Rattle.vga_grid.specs.Rows.{graph_of};
+ghost use Rattle.vga_looks.specs.Tables as tables;
+ghost use Rattle.vga_looks.specs.Tables.{is_seen_later, nowhere, seen_later};
+ghost use Rattle.std.proofs.Common.{get_or};
 
+use crate::grid_table::{GridTable, grid_table_of};
 use plan_check::Plan;
-use plane_spec::Point;
 use sight_core::Scene;
-use sight_sweep::{Answer, Arc, SceneTable, Steps, Target, View, answer_by, look, table_of};
+use sight_sweep::{Arc, SceneTable, Sighting, Steps, View, look, sight_by, table_of};
 use std::alloc::Global;
 use text_spec::NoMemory;
-use vga_grid::{BitGraph, Grid, openness};
+use vga_grid::{BitGraph, Grid};
 
-/// Whether the point of this number is open.
-fn is_open(flags: &[bool], number: u32) -> bool
-    requires within { number < length flags.now }
-    ensures { result ≡ slice_index_or flags.now number false }
+/// Whether the later point of the number `j` is open and seen from the open point of the number `i`, by the view from
+/// there. `near` is what was answered for the point before.
+fn sees_later(
+    plan: &Plan,
+    table: &SceneTable,
+    grid: &GridTable,
+    view: &View,
+    i: u32,
+    j: u32,
+    near: usize,
+) -> Sighting
+    requires scene { table.now ≡ scene_of plan.now }
+    requires grid { grid.now ≡ tables.grid_table_of plan.now }
+    requires sound { is_sound plan.now ≡ true }
+    requires later { i < j }
+    requires j_in { j < length (grid_points plan.now.grid) }
+    requires looker_open { slice_index_or grid.now.are_open i false ≡ true }
+    requires view { IsSeenFrom table.now (get_or grid.now.points i nowhere) Arc.Later view.now }
+    ensures { result.is_seen ≡ is_seen_later plan.now i j }
 {
-    flags[number as usize]
+    if !grid.is_open(j) {
+        return Sighting {
+            is_seen: false,
+            near,
+        };
+    }
+    let here = grid.point(i);
+    let there = grid.point(j);
+    let bearing = grid.bearing(i, j, there.x < here.x);
+    sight_by(table, here, Arc::Later, view, there, bearing, near)
 }
 
-/// Whether a point in the upper half turn is seen, by the view from `here`.
-fn sees(table: &SceneTable, here: Point, view: &View, there: Point) -> bool
-    requires here_in { InRange here }
-    requires there_in { InRange there }
-    requires of_plan { IsOfSoundPlan table.now }
-    requires view { IsSeenFrom table.now here Arc.Later view.now }
-    requires above { is_upper (vector here there) ≡ true }
-    ensures { result ≡ are_in_sight table.now here there }
+/// Of each point of a plan's grid, whether it is a later one than the open point of the number and seen from it: one
+/// look for all. The table is that of the plan's scene, and the grid's that of its grid. Counts one sweep, whatever it
+/// answers.
+///
+/// Cost: a look, and for each later open point a constant where points of one row stand between the same sectors.
+pub fn later_in_sight(
+    alloc: Global,
+    plan: &Plan,
+    table: &SceneTable,
+    grid: &GridTable,
+    i: u32,
+    steps: &mut Steps,
+) -> Result<Vec<bool>, NoMemory>
+    requires scene { table.now ≡ scene_of plan.now }
+    requires grid { grid.now ≡ tables.grid_table_of plan.now }
+    requires within { i < length (grid_points plan.now.grid) }
+    requires looker_open { slice_index_or grid.now.are_open i false ≡ true }
+    ensures row { IfOk result (λ row. row.items ≡ seen_later plan.now i (length (grid_points plan.now.grid))) }
+    ensures counted { steps.new ≡ one_more steps.old }
 {
-    match answer_by(table, here, Arc::Later, view, &Target::Point(there)) {
-        Answer::Seen(seen) => seen,
-        Answer::Reach { .. } => false,
+    let view = look(alloc, table, grid.point(i), Arc::Later, steps)?;
+    let count = Grid::of(plan).count();
+    let mut row = Vec::with_capacity(alloc, count as usize)?;
+    for _earlier in 0..i + 1 {
+        row.push(false)?;
     }
+    let mut near = 0;
+    for j in i + 1..count {
+        let sighting = sees_later(plan, table, grid, &view, i, j, near);
+        near = sighting.near;
+        row.push(sighting.is_seen)?;
+    }
+    Ok(row)
 }
 
 /// The visibility graph of a plan: its nodes are the points of the grid, and it joins those that are open and see each
 /// other. The scene is the plan's.
 ///
-/// Cost: a test of openness for each point, a look from each open one, and for each pair of open points a search in the
-/// sectors of that look.
+/// Cost: a test of openness for each point, and for each open one a look and a step for each point.
 ///
 /// Source: visibility graphs after Turner, Doxa, O'Sullivan and Penn (2001).
 pub fn graph_by_looks(alloc: Global, plan: &Plan, scene: &Scene) -> Result<BitGraph, NoMemory>
     requires { scene.now ≡ scene_of plan.now }
     ensures { IfOk result (λ graph. graph_of graph ≡ visibility_graph plan.now) }
 {
-    let grid = Grid::of(plan);
-    let flags = openness(alloc, plan, &grid)?;
+    let grid = grid_table_of(alloc, plan)?;
     let table = table_of(alloc, scene)?;
     let mut steps = Steps::new();
-    let mut graph = BitGraph::empty(alloc, grid.count())?;
-    for i in 0..grid.count() {
-        if !is_open(&flags, i) {
+    let count = Grid::of(plan).count();
+    let mut graph = BitGraph::empty(alloc, count)?;
+    for i in 0..count {
+        if !grid.is_open(i) {
             continue;
         }
-        let here = grid.place(i);
-        let view = look(alloc, &table, here, Arc::Later, &mut steps)?;
-        for j in i + 1..grid.count() {
-            if is_open(&flags, j) && sees(&table, here, &view, grid.place(j)) {
+        let row = later_in_sight(alloc, plan, &table, &grid, i, &mut steps)?;
+        for j in i + 1..count {
+            if row[j as usize] {
                 graph.join_pair(i, j);
             }
         }
