@@ -1,13 +1,13 @@
 -- A change that is made: the way back from it goes to the end of the past, and nothing is left to redo.
-use Rattle.std.specs.Prelude.{◌≡◌, ℕ, ◌+◌, ◌-◌, List, [], ◌∷◌, ◌++◌, length}
-use Rattle.std.proofs.Common.{refl, sym, ap, ◌∙◌, arith}
+use Rattle.std.specs.Prelude.{◌≡◌, ℕ, ◌-◌, List, [], ◌∷◌, ◌++◌, length}
+use Rattle.std.proofs.Common.{ap, ◌∙◌, arith}
 use Rattle.circular_buffer.specs.Buffer.{Buffer, buffer, keep_last}
 use Rattle.plan_spec.specs.Plan.{Plan}
 use Rattle.plan_back.specs.declared.back.Back.{Back}
-use Rattle.plan_undo.specs.History.{History, changed}
+use Rattle.plan_undo.specs.History.{changed}
 use Rattle.plan_undo.specs.Ways.{IsWayBack, AreKept, history_of, plans_of}
 use Rattle.plan_undo.proofs.Ends.{kept_length}
-use Rattle.plan_undo.proofs.Ways.{plans_with_way_back, ways_with_way_back, ways_dropped, plans_kept}
+use Rattle.plan_undo.proofs.Leads.{plans_with_way_back, ways_with_way_back, ways_dropped, plans_kept}
 
 module _ (p q : Plan) (past next : Buffer Back) (name : List ℕ) (other : Back) (w : IsWayBack p q name other) where
   abbrev past_after : Buffer Back

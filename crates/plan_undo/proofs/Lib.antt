@@ -1,4 +1,5 @@
 pub mod Ends
-pub mod Ways
+pub mod Leads
 pub mod Changes
 pub mod Steps
+pub mod Undoing

@@ -1,15 +1,14 @@
 -- A step through the history, either way.
-use Rattle.std.specs.Prelude.{◌≡◌, ℕ, ◌+◌, List, [], ◌∷◌, ◌++◌, length, Some}
+use Rattle.std.specs.Prelude.{◌≡◌, ℕ, ◌+◌, List, [], ◌∷◌, ◌++◌, length, Option, Some, None, Result, Ok, Err, IfOk, OnErr}
 use Rattle.std.proofs.Common.{refl, sym, ap, ap₂, subst, ◌∙◌, arith}
 use Rattle.std.proofs.lemmas.List.{length-append}
 use Rattle.circular_buffer.specs.Buffer.{Buffer, last_item}
 use Rattle.plan_spec.specs.Plan.{Plan}
 use Rattle.plan_back.specs.declared.back.Back.{Back}
-use Rattle.plan_back.specs.Backs.{name_of}
 use Rattle.plan_undo.specs.History.{History, undone, undone_to, redone, redone_to, without_last}
-use Rattle.plan_undo.specs.Ways.{IsWayBack, IsStep, AreWays, AreKept, history_of, plans_of}
-use Rattle.plan_undo.proofs.Ends.{last_of, without_of}
-use Rattle.plan_undo.proofs.Ways.{plans_first, ways_without_first, plans_with_way_back, ways_with_way_back}
+use Rattle.plan_undo.specs.Ways.{IsStep, AreWays, AreKept, history_of, plans_of}
+use Rattle.plan_undo.proofs.Ends.{last_of, without_of, no_last}
+use Rattle.plan_undo.proofs.Leads.{plans_first, ways_without_first, plans_with_way_back, ways_with_way_back}
 
 -- ---- the ring from which the step came, and the one to which it went
 
@@ -82,3 +81,49 @@ module _ (p q : Plan) (past past_new next next_new : Buffer Back) (name : List �
       (more_to p q next.items next_new.items past.items past_new.items name s)
       (rest_from p q next.items next_new.items past.items past_new.items name s)
       ∙ ap (λ n. Some (name, record { depth = n; now = q; past = plans_of q past_new.items; next = plans_of q next_new.items })) (sym same_past)
+
+-- ---- with any answer
+
+module _ {X : Type 0} (p q : Plan) (past past_new next next_new : Buffer Back)
+    (same_past : past_new.capacity ≡ past.capacity) (same_next : next_new.capacity ≡ next.capacity) (k : AreKept p past next) where
+  pub kept_after_undo : (r : Result (List ℕ) X) → IfOk r (IsStep p q past.items past_new.items next.items next_new.items)
+      → OnErr r (q ≡ p) → OnErr r (past_new ≡ past) → OnErr r (next_new ≡ next) → AreKept q past_new next_new
+  kept_after_undo (Ok name) s plan from to = kept_when_undone p q past past_new next next_new name same_past same_next k s
+  kept_after_undo (Err fault) s plan from to = rw (plan, from, to) k
+
+  pub kept_after_redo : (r : Result (List ℕ) X) → IfOk r (IsStep p q next.items next_new.items past.items past_new.items)
+      → OnErr r (q ≡ p) → OnErr r (next_new ≡ next) → OnErr r (past_new ≡ past) → AreKept q past_new next_new
+  kept_after_redo (Ok name) s plan from to = kept_when_redone p q past past_new next next_new name same_past same_next k s
+  kept_after_redo (Err fault) s plan from to = rw (plan, from, to) k
+
+-- ---- nothing to undo or redo
+
+no_plans : (p : Plan) (backs : List Back) → plans_of p backs ≡ [] → backs ≡ []
+unfolding plans_of
+no_plans p [] e = refl
+no_plans p (b ∷ backs) e = cc
+
+undone_from : (h : History) (o : Option (Plan × List ℕ)) → undone_to h o ≡ None → o ≡ None
+undone_from h None e = refl
+undone_from h (Some last) e = cc
+
+redone_from : (h : History) (o : Option (Plan × List ℕ)) → redone_to h o ≡ None → o ≡ None
+redone_from h None e = refl
+redone_from h (Some last) e = cc
+
+module _ (p : Plan) (past next : Buffer Back) where
+  pub nothing_to_undo : past.items ≡ [] → undone (history_of p past next) ≡ None
+  unfolding undone plans_of
+  nothing_to_undo e = ap (λ backs. undone_to (history_of p past next) (last_item (plans_of p backs))) e
+
+  pub no_past : undone (history_of p past next) ≡ None → past.items ≡ []
+  unfolding undone
+  no_past e = no_plans p past.items (no_last (plans_of p past.items) (undone_from (history_of p past next) (last_item (plans_of p past.items)) e))
+
+  pub nothing_to_redo : next.items ≡ [] → redone (history_of p past next) ≡ None
+  unfolding redone plans_of
+  nothing_to_redo e = ap (λ backs. redone_to (history_of p past next) (last_item (plans_of p backs))) e
+
+  pub no_next : redone (history_of p past next) ≡ None → next.items ≡ []
+  unfolding redone
+  no_next e = no_plans p next.items (no_last (plans_of p next.items) (redone_from (history_of p past next) (last_item (plans_of p next.items)) e))

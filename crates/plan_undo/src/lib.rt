@@ -21,4 +21,3 @@ mod ways;
 pub use faults::UndoFault;
 pub use laws::undoing_gives_back;
 pub use undo::Undo;
-

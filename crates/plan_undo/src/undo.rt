@@ -2,7 +2,7 @@
 
 use crate::faults::UndoFault;
 use crate::stepping::step;
-use crate::ways::{way_back, way_back_of_edit};
+use crate::ways::{keep_way_back, way_back, way_back_of_edit};
 use circular_buffer::HeapCircularBuffer;
 use plan_back::{Back, Editor};
 use plan_check::{EditFault, Plan};
@@ -86,16 +86,14 @@ impl<E: Editor> Editor for Undo<E> {
     fn apply_edit(&mut self, alloc: Global, edit: &Edit) -> Result<(), EditFault> {
         let other = way_back_of_edit(alloc, self.editor.plan_now(), edit)?;
         self.editor.apply_edit(alloc, edit)?;
-        self.past.push_back(other);
-        self.next.clear();
+        keep_way_back(&mut self.past, &mut self.next, other);
         Ok(())
     }
 
     fn apply_back(&mut self, alloc: Global, back: &Back) -> Result<(), EditFault> {
         let other = way_back(alloc, self.editor.plan_now(), back)?;
         self.editor.apply_back(alloc, back)?;
-        self.past.push_back(other);
-        self.next.clear();
+        keep_way_back(&mut self.past, &mut self.next, other);
         Ok(())
     }
 

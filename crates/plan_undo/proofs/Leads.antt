@@ -1,11 +1,16 @@
 -- Changes that lead from one plan to another: one more, and fewer of them.
-use Rattle.std.specs.Prelude.{◌≡◌, ℕ, zero, suc, ◌-◌, ⊤, List, [], ◌∷◌, ◌++◌, length, drop}
-use Rattle.std.proofs.Common.{refl, sym, ap, ap₂, subst, ◌∙◌}
-use Rattle.circular_buffer.specs.Buffer.{keep_last}
+use Rattle.std.specs.Prelude.{◌≡◌, ◌≤◌, ℕ, zero, suc, ◌+◌, ◌-◌, List, [], ◌∷◌, ◌++◌, length, drop, Some, is_none}
+use Rattle.std.proofs.Common.{refl, sym, ap, ap₂, subst, ◌∙◌, arith}
+use Rattle.std.proofs.lemmas.Bool.{false≢true}
+use Rattle.std.proofs.lemmas.List.{length-append}
+use Rattle.circular_buffer.specs.Buffer.{Buffer, keep_last, last_item}
+use Rattle.plan_spec.specs.declared.why.Why.{Why}
 use Rattle.plan_spec.specs.Plan.{Plan}
 use Rattle.plan_back.specs.declared.back.Back.{Back}
-use Rattle.plan_back.specs.Backs.{name_of, plan_after_back}
+use Rattle.plan_back.specs.Backs.{name_of, plan_after_back, why_not_back}
+use Rattle.plan_undo.specs.History.{without_last}
 use Rattle.plan_undo.specs.Ways.{IsWay, IsWayBack, AreWays, led, plans_of}
+use Rattle.plan_undo.proofs.Ends.{last_splits, all_kept}
 
 -- ---- a change that is made first
 
@@ -66,3 +71,19 @@ pub plans_kept : (p : Plan) (n : ℕ) (backs : List Back) → plans_of p (keep_l
 plans_kept p n backs =
     plans_dropped p (length backs - n) backs
     ∙ ap (λ k. drop (k - n) (plans_of p backs)) (sym (plans_length p backs))
+
+-- ---- the one that is made first
+
+-- it is a way on from the plan
+pub last_way : (p : Plan) (backs : List Back) (c : Back) → AreWays p backs → last_item backs ≡ Some c → IsWay p c
+last_way p backs c h last = (ways_without_first p (without_last backs) c (subst (AreWays p) (last_splits backs c last) h)).1
+
+-- so it isn't refused
+pub cant_be_refused : (p : Plan) (c : Back) (why : Why) → IsWay p c → why_not_back p c ≡ Some why → ⊥
+cant_be_refused p c why way refused = false≢true (sym (ap is_none refused) ∙ ap is_none way.valid)
+
+-- where one is taken out of the one list, there is room for one more in the other
+pub one_more_kept : (from : List Back) (c : Back) (to : Buffer Back) (other : Back) → from ≡ without_last from ++ c ∷ []
+    → length from + length to.items ≤ to.capacity → keep_last to.capacity (to.items ++ other ∷ []) ≡ to.items ++ other ∷ []
+one_more_kept from c to other splits room =
+    all_kept to.capacity (to.items ++ other ∷ []) (omega (arith, room, ap length splits, length-append (without_last from) (c ∷ []), length-append to.items (other ∷ [])))
