@@ -1,20 +1,19 @@
-//! Changes that are made and taken back, on a small plan, with ample memory.
+//! Rows of tables, and the plans and edits that they stand for.
 
 ghost use Rattle.std.specs.Prelude.{IfOk};
 ghost use Rattle.plan_spec.specs.Edits.{HasShift};
 
-use crate::{back_of, inverse, with_back};
 use plan_check::*;
 use plane_spec::Point;
 use std::alloc::Global;
 use std::test::Fail;
 use text_spec::Name;
 
-type Pair = (i64, i64);
+pub(crate) type Pair = (i64, i64);
 
 /// An item to add, with two corners of a box or two ends, a name to remove, or a shift.
 #[derive(Clone, Copy)]
-enum Row {
+pub(crate) enum Row {
     Box(&'static str, Pair, Pair),
     Remove(&'static str),
     Move(&'static str, i64),
@@ -35,22 +34,6 @@ const PARTS: [Row; 9] = [
     Row::Route("G", (0, 0), (9, 9)),
     Row::Route("H", (0, 1), (9, 10)),
     Row::Route("I", (0, 2), (9, 11)),
-];
-
-/// Each change, and what it leaves: the names in order.
-const CHANGES: [(Row, &'static str); 12] = [
-    (Row::Box("J", (13, 1), (15, 3)), "ABCJDEFGHI"),
-    (Row::Remove("A"), "BCDEFGHI"),
-    (Row::Remove("B"), "ACDEFGHI"),
-    (Row::Remove("C"), "ABDEFGHI"),
-    (Row::Move("B", 1), "ABCDEFGHI"),
-    (Row::Screen("J", (13, 9), (15, 9)), "ABCDEFJGHI"),
-    (Row::RemoveScreen("D"), "ABCEFGHI"),
-    (Row::RemoveScreen("E"), "ABCDFGHI"),
-    (Row::Route("J", (0, 3), (9, 12)), "ABCDEFGHIJ"),
-    (Row::RemoveRoute("G"), "ABCDEFHI"),
-    (Row::RemoveRoute("H"), "ABCDEFGI"),
-    (Row::RemoveRoute("I"), "ABCDEFGH"),
 ];
 
 fn name(text: &str) -> Result<Name, Fail> {
@@ -83,7 +66,7 @@ fn moved(name: Name, dx: i64) -> Result<Edit, Fail>
     }
 }
 
-fn edit(alloc: Global, row: Row) -> Result<Edit, Fail>
+pub(crate) fn edit(alloc: Global, row: Row) -> Result<Edit, Fail>
     ensures shift { IfOk result HasShift }
 {
     match row {
@@ -97,11 +80,16 @@ fn edit(alloc: Global, row: Row) -> Result<Edit, Fail>
     }
 }
 
-/// The plan of all parts, made by edits.
-fn made(alloc: Global) -> Result<Plan, Fail> {
+/// The plan of the box from (0,0) to (20,20) alone.
+pub(crate) fn outline(alloc: Global) -> Result<Plan, Fail> {
     let mut items = Items::new(alloc);
     items.push(Item::Outer(box_points(alloc, (0, 0), (20, 20))?))?;
-    let mut plan = check(alloc, &PlanData { items }).ok().ok_or("no plan")?;
+    Ok(check(alloc, &PlanData { items }).ok().ok_or("no plan")?)
+}
+
+/// The plan of all parts, made by edits.
+pub(crate) fn made(alloc: Global) -> Result<Plan, Fail> {
+    let mut plan = outline(alloc)?;
     for row in PARTS {
         let edit = edit(alloc, row)?;
         plan = plan.with(alloc, &edit).ok().ok_or("a part is refused")?;
@@ -110,7 +98,7 @@ fn made(alloc: Global) -> Result<Plan, Fail> {
 }
 
 /// The names of the plan's obstacles, screens and routes, and how far right each obstacle begins.
-fn names(alloc: Global, plan: &Plan) -> Result<(Vec<u8>, Vec<i64>), Fail> {
+pub(crate) fn names(alloc: Global, plan: &Plan) -> Result<(Vec<u8>, Vec<i64>), Fail> {
     let mut names = Vec::new(alloc);
     let mut lefts = Vec::new(alloc);
     for k in 0..plan.obstacles() {
@@ -124,36 +112,4 @@ fn names(alloc: Global, plan: &Plan) -> Result<(Vec<u8>, Vec<i64>), Fail> {
         names.extend_from_slice(plan.route(k).name.bytes())?;
     }
     Ok((names, lefts))
-}
-
-/// The plan after the edit, made as a change that names places, and the one after its inverse.
-fn there_and_back(alloc: Global, plan: &Plan, edit: &Edit) -> Result<(Plan, Plan), Fail>
-    requires shift { HasShift edit.now }
-{
-    let back = back_of(alloc, plan, edit)?;
-    let other = inverse(alloc, plan, &back)?;
-    let Ok(after) = with_back(alloc, plan, &back) else {
-        return Err("a change is refused")?;
-    };
-    let Ok(again) = with_back(alloc, &after, &other) else {
-        return Err("an inverse is refused")?;
-    };
-    Ok((after, again))
-}
-
-#[test]
-fn each_change_is_taken_back(rt: HostRuntime) -> Result<(), Fail> {
-    let alloc = rt.alloc();
-    let plan = made(alloc)?;
-    let at_first = names(alloc, &plan)?;
-    for (row, left) in CHANGES {
-        let edit = edit(alloc, row)?;
-        let (after, again) = there_and_back(alloc, &plan, &edit)?;
-        let found = names(alloc, &after)?;
-        assert!(rt; found.0.as_slice() == left.as_bytes());
-        let found = names(alloc, &again)?;
-        assert!(rt; found.0.as_slice() == at_first.0.as_slice());
-        assert!(rt; found.1.as_slice() == at_first.1.as_slice());
-    }
-    Ok(())
 }
