@@ -2,7 +2,7 @@
 use Rattle.std.proofs.Common.{◌≡◌, ◌≢◌, ◌∙◌, ℕ, zero, suc, ◌+◌, ◌-◌, ◌<◌, ◌≤◌, ℤ, pos, ◌+ℤ◌, ◌*ℤ◌, ◌<ℤ◌, List, [], ◌∷◌, map, get_or, length, refl, sym, ap}
 use Rattle.std.proofs.Common.{subst, arith}
 use Rattle.std.specs.Ordering.{int_eq}
-use Rattle.std.specs.Prelude.{Bool, true, false, ◌||◌, cond, not, int_lt, int_le, unsigned_abs, Option, Some, None}
+use Rattle.std.specs.Prelude.{Bool, true, false, cond, not, int_lt, int_le, unsigned_abs, Option, Some, None}
 use Rattle.std.specs.Option.{option_map}
 use Rattle.std.specs.List.Sorted.{IsNonDecreasingBy}
 use Rattle.std.proofs.lemmas.Int.{ints}
@@ -12,10 +12,9 @@ use Rattle.plane_spec.specs.Vectors.{point, vector, cross_of, dot_of, turns_left
 use Rattle.plane_spec.specs.Cones.{IsCornerInRange}
 use Rattle.plane_spec.specs.Segments.{IsSegmentInRange}
 use Rattle.plane_spec.specs.Fractions.{Fraction, is_before, reduced, whole}
-use Rattle.sight_spec.specs.Scene.{Scene, blockers_of_scene}
-use Rattle.sight_spec.specs.Stops.{stop_of, near_wall_of, ray_hit}
-use Rattle.sight_spec.specs.Isovist as isovists
-use Rattle.sight_spec.specs.Isovist.{sum_of, stops_at_once, wall_by, wall_between, sector_in}
+use Rattle.sight_spec.specs.Scene.{Scene}
+use Rattle.sight_spec.specs.Stops.{stop_of}
+use Rattle.sight_spec.specs.Isovist.{sum_of, stops_at_once, wall_between, sector_in}
 use Rattle.sight_core.specs.Scenes.{IsOfSoundPlan}
 use Rattle.sight_core.proofs.Seen.{corners-in_range, walls-in_range}
 use Rattle.front_laws.specs.Seen.{Seen, nowhere}
@@ -29,7 +28,7 @@ use Rattle.view_laws.specs.declared.view.Front.{Front}
 use Rattle.view_laws.specs.declared.view.Ground.{Ground}
 use Rattle.view_laws.specs.declared.view.Sector.{Sector}
 use Rattle.view_laws.specs.declared.view.View.{View}
-use Rattle.view_laws.specs.Views.{IsViewOf, Radial, IsRadial, IsSoFarOrNone, corner_by, front_of, hit_by, is_led_into}
+use Rattle.view_laws.specs.Views.{IsViewOf, IsRadial, IsSoFarOrNone, corner_by, front_of, hit_by, is_led_into}
 use Rattle.view_laws.specs.Views.{AreInOrder, is_in_arc, length_of, radial_at, radial_between, radial_by, number_by, radial_of, stop_by}
 use Rattle.view_laws.proofs.Answers.{ahead_along}
 use Rattle.view_laws.proofs.Cursor.{near_wall_by_view, radial_before, radial_from, stop_by_view}

@@ -13,6 +13,7 @@ ghost use Rattle.isovist_core.specs.Headings.{step_of, tied, comes_before};
 
 use crate::heading::Heading;
 use crate::places::place_of;
+use crate::room::with_room;
 use exact_geom::{same_point, vector};
 use plane_spec::{Corner, Point};
 use sight_core::Scene;
@@ -53,8 +54,8 @@ fn headings_to_corners(alloc: Global, scene: &Scene, p: Point) -> Result<Vec<Hea
     ensures vectors { IfOk result (λ headings. map step_of headings.items ≡ vectors_to_corners scene.now p) }
     ensures of_plan { IsOfSoundPlan scene.now }
 {
-    let mut headings = Vec::new(alloc);
     let corners = scene.corners();
+    let mut headings = with_room(alloc, corners.len())?;
     for corner in corners {
         put_heading(&mut headings, p, corner)?;
     }

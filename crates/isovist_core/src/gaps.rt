@@ -11,6 +11,7 @@ ghost use Rattle.isovist_core.specs.Gaps.{direction_at, next_of, pair_of};
 
 use crate::gap::Gap;
 use crate::heading::Heading;
+use crate::room::with_room;
 use plane_spec::Point;
 use std::alloc::Global;
 use text_spec::NoMemory;
@@ -42,7 +43,7 @@ fn gap_from(headings: &[Heading], k: usize) -> Gap
 pub(crate) fn gaps_between(alloc: Global, headings: &[Heading]) -> Result<Vec<Gap>, NoMemory>
     ensures { IfOk result (λ gaps. map pair_of gaps.items ≡ gaps_of (map step_of headings.now)) }
 {
-    let mut gaps = Vec::new(alloc);
+    let mut gaps = with_room(alloc, headings.len())?;
     for k in 0..headings.len() {
         gaps.push(gap_from(headings, k))?;
     }

@@ -33,6 +33,7 @@ mod gaps;
 mod heading;
 mod parts;
 mod places;
+mod room;
 mod runs;
 mod seeing;
 mod sighted_run;

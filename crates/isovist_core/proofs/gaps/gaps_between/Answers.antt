@@ -6,7 +6,7 @@ use Rattle.isovist_core.proofs.Lists.{gaps_begin, gaps_step, gaps_end}
 use Rattle.isovist_core.proofs.gaps.gaps_between.Goals as goal
 
 pub loop-k-init : goal.loop-k-init
-loop-k-init c = rw c.new-gaps.ensures.items (gaps_begin (map step_of c.args.headings.now))
+loop-k-init c = rw c.in_ok-gaps.ensures (gaps_begin (map step_of c.args.headings.now))
 
 pub loop-k-preserved : goal.loop-k-preserved
 loop-k-preserved c =

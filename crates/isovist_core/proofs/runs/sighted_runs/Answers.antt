@@ -1,4 +1,4 @@
-use Rattle.std.proofs.Common.{◌≡◌, ◌∙◌, map, subst, sym}
+use Rattle.std.proofs.Common.{◌≡◌, ◌∙◌, map}
 use Rattle.sight_spec.specs.Isovist.{gaps_of, runs_of}
 use Rattle.isovist_core.specs.Headings.{step_of}
 use Rattle.isovist_core.specs.Gaps.{pair_of}
