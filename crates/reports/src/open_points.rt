@@ -79,8 +79,8 @@ impl<'a> Rows for OpenIsovists<'a> {
 /// Prints the table of the isovists of a plan's open grid points, in the order of their numbers: number, number of
 /// triangles, and the sums of the floors and of the ceilings of their doubled areas. The scene is the plan's.
 ///
-/// Cost: a table of the scene, an isovist's totals for each open point, and a call of the sink for each 64 KiB; memory for one isovist's
-/// directions, one row, and in csv form for some thousand records.
+/// Cost: one table of the scene, an isovist's totals for each open point, and a call of the sink for each 64 KiB; memory
+/// for one isovist's directions, one row, and in csv form for some thousand records.
 #[tactic(auto, unfolding(report_spec::specs::Tables::isovists_table))]
 pub fn put_isovists<O: Sink>(
     alloc: Global,
