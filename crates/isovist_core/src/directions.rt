@@ -12,11 +12,11 @@ ghost use Rattle.isovist_laws.specs.Vectors.{is_elsewhere, vectors_to_corners};
 ghost use Rattle.isovist_core.specs.Headings.{step_of, tied, comes_before};
 
 use crate::heading::Heading;
-use crate::places::place_of;
 use crate::room::with_room;
 use exact_geom::{same_point, vector};
 use plane_spec::{Corner, Point};
 use sight_core::Scene;
+use sight_sweep::place_of;
 use std::alloc::Global;
 use std::cmp::Ordering;
 use text_spec::NoMemory;

@@ -32,7 +32,6 @@ mod gap;
 mod gaps;
 mod heading;
 mod parts;
-mod places;
 mod room;
 mod runs;
 mod seeing;

@@ -13,11 +13,10 @@ ghost use Rattle.isovist_core.specs.Shown.{IsCountUpTo, wall_shown};
 
 use crate::gap::Gap;
 use crate::gaps::sum_of;
-use crate::places::place_of;
 use exact_geom::{turns_left, vector};
 use plane_spec::Point;
 use sight_core::in_cone;
-use sight_sweep::{Front, Ground, Sector, View};
+use sight_sweep::{Front, Ground, Sector, View, place_of};
 
 /// Whether a gap is a half turn or more, or one direction round to itself.
 pub(crate) fn is_half_turn(gap: &Gap) -> bool
