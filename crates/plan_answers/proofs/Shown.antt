@@ -1,5 +1,5 @@
 -- What the answer to a shown line says of the line as it stands in the script.
-use Rattle.std.proofs.Common.{◌≡◌, ◌∙◌, ℕ, Bool, true, false, List, [], ◌∷◌, Option, Some, None, Result, Ok, Err, IfOk, OnErr, OnOk, refl, sym, ap, subst}
+use Rattle.std.proofs.Common.{◌≡◌, ◌∙◌, ℕ, Bool, true, false, List, [], ◌∷◌, Option, Some, None, Result, Ok, Err, IfOk, OnErr, OnOk, refl, sym, ap, subst, inr}
 use Rattle.text_spec.specs.Lines.{is_long}
 use Rattle.plan_spec.specs.Plan.{Plan}
 use Rattle.grammar_spec.specs.declared.text_why.TextWhy.TheVariants.{Long}
@@ -12,7 +12,7 @@ use Rattle.dm_io.specs.Streams.{WritesPrefix, appended_to}
 use Rattle.script_loop.specs.Steps.{Shows}
 use Rattle.plan_text.specs.Readings.{IsShown, reading_of_shown}
 use Rattle.reports.specs.declared.fault.ReportFault.{ReportFault}
-use Rattle.plan_answers.specs.Answered.{Answers, Replies}
+use Rattle.plan_answers.specs.Answered.{Answers, Leaves, Replies}
 
 -- ---- the parts of what an answer says
 
@@ -84,13 +84,14 @@ shown_prefix form before after plan number shown s (Err fault) same h =
     λ whole w. subst (λ (t : Step). WritesPrefix before after (records_bytes form t.records)) (same whole w) h
 
 pub shown_leaves : (after plan : Plan) (number : ℕ) (shown : Option (List ℕ)) (s : Step)
-    (result : Result Bool ReportFault) → SameStep plan number shown s → OnOk result (after ≡ s.plan)
+    (result : Result Bool ReportFault) → SameStep plan number shown s → Leaves plan after s result
     → OnOk result ((whole : List ℕ) → Shows whole shown → after ≡ (step plan number whole).plan)
 shown_leaves after plan number shown s (Ok answer) same h =
     λ whole w. h ∙ ap (λ (t : Step). t.plan) (same whole w)
 shown_leaves after plan number shown s (Err fault) same h = tt
 
--- what holds anyway
-pub always : {P : Type 0} (result : Result Bool ReportFault) → P → OnOk result P
-always (Ok answer) h = h
-always (Err fault) h = tt
+-- the plan is the one after the line, whatever is answered
+pub leaves_step : (before after : Plan) (line : Step) (result : Result Bool ReportFault) → after ≡ line.plan
+    → Leaves before after line result
+leaves_step before after line (Ok answer) e = e
+leaves_step before after line (Err fault) e = inr e

@@ -15,7 +15,7 @@ use Rattle.plan_text.specs.Readings.{ReadsLine}
 use Rattle.options_spec.specs.declared.options.Form.{Form}
 use Rattle.report_spec.specs.Replies.{Answer, edit_step, query_step, step_by}
 use Rattle.reports.specs.declared.fault.ReportFault.{ReportFault}
-use Rattle.plan_answers.specs.Answered.{Replies}
+use Rattle.plan_answers.specs.Answered.{Leaves, Replies}
 
 -- the reply to an edit, by why it is refused
 pub edit_replied : (form : Form) (before after : Option (List ℕ)) (plan : Plan) (number : ℕ) (edit : Edit)
@@ -49,10 +49,10 @@ line_replied form before after plan number result reading found e h =
 
 -- the plan that it leaves
 pub line_leaves : (plan after : Plan) (number : ℕ) (result : Result Bool ReportFault)
-    (reading found : Result Line TextWhy) → reading ≡ found → OnOk result (after ≡ (step_by plan number found).plan)
-    → OnOk result (after ≡ (step_by plan number reading).plan)
+    (reading found : Result Line TextWhy) → reading ≡ found → Leaves plan after (step_by plan number found) result
+    → Leaves plan after (step_by plan number reading) result
 line_leaves plan after number result reading found e h =
-    subst (λ r. OnOk result (after ≡ (step_by plan number r).plan)) (sym e) h
+    subst (λ r. Leaves plan after (step_by plan number r) result) (sym e) h
 
 -- ---- faults
 

@@ -1,10 +1,14 @@
 -- What an answer says of the records that were written.
-use Rattle.std.specs.Prelude.{◌≡◌, ℕ, Bool, not, List, Option, Result, Ok, Err}
+use Rattle.std.specs.Prelude.{◌≡◌, ◌⊎◌, ℕ, Bool, not, List, Option, Some, None, Result, Ok, Err}
 use Rattle.plan_spec.specs.Plan.{Plan}
+use Rattle.grammar_spec.specs.declared.script_line.Line.{Line}
 use Rattle.grammar_spec.specs.declared.script_line.Query.{Query}
+use Rattle.grammar_spec.specs.declared.text_why.TextWhy.{TextWhy}
+use Rattle.grammar_spec.specs.declared.text_why.TextWhy.TheVariants.{Long}
 use Rattle.options_spec.specs.declared.options.Form.{Form}
 use Rattle.report_spec.specs.Records.{records_bytes}
-use Rattle.report_spec.specs.Replies.{Step, answer, query_step}
+use Rattle.report_spec.specs.Replies.{Step, answer, query_step, step_by}
+use Rattle.plan_text.specs.Readings.{reading_of_shown}
 use Rattle.dm_io.specs.Streams.{WritesPrefix, appended_to}
 use Rattle.reports.specs.declared.fault.ReportFault.{ReportFault}
 
@@ -17,6 +21,20 @@ Answers form before after records refused (Err fault) = WritesPrefix before afte
 -- so it is with the reply of a line
 abbrev pub Replies : Form → Option (List ℕ) → Option (List ℕ) → Step → Result Bool ReportFault → Type 0
 Replies form before after line result = Answers form before after line.records line.refused result
+
+-- the plan is the one after the line; after a fault it may be as before
+abbrev pub Leaves : Plan → Plan → Step → Result Bool ReportFault → Type 0
+Leaves before after line (Ok answer) = after ≡ line.plan
+Leaves before after line (Err fault) = (after ≡ before) ⊎ (after ≡ line.plan)
+
+-- what a line reads as that is shown without its newline and a carriage return before it, or isn't, since it is too long
+abbrev pub reading : Option (List ℕ) → Result Line TextWhy
+reading (Some shown) = reading_of_shown shown
+reading None = Err Long
+
+-- and what it does
+abbrev pub shown_step : Plan → ℕ → Option (List ℕ) → Step
+shown_step plan number shown = step_by plan number (reading shown)
 
 -- what a line with a question does
 abbrev pub question : Plan → ℕ → Query → Step

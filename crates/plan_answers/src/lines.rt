@@ -8,7 +8,7 @@ ghost use Rattle.plan_text.specs.Readings.{HasShiftInLine, reading_of_shown};
 ghost use Rattle.report_spec.specs.Records.{records_bytes};
 ghost use Rattle.report_spec.specs.Replies.{edit_step, step, step_by};
 ghost use Rattle.reports.specs.Faults.{Counts};
-ghost use Rattle.plan_answers.specs.Answered.{Replies};
+ghost use Rattle.plan_answers.specs.Answered.{Leaves, Replies, shown_step};
 
 use crate::questions::answer_query;
 use crate::replies::{put_done, put_refusal};
@@ -36,7 +36,7 @@ fn answer_edit<O: Sink>(
 ) -> Result<bool, ReportFault>
     requires shift { HasShift edit.now }
     ensures answers { Replies form (O.written out.old) (O.written out.new) (edit_step session.old.plan number edit.now (why_not_edit session.old.plan edit.now)) result }
-    ensures leaves { OnOk result (session.new.plan ≡ (edit_step session.old.plan number edit.now (why_not_edit session.old.plan edit.now)).plan) }
+    ensures leaves { Leaves session.old.plan session.new.plan (edit_step session.old.plan number edit.now (why_not_edit session.old.plan edit.now)) result }
     ensures faults { Counts result (O.faults out.old) (O.faults out.new) }
 {
     match session.apply(alloc, edit) {
@@ -62,7 +62,7 @@ fn answer_read<O: Sink>(
 ) -> Result<bool, ReportFault>
     requires shift { HasShiftInLine line.now }
     ensures answers { Replies form (O.written out.old) (O.written out.new) (step_by session.old.plan number (Ok line.now)) result }
-    ensures leaves { OnOk result (session.new.plan ≡ (step_by session.old.plan number (Ok line.now)).plan) }
+    ensures leaves { Leaves session.old.plan session.new.plan (step_by session.old.plan number (Ok line.now)) result }
     ensures faults { Counts result (O.faults out.old) (O.faults out.new) }
 {
     match line {
@@ -87,7 +87,7 @@ fn answer_shown<O: Sink>(
     out: &mut O,
 ) -> Result<bool, ReportFault>
     ensures answers { Replies form (O.written out.old) (O.written out.new) (step_by session.old.plan number (reading_of_shown bytes.now)) result }
-    ensures leaves { OnOk result (session.new.plan ≡ (step_by session.old.plan number (reading_of_shown bytes.now)).plan) }
+    ensures leaves { Leaves session.old.plan session.new.plan (step_by session.old.plan number (reading_of_shown bytes.now)) result }
     ensures faults { Counts result (O.faults out.old) (O.faults out.new) }
 {
     match read_line(alloc, bytes) {
@@ -103,7 +103,8 @@ fn answer_shown<O: Sink>(
 /// asks for, or `refused N WHY`. Whether it is refused. The line is shown without its newline and a carriage return
 /// before it, or `None` where it was too long.
 ///
-/// After a fault a prefix of the reply was written; and an edit may be made.
+/// After a fault a prefix of the reply was written, and an edit may be made or not. The clauses with `whole` say all of
+/// it once more, of the line as it stands in the script.
 ///
 /// Cost: that of what is asked for, where the session doesn't keep it.
 pub fn answer_line<O: Sink>(
@@ -116,6 +117,8 @@ pub fn answer_line<O: Sink>(
     line: Option<&[u8]>,
     out: &mut O,
 ) -> Result<bool, ReportFault>
+    ensures answers { Replies form (O.written out.old) (O.written out.new) (shown_step session.old.plan number (option_map (λ bytes. bytes.now) line.entry)) result }
+    ensures after { Leaves session.old.plan session.new.plan (shown_step session.old.plan number (option_map (λ bytes. bytes.now) line.entry)) result }
     ensures written { OnOk result ((whole : List ℕ) → Shows whole (option_map (λ bytes. bytes.now) line.entry) → O.written out.new ≡ appended_to (O.written out.old) (records_bytes form (step session.old.plan number whole).records)) }
     ensures leaves { OnOk result ((whole : List ℕ) → Shows whole (option_map (λ bytes. bytes.now) line.entry) → session.new.plan ≡ (step session.old.plan number whole).plan) }
     ensures refused { IfOk result (λ refused. (whole : List ℕ) → Shows whole (option_map (λ bytes. bytes.now) line.entry) → refused ≡ (step session.old.plan number whole).refused) }

@@ -1,8 +1,9 @@
-use Rattle.std.proofs.Common.{◌≡◌, Some, ap}
+use Rattle.std.proofs.Common.{◌≡◌, Some, ap, inl}
 use Rattle.plan_spec.specs.Edits.{why_not_edit}
 use Rattle.plan_edit.specs.Sessions.{Session}
+use Rattle.report_spec.specs.Replies.{edit_step}
 use Rattle.plan_answers.proofs.Printed.{nothing}
-use Rattle.plan_answers.proofs.Shown.{always}
+use Rattle.plan_answers.proofs.Shown.{leaves_step}
 use Rattle.plan_answers.proofs.Stepped.{cause_is, edit_made, edit_refused, edit_replied}
 use Rattle.plan_answers.proofs.lines.answer_edit.Goals as goal
 
@@ -12,7 +13,8 @@ returns-in-Ok-clause-answers g c =
 
 pub returns-in-Ok-clause-leaves : goal.returns-in-Ok-clause-leaves
 returns-in-Ok-clause-leaves g c =
-    always c.put_done.result (edit_made _ _ _ _ _ c.in-Ok.ensures.valid (ap (λ (s : Session). s.plan) c.in-Ok.ensures.session))
+    leaves_step _ _ (edit_step c.args.session.now.plan c.args.number c.args.edit.now (why_not_edit c.args.session.now.plan c.args.edit.now)) c.put_done.result
+    (edit_made _ _ _ _ _ c.in-Ok.ensures.valid (ap (λ (s : Session). s.plan) c.in-Ok.ensures.session))
 
 pub returns-in-Err-Refused-clause-answers : goal.returns-in-Err-Refused-clause-answers
 returns-in-Err-Refused-clause-answers g c =
@@ -23,7 +25,8 @@ returns-in-Err-Refused-clause-answers g c =
 
 pub returns-in-Err-Refused-clause-leaves : goal.returns-in-Err-Refused-clause-leaves
 returns-in-Err-Refused-clause-leaves g c =
-    always c.put_refusal.result (edit_refused _ _ _ _ _ _
+    leaves_step _ _ (edit_step c.args.session.now.plan c.args.number c.args.edit.now (why_not_edit c.args.session.now.plan c.args.edit.now)) c.put_refusal.result
+    (edit_refused _ _ _ _ _ _
     (cause_is c.in-Err-Refused.field-0 c.in-Err-Refused.why (λ w. why_not_edit c.args.session.now.plan c.args.edit.now ≡ Some w)
     c.in-Err-Refused.field-0-is c.in-Err-Refused.ensures.refused)
     (ap (λ (s : Session). s.plan) c.in-Err-Refused.ensures.refused_stays))
@@ -31,3 +34,7 @@ returns-in-Err-Refused-clause-leaves g c =
 pub returns-in-Err-NoMemory-clause-answers : goal.returns-in-Err-NoMemory-clause-answers
 returns-in-Err-NoMemory-clause-answers g c =
     nothing _ _
+
+pub returns-in-Err-NoMemory-clause-leaves : goal.returns-in-Err-NoMemory-clause-leaves
+returns-in-Err-NoMemory-clause-leaves g c =
+    inl (ap (λ (s : Session). s.plan) c.in-Err-NoMemory.ensures.refused_stays)

@@ -3,7 +3,7 @@ use Rattle.grammar_spec.specs.declared.text_why.TextWhy.TheVariants.{Long}
 use Rattle.report_spec.specs.declared.reason.Reason.TheVariants.{Text as TextReason}
 use Rattle.report_spec.specs.Replies.{refusal, step_by}
 use Rattle.plan_text.specs.Readings.{reading_of_shown}
-use Rattle.plan_answers.proofs.Shown.{always, shown_leaves, shown_prefix, shown_refused, shown_written, step_long, step_shown}
+use Rattle.plan_answers.proofs.Shown.{leaves_step, shown_leaves, shown_prefix, shown_refused, shown_written, step_long, step_shown}
 use Rattle.plan_answers.proofs.lines.answer_line.Goals as goal
 
 pub returns-in-Some-clause-written : goal.returns-in-Some-clause-written
@@ -38,7 +38,7 @@ returns-in-None-clause-written g c =
 pub returns-in-None-clause-leaves : goal.returns-in-None-clause-leaves
 returns-in-None-clause-leaves g c =
     rw c.in-None.is (shown_leaves c.args.session.now.plan c.args.session.now.plan c.args.number None (refusal c.args.session.now.plan c.args.number (TextReason Long)) c.put_refusal.result
-    (step_long c.shown_lines_are_read.ensures.long c.args.session.now.plan c.args.number) (always c.put_refusal.result refl))
+    (step_long c.shown_lines_are_read.ensures.long c.args.session.now.plan c.args.number) (leaves_step _ _ (refusal c.args.session.now.plan c.args.number (TextReason Long)) c.put_refusal.result refl))
 
 pub returns-in-None-clause-refused : goal.returns-in-None-clause-refused
 returns-in-None-clause-refused g c =
@@ -51,3 +51,15 @@ returns-in-None-clause-prefix g c =
     rw c.in-None.is (shown_prefix c.args.form (g.O.Sink.written c.args.out.now) (g.O.Sink.written c.put_refusal.new.out) c.args.session.now.plan c.args.number None
     (refusal c.args.session.now.plan c.args.number (TextReason Long)) c.put_refusal.result
     (step_long c.shown_lines_are_read.ensures.long c.args.session.now.plan c.args.number) c.put_refusal.ensures.answers)
+
+pub returns-in-Some-clause-answers : goal.returns-in-Some-clause-answers
+returns-in-Some-clause-answers g c = rw c.in-Some.is c.answer_shown.ensures.answers
+
+pub returns-in-Some-clause-after : goal.returns-in-Some-clause-after
+returns-in-Some-clause-after g c = rw c.in-Some.is c.answer_shown.ensures.leaves
+
+pub returns-in-None-clause-answers : goal.returns-in-None-clause-answers
+returns-in-None-clause-answers g c = rw c.in-None.is c.put_refusal.ensures.answers
+
+pub returns-in-None-clause-after : goal.returns-in-None-clause-after
+returns-in-None-clause-after g c = rw c.in-None.is (leaves_step _ _ (refusal c.args.session.now.plan c.args.number (TextReason Long)) c.put_refusal.result refl)

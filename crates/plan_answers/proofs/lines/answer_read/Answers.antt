@@ -1,7 +1,7 @@
 use Rattle.std.proofs.Common.{◌∙◌, refl}
-use Rattle.report_spec.specs.Replies.{answer}
+use Rattle.report_spec.specs.Replies.{answer, query_step}
 use Rattle.plan_answers.proofs.Printed.{no_record}
-use Rattle.plan_answers.proofs.Shown.{always}
+use Rattle.plan_answers.proofs.Shown.{leaves_step}
 use Rattle.plan_answers.proofs.Stepped.{question_keeps}
 use Rattle.plan_answers.proofs.lines.answer_read.Goals as goal
 
@@ -24,5 +24,6 @@ returns-in-Query-clause-answers g c =
 pub returns-in-Query-clause-leaves : goal.returns-in-Query-clause-leaves
 returns-in-Query-clause-leaves g c =
     rw c.in-Query.is
-    (always c.answer_query.result (c.answer_query.ensures.plan
+    (leaves_step _ _ (query_step c.args.session.now.plan c.args.number (answer c.args.session.now.plan c.in-Query.query)) c.answer_query.result
+    (c.answer_query.ensures.plan
     ∙ question_keeps c.args.session.now.plan c.args.number (answer c.args.session.now.plan c.in-Query.query)))

@@ -1,6 +1,8 @@
 use Rattle.std.proofs.Common.{refl}
+use Rattle.report_spec.specs.declared.reason.Reason.TheVariants.{Text as TextReason}
+use Rattle.report_spec.specs.Replies.{refusal}
 use Rattle.plan_answers.proofs.Printed.{nothing}
-use Rattle.plan_answers.proofs.Shown.{always}
+use Rattle.plan_answers.proofs.Shown.{leaves_step}
 use Rattle.plan_answers.proofs.Stepped.{line_leaves, line_replied, read_badly}
 use Rattle.plan_answers.proofs.lines.answer_shown.Goals as goal
 
@@ -20,7 +22,7 @@ returns-in-Err-Bad-clause-answers g c =
 pub returns-in-Err-Bad-clause-leaves : goal.returns-in-Err-Bad-clause-leaves
 returns-in-Err-Bad-clause-leaves g c =
     line_leaves _ _ _ c.put_refusal.result _ _ (read_badly _ c.in-Err-Bad.field-0 c.in-Err-Bad.why c.in-Err-Bad.field-0-is c.in-Err-Bad.ensures.reads)
-    (always c.put_refusal.result refl)
+    (leaves_step _ _ (refusal c.args.session.now.plan c.args.number (TextReason c.in-Err-Bad.why)) c.put_refusal.result refl)
 
 pub returns-in-Err-NoMemory-clause-answers : goal.returns-in-Err-NoMemory-clause-answers
 returns-in-Err-NoMemory-clause-answers g c =
