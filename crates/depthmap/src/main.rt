@@ -1,4 +1,4 @@
-//! The program.
+//! The command `depthmap`: all that it does is `start` of `depthmap_app`.
 #![tactic(auto)]
 
 use depthmap_app::start;

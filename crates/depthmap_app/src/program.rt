@@ -200,6 +200,10 @@ fn answer<F: Files, S: Source, O: Sink, E: Sink>(
 /// the plan that the script leaves, and says in one line on `err` why where it can't. More of the script is taken
 /// only once every line that was taken whole is answered. A trial takes nothing of the files and of the script.
 ///
+/// `words` are the command's arguments without the program's name. `rt` lends the threads. `gate` is asked nothing: no
+/// work is shared between workers row by row. Each count of faults must be able to rise, and the file's name must be one
+/// that `files` allows, as `DirFiles` allows all.
+///
 /// The first event in the order of work decides the status: words, file, plan, the script's lines, tables. A fault of
 /// `err` changes none, nor does the number of workers.
 ///
@@ -221,7 +225,8 @@ pub fn run<F: Files, S: Source, O: Sink, E: Sink, G: Gate>(
     requires err_below { E.faults err.old < 2 ^ 64 - 1 }
     requires allowed { IfSome (file_of (options_given words.now)) (λ name. IsTrue (F.allows files.old name)) }
 
-    // With 0 and 1 the whole output was written, and 1 tells that a reply of it is `refused`.
+    // Where the bytes of the file and of the script are known: with 0 and 1 the whole output was written, and 1 tells
+    // that a reply of it is `refused`.
     ensures output { HasOutput (options_given words.now) (F.holds files.old)
         (streams (F.left files.old) (S.left script.old) (O.written out.old)
         (faults (F.faults files.old) (S.faults script.old) (O.faults out.old)))
