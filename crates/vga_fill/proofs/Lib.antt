@@ -1,0 +1,13 @@
+pub mod WordPlaces
+pub mod Keeping
+pub mod Claiming
+pub mod Sharing
+pub mod Calls
+pub mod Opened
+pub mod Closed
+pub mod ClosedGraphs
+pub mod Asked
+pub mod DirtyRows
+pub mod WrittenRows
+pub mod Edited
+pub mod Working

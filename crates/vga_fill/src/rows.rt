@@ -1,0 +1,184 @@
+//! The rows of a fill, each worked by the seat that holds it.
+
+ghost use Rattle.std.specs.Prelude.{◌≡◌, ◌<◌, ℕ, false, IfErr, IfOk, None, Some, if◌then◌else◌, ◌&&◌, ◌⊎◌};
+ghost use Rattle.plan_spec.specs.Edits.{IsEditBetween};
+ghost use Rattle.plan_spec.specs.Grid.{grid_points};
+ghost use Rattle.sight_spec.specs.Dirty as dirty;
+ghost use Rattle.sight_spec.specs.Scene.{scene_of};
+ghost use Rattle.sight_spec.specs.Visibility.{visibility_graph};
+ghost use Rattle.sight_sweep.specs.Steps.{one_more};
+ghost use Rattle.vga_grid.specs.Openness.{is_number_open};
+ghost use Rattle.vga_grid.specs.Rows.{graph_of};
+ghost use Rattle.vga_fill.specs.DoneRows.{IsDone};
+ghost use Rattle.vga_fill.specs.Graphs.{is_to_join, was_joined};
+ghost use Rattle.vga_fill.specs.Seats.{IsSeatOf, count_of, held_by, task_of, view_of};
+ghost use Rattle.vga_fill.specs.Sights.{AreBoxesOf, IsJobOf, IsLook};
+ghost use Rattle.vga_fill.specs.Views.{GoesOn};
+
+use crate::dirty::{is_dirty, is_dirty_row};
+use crate::fill::Fill;
+use crate::job::Job;
+use crate::looks::{is_edge, look_from, sights_of};
+use crate::seat::FillSeat;
+use crate::sights::Sights;
+use plan_check::Plan;
+use plan_spec::Changed;
+use sight_core::Scene;
+use sight_sweep::{Steps, View};
+use std::alloc::Global;
+use text_spec::NoMemory;
+use vga_grid::Grid;
+
+/// Writes the edges of the row. The old graph has none.
+fn write_edges(fill: &Fill, seat: &mut FillSeat, row: u32, sights: &Sights, view: &Option<View>)
+    requires of { IsSeatOf fill.now seat.old }
+    requires held { held_by seat.old ≡ Some row }
+    requires within { row < count_of fill.now }
+    requires plan { sights.now.plan.value ≡ (task_of fill.now).after.value }
+    requires empty { (i j : ℕ) → was_joined (task_of fill.now) i j ≡ false }
+    requires look { IsLook sights.now.plan.value row view.now }
+    ensures of { IsSeatOf fill.now seat.new }
+    ensures held { held_by seat.new ≡ Some row }
+    ensures more { GoesOn (view_of seat.old) (view_of seat.new) }
+    ensures done { IsDone (was_joined (task_of fill.now)) (is_to_join (task_of fill.now)) (count_of fill.now)
+        (view_of seat.new) row }
+{
+    for j in row + 1..fill.count {
+        if is_edge(sights, row, view, j) {
+            fill.write_pair(seat, row, j, true);
+        }
+    }
+}
+
+/// Writes the dirty pairs of the row, as edges or not.
+fn write_dirty(
+    fill: &Fill,
+    seat: &mut FillSeat,
+    row: u32,
+    sights: &Sights,
+    boxes: Changed,
+    view: &Option<View>,
+)
+    requires of { IsSeatOf fill.now seat.old }
+    requires held { held_by seat.old ≡ Some row }
+    requires within { row < count_of fill.now }
+    requires plan { sights.now.plan.value ≡ (task_of fill.now).after.value }
+    requires boxes { AreBoxesOf (task_of fill.now) boxes }
+    requires look { IsLook sights.now.plan.value row view.now }
+    ensures of { IsSeatOf fill.now seat.new }
+    ensures held { held_by seat.new ≡ Some row }
+    ensures more { GoesOn (view_of seat.old) (view_of seat.new) }
+    ensures done { IsDone (was_joined (task_of fill.now)) (is_to_join (task_of fill.now)) (count_of fill.now)
+        (view_of seat.new) row }
+{
+    for j in row + 1..fill.count {
+        if is_dirty(&sights.grid, boxes, row, j) {
+            let joined = is_edge(sights, row, view, j);
+            fill.write_pair(seat, row, j, joined);
+        }
+    }
+}
+
+/// Looks from the point of the row, writes what may have changed, and ends the holding of the row.
+fn ask_row(
+    alloc: Global,
+    fill: &Fill,
+    seat: &mut FillSeat,
+    row: u32,
+    sights: &Sights,
+    job: Job,
+    steps: &mut Steps,
+) -> Result<(), NoMemory>
+    requires of { IsSeatOf fill.now seat.old }
+    requires held { held_by seat.old ≡ Some row }
+    requires within { row < count_of fill.now }
+    requires plan { sights.now.plan.value ≡ (task_of fill.now).after.value }
+    requires job { IsJobOf (task_of fill.now) job }
+    ensures of { IsSeatOf fill.now seat.new }
+    ensures row { IfOk result (λ u. held_by seat.new ≡ None) }
+    ensures still_held { IfErr result (λ e. held_by seat.new ≡ Some row) }
+    ensures more { GoesOn (view_of seat.old) (view_of seat.new) }
+    ensures counted { steps.new ≡ if is_number_open (task_of fill.now).after.value row then one_more steps.old else steps.old }
+{
+    let view = look_from(alloc, sights, row, steps)?;
+    match job {
+        Job::All => write_edges(fill, seat, row, sights, &view),
+        Job::Dirty(boxes) => write_dirty(fill, seat, row, sights, boxes, &view),
+    }
+    fill.finish(seat);
+    Ok(())
+}
+
+/// Finishes a row that the seat holds. A row without a dirty pair is left as it was.
+pub(crate) fn work_row(
+    alloc: Global,
+    fill: &Fill,
+    seat: &mut FillSeat,
+    row: u32,
+    sights: &Sights,
+    job: Job,
+    steps: &mut Steps,
+) -> Result<(), NoMemory>
+    requires of { IsSeatOf fill.now seat.old }
+    requires held { held_by seat.old ≡ Some row }
+    requires within { row < count_of fill.now }
+    requires plan { sights.now.plan.value ≡ (task_of fill.now).after.value }
+    requires job { IsJobOf (task_of fill.now) job }
+    ensures of { IsSeatOf fill.now seat.new }
+    ensures row { IfOk result (λ u. held_by seat.new ≡ None) }
+    ensures more { GoesOn (view_of seat.old) (view_of seat.new) }
+{
+    if let Job::Dirty(boxes) = job {
+        if !is_dirty_row(&sights.grid, boxes, row) {
+            fill.finish(seat);
+            return Ok(());
+        }
+    }
+    ask_row(alloc, fill, seat, row, sights, job, steps)
+}
+
+/// Finishes a row that the seat holds, after the edit that makes `after` of `before` and has these boxes: asks the pairs
+/// of the row's point with later ones whose segments meet a box, and writes them. The fill turns the graph of `before`
+/// into that of `after`, and the scene is that of `after`.
+///
+/// Counts one sweep where such a pair is there and the row's point is open, and else none. Without memory the row is
+/// still held, what was written is new, and at most one sweep was counted.
+///
+/// Cost: a test of each pair with the boxes; where one meets them, that of making the plan ready, and of a look.
+pub fn fill_row(
+    alloc: Global,
+    fill: &Fill,
+    seat: &mut FillSeat,
+    row: u32,
+    before: &Plan,
+    after: &Plan,
+    scene: &Scene,
+    boxes: Changed,
+    steps: &mut Steps,
+) -> Result<(), NoMemory>
+    requires of { IsSeatOf fill.now seat.old }
+    requires held { held_by seat.old ≡ Some row }
+    requires within { row < count_of fill.now }
+    requires old_graph { graph_of (task_of fill.now).old.value ≡ visibility_graph before.now }
+    requires after_plan { (task_of fill.now).after.value ≡ after.now }
+    requires edited { IsEditBetween before.now after.now boxes }
+    requires scene { scene.now ≡ scene_of after.now }
+    ensures of { IsSeatOf fill.now seat.new }
+    ensures row { IfOk result (λ u. held_by seat.new ≡ None) }
+    ensures still_held { IfErr result (λ e. held_by seat.new ≡ Some row) }
+    ensures more { GoesOn (view_of seat.old) (view_of seat.new) }
+    ensures counted { IfOk result (λ u. steps.new
+        ≡ if dirty.is_dirty_row boxes (grid_points after.now.grid) row && is_number_open after.now row
+        then one_more steps.old else steps.old) }
+    ensures at_most { (steps.new ≡ steps.old) ⊎ (steps.new ≡ one_more steps.old) }
+    ensures none { dirty.is_dirty_row boxes (grid_points after.now.grid) row ≡ false → steps.new ≡ steps.old }
+{
+    let _ = before;
+    let grid = Grid::of(after);
+    if !is_dirty_row(&grid, boxes, row) {
+        fill.finish(seat);
+        return Ok(());
+    }
+    let sights = sights_of(alloc, after, scene)?;
+    ask_row(alloc, fill, seat, row, &sights, Job::Dirty(boxes), steps)
+}
