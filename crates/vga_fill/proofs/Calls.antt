@@ -1,9 +1,8 @@
 -- What the calls of a fill ask of the rule and of a seat.
-use Rattle.std.proofs.Common.{◌≡◌, ◌≢◌, ℕ, zero, suc, ◌+◌, ◌-◌, ◌*◌, ◌/◌, ◌<◌, ◌≤◌, nat_lt, ◌%◌, ◌^◌, ◌&&◌, ◌||◌, ◌==◌, Bool, true, false, true≢false, refl, sym, ap, ◌∙◌, subst, arith, slice_index, slice_set, bit_and, bit_or, Option, Some, None, w64, IfSome, ◌⊎◌, inl, inr}
+use Rattle.std.proofs.Common.{◌≡◌, ℕ, zero, suc, ◌+◌, ◌-◌, ◌<◌, ◌≤◌, nat_lt, ◌%◌, ◌^◌, ◌&&◌, ◌||◌, ◌==◌, Bool, true, false, true≢false, refl, sym, ap, ◌∙◌, subst, arith, slice_index, slice_set, bit_and, bit_or, Option, Some, None, w64, IfSome, ◌⊎◌, inl, inr}
 use Rattle.std.specs.Int.{bit_at}
 use Rattle.std.proofs.lemmas.Nat.Bits.{bit_at-pow_same, bit_at-pow_other, bit_at_not}
 use Rattle.std.proofs.Math.Pow.{pow-lt}
-use Rattle.std.proofs.lemmas.Nat.{div-mul-add, mod-mul-add}
 use mathlib.Core.Option.{some}
 use Rattle.std.proofs.lemmas.Bool.{cases_eq, ne_eqb, lt-ltb, le-ltb}
 use mathlib.Core.Logic.{dite}
@@ -12,8 +11,7 @@ use lib.ListN.{get_elem?}
 use Rattle.atomic_table.specs.Table.{State}
 use Rattle.vga_fill.specs.declared.events.View.{View}
 use Rattle.vga_fill.specs.declared.events.Task.{Task}
-use Rattle.vga_grid.specs.Rows.{width}
-use Rattle.vga_fill.specs.Places.{size, word_of, digit, bit_of}
+use Rattle.vga_fill.specs.Places.{word_of, digit, bit_of}
 use Rattle.vga_fill.specs.Views.{times, wrote, has, GoesOn, with_ones, with_zeros, left_of, right_of, both_of, claimed, claimed_by}
 use Rattle.vga_fill.specs.Graphs.{was_joined, is_to_join, Rule}
 use Rattle.vga_fill.specs.DoneRows.{IsDone, AreDone, WroteBoth, KeepsRows}

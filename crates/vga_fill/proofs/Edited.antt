@@ -1,5 +1,5 @@
 -- What an edit's boxes miss is as it was.
-use Rattle.std.specs.Prelude.{◌≡◌, ◌≢◌, ℕ, pos, ◌<◌, ◌&&◌, ◌==◌, not, nat_lt, Bool, false, length, Option}
+use Rattle.std.specs.Prelude.{◌≡◌, ℕ, ◌<◌, ◌&&◌, ◌==◌, not, nat_lt, Bool, false, length, Option}
 use Rattle.std.proofs.Common.{refl, sym, ap, subst, ◌∙◌, arith}
 use Rattle.plane_spec.specs.declared.Point.{Point}
 use Rattle.plan_spec.specs.declared.edit.Changed.{Changed}
@@ -22,7 +22,7 @@ use Rattle.vga_fill.specs.declared.events.Task.{Task}
 use Rattle.vga_fill.specs.declared.events.View.{View}
 use Rattle.vga_fill.specs.Graphs.{is_edge_of, is_to_join, was_joined}
 use Rattle.vga_fill.specs.DoneRows.{IsDone}
-use Rattle.vga_fill.specs.Sights.{AreBoxesOf, is_dirty}
+use Rattle.vga_fill.specs.Sights.{AreBoxesOf}
 use Rattle.vga_fill.proofs.DirtyRows.{none_dirty}
 
 pub boxes_in_range : (before after : Plan) (boxes : Changed) → IsEditBetween before after boxes → AreBoxesInRange boxes

@@ -12,7 +12,7 @@ use Rattle.vga_grid.specs.Rows.{width, bit_in, is_joined, Matrix}
 use Rattle.vga_grid.specs.Rows.{bit_of as bit_of_row}
 use Rattle.vga_fill.specs.declared.events.View.{View}
 use Rattle.vga_fill.specs.declared.events.Task.{Task}
-use Rattle.vga_fill.specs.Places.{digit, size, bit_of}
+use Rattle.vga_fill.specs.Places.{digit, bit_of}
 use Rattle.vga_fill.specs.Views.{wrote, first_view}
 use Rattle.vga_fill.specs.Graphs.{was_joined, AreRowsOf, AreFirstWords, Rule}
 

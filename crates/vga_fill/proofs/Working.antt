@@ -1,6 +1,6 @@
 -- Rows are claimed from below, so a worker ends.
 use Rattle.std.specs.Prelude.{◌≡◌, ℕ, ◌+◌, ◌-◌, ◌/◌, ◌<◌, ◌≤◌, ◌==◌, ◌||◌, List, [], ◌∷◌, None, true}
-use Rattle.std.proofs.Common.{refl, ap, ◌∙◌, arith}
+use Rattle.std.proofs.Common.{ap, ◌∙◌, arith}
 use Rattle.vga_fill.specs.declared.events.View.{View}
 use Rattle.vga_fill.specs.declared.fill.Fill.{Fill}
 use Rattle.vga_fill.specs.declared.seat.FillSeat.{FillSeat}

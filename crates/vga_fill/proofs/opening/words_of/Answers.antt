@@ -1,4 +1,3 @@
-use Rattle.std.proofs.Common.{ap, ◌∙◌, ◌++◌}
 use Rattle.vga_fill.proofs.Opened.{row_added}
 use Rattle.vga_fill.proofs.opening.words_of.Goals as goal
 

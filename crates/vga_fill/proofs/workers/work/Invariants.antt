@@ -1,4 +1,4 @@
-use Rattle.std.specs.Prelude.{◌≡◌, ◌<◌, ◌-◌, None, false}
+use Rattle.std.specs.Prelude.{◌≡◌, ◌-◌, None, false}
 use Rattle.vga_fill.specs.Seats.{IsSeatOf, held_by, view_of}
 use Rattle.vga_fill.proofs.Working.{next_row}
 use Rattle.vga_fill.proofs.workers.work.Given as goal

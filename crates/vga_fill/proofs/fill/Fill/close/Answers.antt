@@ -1,4 +1,4 @@
-use Rattle.std.proofs.Common.{◌∙◌, ap, sym, subst, None}
+use Rattle.std.proofs.Common.{sym, subst, None}
 use Rattle.std.specs.Mem.Slots.{slots_items}
 use Rattle.std.proofs.lemmas.Result.{IfOk-weaker}
 use Rattle.vga_fill.specs.DoneRows.{AreDone}

@@ -1,4 +1,4 @@
-use Rattle.std.proofs.Common.{sym, ◌∙◌}
+use Rattle.std.proofs.Common.{◌∙◌}
 use Rattle.vga_fill.proofs.Closed.{is_to_join_simple}
 use Rattle.vga_fill.proofs.Calls.{both_ones, both_zeros}
 use Rattle.vga_fill.proofs.fill.Fill.write_pair.Goals as goal
