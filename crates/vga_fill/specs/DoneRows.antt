@@ -20,4 +20,5 @@ AreDone old new n v held = (row : ℕ) → 0 < times row v.rows → held ≢ Som
 
 -- each row that a seat has claimed is done, but the one that it holds; and the seat knows how many rows there are
 abbrev pub KeepsRows : View → Option ℕ → Type 0
-KeepsRows v held = (k : Task) → v.task ≡ Some k → (v.count ≡ k.count) × AreDone (was_joined k) (is_to_join k) k.count v held
+KeepsRows v held =
+    (k : Task) → v.task ≡ Some k → (v.count ≡ k.count) × AreDone (was_joined k) (is_to_join k) k.count v held

@@ -11,8 +11,10 @@ use Rattle.vga_fill.specs.Views.{times, wrote, claimed, with_ones, with_zeros}
 
 -- each place shows what is old or new there, and a place that some seat wrote shows what is new
 pub record Shows (n : ℕ) (old new : ℕ → ℕ → ℕ) (words : List ℕ) (views : List View) : Type 0 where
-  pub either : (w b : ℕ) → 0 < w → w < size n → b < 64 → (bit_at (slice_index words w) b ≡ new w b) ⊎ (bit_at (slice_index words w) b ≡ old w b)
-  pub written : (id : ℕ) (v : View) → get_elem? views id ≡ some v → (w b : ℕ) → 0 < w → w < size n → b < 64 → wrote v w b ≡ true → bit_at (slice_index words w) b ≡ new w b
+  pub either : (w b : ℕ) → 0 < w → w < size n → b < 64
+      → (bit_at (slice_index words w) b ≡ new w b) ⊎ (bit_at (slice_index words w) b ≡ old w b)
+  pub written : (id : ℕ) (v : View) → get_elem? views id ≡ some v → (w b : ℕ) → 0 < w → w < size n → b < 64
+      → wrote v w b ≡ true → bit_at (slice_index words w) b ≡ new w b
 
 -- each row below the count of claims is claimed once, and no other; a seat is told that no row is left only where that
 -- is so; tellings and passes add up; and a seat that claimed a row has a telling or a pass

@@ -28,7 +28,8 @@ is_dirty plan boxes i j = is_dirty_pair boxes (point_of_number plan.grid i) (poi
 -- a pair that the boxes miss is an edge of the old graph where it is one of the new
 pub record AreBoxesOf (k : Task) (boxes : Changed) : Type 0 where
   pub in_range : AreBoxesInRange boxes
-  pub kept : (i j : ℕ) → i < j → j < k.count → is_dirty k.after.value boxes i j ≡ false → was_joined k i j ≡ is_to_join k i j
+  pub kept : (i j : ℕ) → i < j → j < k.count → is_dirty k.after.value boxes i j ≡ false
+      → was_joined k i j ≡ is_to_join k i j
 
 -- the job leaves out no pair at which the graphs of the fill may differ
 abbrev pub IsJobOf : Task → Job → Type 0

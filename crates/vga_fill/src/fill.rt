@@ -11,8 +11,8 @@ use crate::events::{FillRule, Task, View};
 use atomic_table::Table;
 use std::alloc::Global;
 
-/// A graph that workers fill together, each with a seat: it turns from an old graph into the visibility graph of a plan.
-/// At every moment each place shows what is old or new there, and what was written is new.
+/// A graph that workers fill together, each with a seat: it turns from an old graph into the visibility graph of a
+/// plan. At every moment each place shows what is old or new there, and what was written is new.
 ///
 /// Memory: of n nodes one word that counts the claims, and n rows of ⌈n/64⌉ words.
 #[derive(Drop)]

@@ -1,6 +1,6 @@
 //! The calls of a fill.
 
-ghost use Rattle.std.specs.Prelude.{◌≡◌, ◌≢◌, ℕ, ◌+◌, ◌-◌, ◌^◌, ◌%◌, ◌<◌, IfOk, IfSome, None, Some, false, length, min, true, if◌then◌else◌};
+ghost use Rattle.std.specs.Prelude.{◌≡◌, ℕ, ◌-◌, ◌^◌, ◌%◌, ◌<◌, IfOk, IfSome, None, Some, false, length, min, true};
 ghost use Rattle.plan_spec.specs.Grid.{grid_points};
 ghost use Rattle.sight_spec.specs.Visibility.{visibility_graph};
 ghost use Rattle.vga_grid.specs.Rows.{graph_of};
@@ -8,7 +8,8 @@ ghost use Rattle.vga_fill.specs.DoneRows.{IsDone, WroteBoth};
 ghost use Rattle.vga_fill.specs.Graphs.{was_joined, is_to_join};
 ghost use Rattle.vga_fill.specs.Places.{word_of};
 ghost use Rattle.vga_fill.specs.Seats.{IfDone, IfRow, IsLast, IsSeatOf, count_of, held_by, task_of, view_of};
-ghost use Rattle.vga_fill.specs.Views.{GoesOn, both_of, claimed_by, first_view, left_of, right_of, times, with_ones, with_zeros};
+ghost use Rattle.vga_fill.specs.Views.{GoesOn, both_of, claimed_by, first_view, left_of, right_of, times};
+ghost use Rattle.vga_fill.specs.Views.{with_ones, with_zeros};
 
 use crate::claim::Claim;
 use crate::closing::graph_of_closed;
@@ -132,8 +133,8 @@ impl Fill {
     /// Ends the holding of a row that is done. It makes no step.
     pub fn finish(&self, seat: &mut FillSeat)
         requires of { IsSeatOf self.now seat.old }
-        requires done { IfSome (held_by seat.old) (λ r. IsDone (was_joined (task_of self.now)) (is_to_join (task_of self.now))
-            (count_of self.now) (view_of seat.old) r) }
+        requires done { IfSome (held_by seat.old) (λ r. IsDone (was_joined (task_of self.now))
+            (is_to_join (task_of self.now)) (count_of self.now) (view_of seat.old) r) }
         ensures of { IsSeatOf self.now seat.new }
         ensures row { held_by seat.new ≡ None }
         ensures view { view_of seat.new ≡ view_of seat.old }

@@ -98,7 +98,8 @@ fn ask_row(
     ensures row { IfOk result (λ u. held_by seat.new ≡ None) }
     ensures still_held { IfErr result (λ e. held_by seat.new ≡ Some row) }
     ensures more { GoesOn (view_of seat.old) (view_of seat.new) }
-    ensures counted { steps.new ≡ if is_number_open (task_of fill.now).after.value row then one_more steps.old else steps.old }
+    ensures counted { steps.new
+        ≡ if is_number_open (task_of fill.now).after.value row then one_more steps.old else steps.old }
 {
     let view = look_from(alloc, sights, row, steps)?;
     match job {
@@ -137,9 +138,9 @@ pub(crate) fn work_row(
     ask_row(alloc, fill, seat, row, sights, job, steps)
 }
 
-/// Finishes a row that the seat holds, after the edit that makes `after` of `before` and has these boxes: asks the pairs
-/// of the row's point with later ones whose segments meet a box, and writes them. The fill turns the graph of `before`
-/// into that of `after`, and the scene is that of `after`.
+/// Finishes a row that the seat holds, after the edit that makes `after` of `before` and has these boxes: asks the
+/// pairs of the row's point with later ones whose segments meet a box, and writes them. The fill turns the graph of
+/// `before` into that of `after`, and the scene is that of `after`.
 ///
 /// Counts one sweep where such a pair is there and the row's point is open, and else none. Without memory the row is
 /// still held, what was written is new, and at most one sweep was counted.

@@ -105,8 +105,8 @@ fn work_all<R: Threads + Sync, G: Gate>(
     Ok(fill.join_seats(left, right))
 }
 
-/// The visibility graph of a plan, by so many workers that fill one graph together. The scene is the plan's. Each worker
-/// tells the gate each row that it claims. Where no thread can be made the workers work one after the other.
+/// The visibility graph of a plan, by so many workers that fill one graph together. The scene is the plan's. Each
+/// worker tells the gate each row that it claims. Where no thread can be made the workers work one after the other.
 ///
 /// Cost: a test of openness for each point, a look from each open one, and for each pair of open points a search in the
 /// sectors of that look.
@@ -131,12 +131,12 @@ pub fn fill_all<R: Threads + Sync, G: Gate>(
 }
 
 /// The visibility graph of the plan `after`, from that of `before`, by so many workers that fill one graph together:
-/// only rows with a pair whose segment meets one of the boxes are looked at again. An edit makes `after` of `before`, as
-/// `Plan::with` does, and has the boxes that `Plan::changed` gives; the scene is that of `after`. Each worker tells the
-/// gate each row that it claims. `old` stays as it is.
+/// only rows with a pair whose segment meets one of the boxes are looked at again. An edit makes `after` of `before`,
+/// as `Plan::with` does, and has the boxes that `Plan::changed` gives; the scene is that of `after`. Each worker tells
+/// the gate each row that it claims. `old` stays as it is.
 ///
-/// Cost: a test of openness for each point, a test of each pair with the boxes, a look from the point of each dirty row,
-/// and for each dirty pair a search in the sectors of that look.
+/// Cost: a test of openness for each point, a test of each pair with the boxes, a look from the point of each dirty
+/// row, and for each dirty pair a search in the sectors of that look.
 pub fn refill<R: Threads + Sync, G: Gate>(
     rt: &R,
     alloc: Global,
