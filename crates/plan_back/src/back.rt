@@ -9,8 +9,8 @@ use plane_spec::Point;
 use std::alloc::Global;
 use text_spec::{Name, NoMemory};
 
-/// A change of a plan that names the place, counted from 0, of what it adds among the obstacles, screens or routes. Points
-/// may be out of range.
+/// A change of a plan that names the place, counted from 0, of what it adds among the obstacles, screens or routes.
+/// Points may be out of range.
 #[derive(Drop)]
 pub enum Back {
     /// The obstacle of this name goes.

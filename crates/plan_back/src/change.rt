@@ -34,8 +34,8 @@ fn like_edit(alloc: Global, back: &Back) -> Result<Edit, NoMemory>
 /// The plan after the change; this one is untouched. What is new stands at its place, and what stood there and after it
 /// moves up by one; a removal closes up, a move keeps the place.
 ///
-/// `Err(Refused)` names the first cause for which the like edit is refused. A place is at most the number of items of its
-/// kind, the shift of a move at most `MAX_SHIFT`.
+/// `Err(Refused)` names the first cause for which the like edit is refused. A place is at most the number of items of
+/// its kind, the shift of a move at most `MAX_SHIFT`.
 ///
 /// Cost: that of the like edit and, where something is added, of a check of all items, since these come in a new order.
 #[tactic(auto, unfolding(crate::specs::Backs::plan_after_back))]

@@ -9,7 +9,7 @@
 //! | [`edit_name`] | the name of what an edit changes |
 //! | [`Editor`] | an object that keeps a plan and makes changes of it |
 //! | [`Desk`] | the plain editor: a plan |
-//! | [`an_edit_as_back`], [`taking_back`] | laws: an edit and its `Back` are one change; the inverse gives back the plan itself |
+//! | [`an_edit_as_back`], [`taking_back`] | laws: an edit and its `Back` are one change; the inverse takes it back |
 //!
 //! ```text
 //! obstacles A B C    Take B, whose inverse is Put 1 B ..    obstacles A C

@@ -21,7 +21,8 @@ begun depth plan = record { depth = depth; now = plan; past = []; next = [] }
 
 -- a change of what has this name was made, which leaves the plan `after`: it can be undone, and nothing can be redone
 abbrev pub changed : History → List ℕ → Plan → History
-changed h name after = record { depth = h.depth; now = after; past = keep_last h.depth (h.past ++ (h.now, name) ∷ []); next = [] }
+changed h name after =
+    record { depth = h.depth; now = after; past = keep_last h.depth (h.past ++ (h.now, name) ∷ []); next = [] }
 
 -- an edit was made
 unfoldable pub edited : History → Edit → History
@@ -38,7 +39,8 @@ without_last xs = take (length xs - 1) xs
 -- the last of `past` is taken out and is the plan now, and the plan that was now goes to the end of `next`
 abbrev pub undone_to : History → Option (Plan × List ℕ) → Option (List ℕ × History)
 undone_to h None = None
-undone_to h (Some last) = Some (last.1, record { depth = h.depth; now = last.0; past = without_last h.past; next = h.next ++ (h.now, last.1) ∷ [] })
+undone_to h (Some last) =
+    Some (last.1, record { depth = h.depth; now = last.0; past = without_last h.past; next = h.next ++ (h.now, last.1) ∷ [] })
 
 -- the name that undo answers and what is then, or none where nothing can be undone
 unfoldable pub undone : History → Option (List ℕ × History)
@@ -47,7 +49,8 @@ undone h = undone_to h (last_item h.past)
 -- the last of `next` is taken out and is the plan now, and the plan that was now goes to the end of `past`
 abbrev pub redone_to : History → Option (Plan × List ℕ) → Option (List ℕ × History)
 redone_to h None = None
-redone_to h (Some last) = Some (last.1, record { depth = h.depth; now = last.0; past = h.past ++ (h.now, last.1) ∷ []; next = without_last h.next })
+redone_to h (Some last) =
+    Some (last.1, record { depth = h.depth; now = last.0; past = h.past ++ (h.now, last.1) ∷ []; next = without_last h.next })
 
 -- the name that redo answers and what is then, or none where nothing can be redone
 unfoldable pub redone : History → Option (List ℕ × History)

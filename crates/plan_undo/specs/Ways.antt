@@ -30,7 +30,12 @@ plans_of plan (back ∷ backs) = (led plan (back ∷ backs), name_of back) ∷ p
 
 -- the history that an editor's plan and two rings of changes stand for
 abbrev pub history_of : Plan → Buffer Back → Buffer Back → History
-history_of plan past next = record { depth = past.capacity; now = plan; past = plans_of plan past.items; next = plans_of plan next.items }
+history_of plan past next = record {
+  depth = past.capacity;
+  now = plan;
+  past = plans_of plan past.items;
+  next = plans_of plan next.items;
+}
 
 -- the changes of both rings lead on from the plan, and there is room for one more wherever one is taken out
 pub record AreKept (plan : Plan) (past next : Buffer Back) : Type 0 where

@@ -12,8 +12,8 @@ use plan_check::EditFault;
 use std::alloc::Global;
 use text_spec::Name;
 
-/// Makes the last change of one ring, which leads on from the editor's plan, and puts the way back into the other. Without
-/// memory, or with nothing to make, nothing changes.
+/// Makes the last change of one ring, which leads on from the editor's plan, and puts the way back into the other.
+/// Without memory, or with nothing to make, nothing changes.
 pub(crate) fn step<E: Editor>(
     alloc: Global,
     editor: &mut E,

@@ -30,8 +30,8 @@ pub(crate) fn way_back_of_edit(alloc: Global, plan: &Plan, edit: &Edit) -> Resul
     way_back(alloc, plan, &back)
 }
 
-/// Puts the way back from a new change at the end of the past, whose first gives way where it is full, and leaves nothing
-/// to redo.
+/// Puts the way back from a new change at the end of the past, whose first gives way where it is full, and leaves
+/// nothing to redo.
 pub(crate) fn keep_way_back(
     past: &mut HeapCircularBuffer<Back>,
     next: &mut HeapCircularBuffer<Back>,

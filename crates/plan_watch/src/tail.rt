@@ -27,7 +27,7 @@ impl Tail {
 }
 
 impl Watch for Tail {
-    ghost use Rattle.std.specs.Prelude.{Some, ⊤};
+    ghost use Rattle.std.specs.Prelude.{◌≡◌, IsOk, Some, ⊤};
 
     ghost room = { λ tail. Some tail.notes.capacity };
 
@@ -35,7 +35,10 @@ impl Watch for Tail {
 
     ghost is_set = { λ _. ⊤ };
 
-    fn ready(&mut self) -> Result<(), NoMemory> {
+    fn ready(&mut self) -> Result<(), NoMemory>
+        ensures always { IsOk result }
+        ensures unchanged { self.new ≡ self.old }
+    {
         Ok(())
     }
 
