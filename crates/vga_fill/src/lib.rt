@@ -39,8 +39,6 @@ mod rows;
 mod seat;
 mod shared;
 mod sights;
-#[cfg(test)]
-mod tests;
 mod workers;
 
 pub use claim::Claim;
