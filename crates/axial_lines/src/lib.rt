@@ -34,8 +34,6 @@ mod line;
 mod line_set;
 mod seen;
 mod stopped;
-#[cfg(test)]
-mod tests;
 mod update;
 
 pub use all::all_lines;

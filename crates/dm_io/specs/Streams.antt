@@ -5,9 +5,9 @@ use Rattle.dm_io.specs.declared.streams.Take.TheVariants.{Got, End, Failed}
 use Rattle.dm_io.specs.declared.streams.Put.{Put}
 use Rattle.dm_io.specs.declared.streams.Put.TheVariants.{Took, Failed as PutFailed}
 
--- a count of faults rose by one or more, or stands at its last value
+-- a count of faults rose by one, or stands at its last value
 abbrev pub Rose : ℕ → ℕ → Type 0
-Rose before now = min (before + 1) (2 ^ 64 - 1) ≤ now
+Rose before now = now ≡ min (before + 1) (2 ^ 64 - 1)
 
 -- bytes that are known, with others before them
 abbrev pub prepended_to : List ℕ → Option (List ℕ) → Option (List ℕ)

@@ -27,8 +27,6 @@ mod output_buffer;
 mod read_write_all;
 mod streams;
 mod system;
-#[cfg(test)]
-mod tests;
 
 pub use gate::{Gate, NoGate};
 pub use line_reader::LineReader;

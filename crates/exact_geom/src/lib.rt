@@ -37,8 +37,6 @@ mod polygons;
 mod products;
 mod rpoints;
 mod segments;
-#[cfg(test)]
-mod tests;
 mod vectors;
 
 pub use arithmetic::wide_product;

@@ -25,7 +25,9 @@ use std::marker::Model;
 /// A point whose coordinates are fractions.
 #[derive(Clone, Copy, Debug)]
 pub struct RPoint {
+    /// To the right, in lowest terms.
     pub x: Frac,
+    /// Upwards, in lowest terms.
     pub y: Frac,
 }
 

@@ -38,8 +38,6 @@ mod seeing;
 mod sighted_run;
 mod sights;
 mod sums;
-#[cfg(test)]
-mod tests;
 mod totals;
 mod triangle;
 mod triangles;

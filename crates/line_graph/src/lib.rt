@@ -26,8 +26,6 @@ mod pairs;
 mod parameter;
 mod rows;
 mod stretch;
-#[cfg(test)]
-mod tests;
 
 pub use pairs::meet;
 pub use rows::crossing_graph;

@@ -28,7 +28,9 @@ pub enum Mode {
 /// How the fields of a record are joined: by a space, or by a comma.
 #[derive(Clone, Copy, Debug, PartialEq, Eq)]
 pub enum Form {
+    /// By a space.
     Text,
+    /// By a comma.
     Csv,
 }
 
@@ -65,10 +67,15 @@ impl<'a> GivenText<'a> {
 /// The texts that are given for the options, each at most once.
 #[derive(Drop)]
 pub struct Given<'a> {
+    /// Which tables are asked for, or the trial.
     pub mode: Option<GivenText<'a>>,
+    /// The name of the plan's file.
     pub file: Option<GivenText<'a>>,
+    /// How many threads may work.
     pub workers: Option<GivenText<'a>>,
+    /// How records are printed.
     pub format: Option<GivenText<'a>>,
+    /// How many boxes the trial plan has.
     pub number: Option<GivenText<'a>>,
 }
 
@@ -84,8 +91,10 @@ pub enum Job<'a> {
 /// What the command was asked for.
 #[derive(Drop)]
 pub struct Options<'a> {
+    /// What is to be done.
     pub job: Job<'a>,
     /// How many threads may work at once, from 1 to [`MAX_WORKERS`].
     pub workers: usize,
+    /// How records are printed.
     pub form: Form,
 }

@@ -8,6 +8,7 @@ use text_spec::NoMemory;
 pub enum ReadLineFault {
     /// It is outside the grammar.
     Bad(TextWhy),
+    /// There is no memory for what is read.
     NoMemory,
 }
 
@@ -16,6 +17,7 @@ pub enum ReadLineFault {
 pub enum ReadPlanFault {
     /// This line, counted from 1, is the first outside the grammar.
     Bad { line: u32, why: TextWhy },
+    /// There is no memory for what is read.
     NoMemory,
 }
 

@@ -40,6 +40,3 @@ pub use plans::{PlanText, read_plan};
 pub use printing::{accepted_plans_are_printable, print_plan, prints_and_reads};
 pub use script_lines::{read_line, shown_lines_are_read};
 pub use text_spec::{Name, NoMemory};
-
-#[cfg(test)]
-mod tests;

@@ -17,7 +17,9 @@ use text_spec::NoMemory;
 /// A plan as it is read: its items, and in `lines` the number of each item's line and, last, the number of lines plus 1.
 #[derive(Drop)]
 pub struct PlanText {
+    /// The items of the text.
     pub plan: PlanData,
+    /// The line on which each item stands.
     pub lines: LineNumbers,
 }
 

@@ -24,35 +24,46 @@ pub const MAX_COMPONENT: i64 = 400_000;
 /// A point of the plane in the plan's own unit, or a direction.
 #[derive(Clone, Copy, Debug, PartialEq, Eq)]
 pub struct Point {
+    /// To the right.
     pub x: i64,
+    /// Upwards.
     pub y: i64,
 }
 
 /// A segment, directed from `a` to `b`.
 #[derive(Clone, Copy, Debug, PartialEq, Eq)]
 pub struct Segment {
+    /// Where it begins.
     pub a: Point,
+    /// Where it ends.
     pub b: Point,
 }
 
 /// A corner at `here`, between the points before and after it in the direction of the walls.
 #[derive(Clone, Copy, Debug, PartialEq, Eq)]
 pub struct Corner {
+    /// The point before it.
     pub prev: Point,
+    /// The corner itself.
     pub here: Point,
+    /// The point after it.
     pub next: Point,
 }
 
 /// The points from `low` to `high` in both coordinates, borders counted.
 #[derive(Clone, Copy, Debug, PartialEq, Eq)]
 pub struct PlanBox {
+    /// The least of both coordinates.
     pub low: Point,
+    /// The greatest of both coordinates.
     pub high: Point,
 }
 
 /// Which way round a polygon's edges are directed: what it bounds lies left of counterclockwise ones.
 #[derive(Clone, Copy, Debug, PartialEq, Eq)]
 pub enum Orientation {
+    /// What is bounded lies to the left of each edge.
     Counterclockwise,
+    /// What is bounded lies to the right of each edge.
     Clockwise,
 }

@@ -28,8 +28,6 @@ mod nodes;
 mod piece;
 mod queue;
 mod sharing;
-#[cfg(test)]
-mod tests;
 mod turning;
 
 pub use cut_routes::pieces;

@@ -41,8 +41,6 @@ mod orientation;
 mod scene;
 mod sight;
 mod stops;
-#[cfg(test)]
-mod tests;
 
 pub use cone::in_cone;
 pub use hits::{Hit, blocker_hit, corner_hit, nearer, start_hit, wall_parameter};

@@ -49,8 +49,6 @@ mod row;
 mod shared;
 mod sides;
 mod table;
-#[cfg(test)]
-mod tests;
 mod told;
 
 pub use answering::{answer_by, sweep};

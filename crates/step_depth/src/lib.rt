@@ -22,8 +22,6 @@ mod marking;
 mod measuring;
 mod reach;
 mod sets;
-#[cfg(test)]
-mod tests;
 mod workers;
 
 pub use marking::depths;

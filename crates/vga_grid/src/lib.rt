@@ -24,8 +24,6 @@ mod edges;
 mod grid;
 mod limits;
 mod naive;
-#[cfg(test)]
-mod tests;
 
 pub use bit_graph::{BitGraph, types_are_shared};
 pub use edges::Edges;

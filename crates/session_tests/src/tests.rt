@@ -1,0 +1,111 @@
+//! A session over some edits of a small room.
+
+ghost use Rattle.std.specs.Prelude.{◌≡◌};
+ghost use Rattle.plan_spec.specs.Edits.{HasShift};
+
+use plan_check::{Edit, GridSpec, Item, Items, Name, Plan, PlanData, Points, check};
+use plan_edit::Session;
+use plane_spec::Point;
+use std::alloc::Global;
+use std::process::Abort;
+
+fn at(x: i64, y: i64) -> Point {
+    Point { x, y }
+}
+
+fn name(rt: &impl Abort, letter: u8) -> Name {
+    match Name::of(&[letter]) {
+        Some(name) => name,
+        None => panic!(rt; "a letter is a name"),
+    }
+}
+
+/// The corners of a box.
+fn box_points(rt: &impl Abort, alloc: Global, low: Point, high: Point) -> Points {
+    let mut list = Points::new(alloc);
+    for p in [low, at(high.x, low.y), high, at(low.x, high.y)] {
+        assert!(rt; list.push(p).is_ok());
+    }
+    list
+}
+
+/// The empty plan of a box of side 10, with 3 by 3 grid points.
+fn room(rt: &impl Abort, alloc: Global) -> Plan {
+    let outer = box_points(rt, alloc, at(0, 0), at(10, 10));
+    let mut items = Items::new(alloc);
+    assert!(rt; items.push(Item::Outer(outer)).is_ok());
+    let grid = GridSpec {
+        step: 4,
+        x0: 1,
+        y0: 1,
+        cols: 3,
+        rows: 3,
+    };
+    assert!(rt; items.push(Item::Grid(grid)).is_ok());
+    match check(alloc, &PlanData { items }) {
+        Ok(plan) => plan,
+        Err(_) => panic!(rt; "the plan is accepted"),
+    }
+}
+
+fn edge_count(rt: &impl Abort, alloc: Global, session: &mut Session) -> usize {
+    assert!(rt; session.make_graph(alloc).is_ok());
+    let mut count = 0usize;
+    for i in 0..9 {
+        for j in i..9 {
+            if session.graph().has(i, j) {
+                count = count.wrapping_add(1);
+            }
+        }
+    }
+    count
+}
+
+fn line_count(rt: &impl Abort, alloc: Global, session: &mut Session) -> usize {
+    assert!(rt; session.make_lines(alloc).is_ok());
+    session.lines().len()
+}
+
+/// What an edit is answered, and how many lines and edges there are after it.
+fn leaves(
+    rt: &impl Abort,
+    alloc: Global,
+    session: &mut Session,
+    edit: &Edit,
+    expected: (bool, usize, usize),
+)
+    requires { HasShift edit.now }
+{
+    assert!(rt; session.apply(alloc, edit).is_ok() == expected.0);
+    assert!(rt; line_count(rt, alloc, session) == expected.1);
+    assert!(rt; edge_count(rt, alloc, session) == expected.2);
+}
+
+/// A box comes, is moved to where it stands, isn't crossed by a screen, isn't hidden by a route, and goes once.
+fn a_box_comes_and_goes(rt: &impl Abort, alloc: Global, session: &mut Session) {
+    let (a, r, s) = (name(rt, b'A'), name(rt, b'R'), name(rt, b'S'));
+    let add = Edit::Add(a.copy(), box_points(rt, alloc, at(4, 4), at(6, 6)));
+    leaves(rt, alloc, session, &add, (true, 20, 24));
+    let stay = Edit::Move(a.copy(), 0, 0);
+    leaves(rt, alloc, session, &stay, (true, 20, 24));
+    let cross = Edit::AddScreen(s, at(3, 5), at(5, 5));
+    leaves(rt, alloc, session, &cross, (false, 20, 24));
+    let route = Edit::AddRoute(r, at(1, 1), at(3, 1));
+    leaves(rt, alloc, session, &route, (true, 20, 24));
+    let remove = Edit::Remove(a);
+    leaves(rt, alloc, session, &remove, (true, 6, 36));
+    leaves(rt, alloc, session, &remove, (false, 6, 36));
+}
+
+#[test]
+fn graph_and_lines_are_those_of_the_plan_after_each_edit(rt: HostRuntime) {
+    let alloc = rt.alloc();
+    let Ok(mut session) = Session::begin(alloc, room(&rt, alloc)) else {
+        panic!(&rt; "there is memory");
+    };
+    assert!(&rt; line_count(&rt, alloc, &mut session) == 6);
+    assert!(&rt; edge_count(&rt, alloc, &mut session) == 36);
+    a_box_comes_and_goes(&rt, alloc, &mut session);
+    let screen = Edit::AddScreen(name(&rt, b'S'), at(3, 4), at(7, 4));
+    leaves(&rt, alloc, &mut session, &screen, (true, 13, 28));
+}

@@ -1,0 +1,273 @@
+//! Small plans: worked answers, and scenes in which the plain calls answer the same from stations anywhere.
+
+ghost use Rattle.std.specs.Prelude.{◌≡◌};
+ghost use Rattle.plane_spec.specs.Vectors.{InRange, IsDirected, IsDirection};
+ghost use Rattle.sight_sweep.specs.Answers.{MayBeAsked};
+
+use exact_geom::{Frac, in_range, same_point};
+use plan_check::{Item, Items, Name, Plan, PlanData, Points, check};
+use plane_spec::Point;
+use sight_core::{Scene, free, near_wall, scene_of, stop};
+use sight_sweep::{Answer, Steps, Target, sweep};
+use std::alloc::Global;
+use std::process::Abort;
+
+fn at(x: i64, y: i64) -> Point
+    ensures { result ≡ record { x = x; y = y } }
+{
+    Point { x, y }
+}
+
+/// The point, which the test knows to be in range.
+fn known(rt: &impl Abort, p: Point) -> Point
+    ensures { InRange result }
+{
+    assert!(rt; in_range(p));
+    p
+}
+
+/// The direction, which the test knows to lead somewhere.
+fn heading(rt: &impl Abort, d: Point) -> Point
+    ensures direction { IsDirection result }
+    ensures directed { IsDirected result }
+{
+    assert!(rt; in_range(d));
+    assert!(rt; !same_point(d, at(0, 0)));
+    d
+}
+
+fn push(rt: &impl Abort, items: &mut Items, item: Item) {
+    assert!(rt; items.push(item).is_ok());
+}
+
+fn name(rt: &impl Abort, letter: u8) -> Name {
+    match Name::of(&[letter]) {
+        Some(name) => name,
+        None => panic!(rt; "a letter is a name"),
+    }
+}
+
+fn points_of(rt: &impl Abort, alloc: Global, corners: &[Point]) -> Points {
+    let mut points = Points::new(alloc);
+    for p in corners {
+        assert!(rt; points.push(*p).is_ok());
+    }
+    points
+}
+
+/// The scene of a box of side 10 with boxes and screens in it.
+fn scene(
+    rt: &impl Abort,
+    alloc: Global,
+    boxes: &[(Point, Point)],
+    screens: &[(Point, Point)],
+) -> Scene {
+    let mut items = Items::new(alloc);
+    let outer = points_of(rt, alloc, &[at(0, 0), at(10, 0), at(10, 10), at(0, 10)]);
+    push(rt, &mut items, Item::Outer(outer));
+    let mut letter = b'A';
+    for (low, high) in boxes {
+        let corners = [*low, at(high.x, low.y), *high, at(low.x, high.y)];
+        let points = points_of(rt, alloc, &corners);
+        push(rt, &mut items, Item::Obstacle(name(rt, letter), points));
+        letter = letter.wrapping_add(1);
+    }
+    for (from, to) in screens {
+        push(rt, &mut items, Item::Screen(name(rt, letter), *from, *to));
+        letter = letter.wrapping_add(1);
+    }
+    let plan = match check(alloc, &PlanData { items }) {
+        Ok(plan) => plan,
+        Err(_) => panic!(rt; "the plan is accepted"),
+    };
+    match scene_of(alloc, &plan) {
+        Ok(scene) => scene,
+        Err(_) => panic!(rt; "there is memory"),
+    }
+}
+
+/// The answer to one target.
+fn asked(rt: &impl Abort, alloc: Global, scene: &Scene, p: Point, target: Target) -> Answer
+    requires p_in { InRange p }
+    requires askable { MayBeAsked p target }
+{
+    let mut steps = Steps::new();
+    let Ok(answers) = sweep(alloc, scene, p, &[target], &mut steps) else {
+        panic!(rt; "there is memory");
+    };
+    assert!(rt; answers.len() == 1 && steps.sweeps() == 1);
+    answers[0]
+}
+
+/// Whether the other point is seen.
+fn sees(rt: &impl Abort, alloc: Global, scene: &Scene, p: Point, q: Point) -> bool {
+    let (p, q) = (known(rt, p), known(rt, q));
+    assert!(rt; !same_point(p, q));
+    match asked(rt, alloc, scene, p, Target::Point(q)) {
+        Answer::Seen(seen) => seen,
+        Answer::Reach { stop: _, wall: _ } => panic!(rt; "a point is seen or not"),
+    }
+}
+
+/// Whether it is the number `num / den`.
+fn is(t: Option<Frac>, parts: Option<(i128, i128)>) -> bool {
+    match (t, parts) {
+        (None, None) => true,
+        (Some(t), Some(parts)) => t.num() == parts.0 && t.den() == parts.1,
+        _ => false,
+    }
+}
+
+/// A ray is stopped here, and meets this wall or screen first.
+fn reaches(
+    rt: &impl Abort,
+    alloc: Global,
+    scene: &Scene,
+    p: Point,
+    d: Point,
+    parts: Option<(i128, i128)>,
+    number: Option<u32>,
+)
+    requires p_in { InRange p }
+    requires direction { IsDirection d }
+    requires directed { IsDirected d }
+{
+    match asked(rt, alloc, scene, p, Target::Ray(d)) {
+        Answer::Reach { stop, wall } => {
+            assert!(rt;
+                is(stop, parts) && wall == number,
+                "({}, {}) to ({}, {})",
+                p.x,
+                p.y,
+                d.x,
+                d.y
+            );
+        }
+        Answer::Seen(_) => panic!(rt; "a ray has a reach"),
+    }
+}
+
+/// Rays that are stopped, and by which wall or screen.
+fn all_reach(
+    rt: &impl Abort,
+    alloc: Global,
+    scene: &Scene,
+    rays: &[(Point, Point, (i128, i128), u32)],
+) {
+    for (p, d, parts, number) in rays {
+        let (p, d) = (known(rt, *p), heading(rt, *d));
+        reaches(rt, alloc, scene, p, d, Some(*parts), Some(*number));
+    }
+}
+
+/// Each point of the box, from each of the stations, is seen where the plain call says so.
+fn sees_as_plain(rt: &impl Abort, alloc: Global, scene: &Scene, stations: &[Point]) {
+    for p in stations {
+        let p = known(rt, *p);
+        for x in -1..12 {
+            for y in -1..12 {
+                let q = known(rt, at(x, y));
+                if !same_point(p, q) {
+                    assert!(rt;
+                        sees(rt, alloc, scene, p, q) == free(scene, p, q),
+                        "({}, {}) ({x}, {y})",
+                        p.x,
+                        p.y
+                    );
+                }
+            }
+        }
+    }
+}
+
+/// How far the plain call says that the ray reaches.
+fn plain_stop(scene: &Scene, p: Point, d: Point) -> Option<(i128, i128)>
+    requires p_in { InRange p }
+    requires direction { IsDirection d }
+    requires directed { IsDirected d }
+{
+    match stop(scene, p, d) {
+        None => None,
+        Some(t) => Some((t.num(), t.den())),
+    }
+}
+
+/// Rays all round, from each of the stations, reach as far as the plain calls say.
+fn reaches_as_plain(rt: &impl Abort, alloc: Global, scene: &Scene, stations: &[Point]) {
+    for p in stations {
+        let p = known(rt, *p);
+        for x in -3..4 {
+            for y in -3..4 {
+                if x != 0 || y != 0 {
+                    let d = heading(rt, at(x, y));
+                    let number = near_wall(scene, p, d);
+                    reaches(rt, alloc, scene, p, d, plain_stop(scene, p, d), number);
+                }
+            }
+        }
+    }
+}
+
+/// Between two boxes that pinch a sight line, and beside one of two boxes and without it.
+#[test]
+fn rays_reach_where_worked_rows_say(rt: HostRuntime) {
+    let alloc = rt.alloc();
+    let pinched = scene(
+        &rt,
+        alloc,
+        &[(at(2, 2), at(4, 4)), (at(6, 4), at(8, 6))],
+        &[],
+    );
+    let rays = [
+        (at(0, 4), at(1, 0), (10, 1), 1),
+        (at(0, 4), at(8, 1), (3, 4), 11),
+    ];
+    all_reach(&rt, alloc, &pinched, &rays);
+    assert!(rt; sees(&rt, alloc, &pinched, at(0, 4), at(10, 4)));
+    let both = scene(
+        &rt,
+        alloc,
+        &[(at(2, 2), at(4, 4)), (at(5, 2), at(7, 4))],
+        &[],
+    );
+    all_reach(&rt, alloc, &both, &[(at(0, 3), at(1, 0), (2, 1), 7)]);
+    let one = scene(&rt, alloc, &[(at(5, 2), at(7, 4))], &[]);
+    all_reach(&rt, alloc, &one, &[(at(0, 3), at(1, 0), (5, 1), 7)]);
+    let screened = scene(&rt, alloc, &[], &[(at(3, 4), at(7, 4))]);
+    let rays = [
+        (at(5, 0), at(0, 1), (4, 1), 4),
+        (at(3, 0), at(0, 1), (10, 1), 2),
+        (at(0, 4), at(1, 0), (10, 1), 1),
+        (at(0, 0), at(1, 1), (4, 1), 4),
+    ];
+    all_reach(&rt, alloc, &screened, &rays);
+}
+
+/// Stations on walls, at corners, on screens and at their ends, in boxes and outside.
+#[test]
+fn answers_are_those_of_the_plain_calls(rt: HostRuntime) {
+    let alloc = rt.alloc();
+    let boxes = [
+        (at(2, 2), at(4, 4)),
+        (at(6, 4), at(8, 6)),
+        (at(1, 6), at(3, 9)),
+    ];
+    let screens = [(at(5, 1), at(9, 3)), (at(4, 6), at(4, 9))];
+    let mixed = scene(&rt, alloc, &boxes, &screens);
+    let stations = [
+        at(0, 4),
+        at(2, 2),
+        at(3, 4),
+        at(3, 3),
+        at(7, 2),
+        at(5, 1),
+        at(4, 7),
+        at(5, 5),
+        at(0, 0),
+        at(10, 10),
+        at(-1, 4),
+        at(7, 5),
+    ];
+    sees_as_plain(&rt, alloc, &mixed, &stations);
+    reaches_as_plain(&rt, alloc, &mixed, &stations);
+}
