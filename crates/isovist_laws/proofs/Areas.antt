@@ -1,5 +1,5 @@
 -- Floors and ceilings of doubled areas: they are the same in lowest terms, and at most 8 * 10^10.
-use Rattle.std.proofs.Common.{◌≡◌, ◌∙◌, ◌⊎◌, inl, inr, ℕ, ℤ, pos, neg_ℤ, ◌+ℤ◌, ◌-ℤ◌, ◌*ℤ◌, ◌<ℤ◌, ◌≤ℤ◌, arith, Bool, true, false, refl, sym, ap, subst}
+use Rattle.std.proofs.Common.{◌≡◌, ◌∙◌, ◌⊎◌, inl, inr, ℤ, pos, ◌-ℤ◌, ◌*ℤ◌, ◌<ℤ◌, ◌≤ℤ◌, arith, sym, ap, subst}
 use Rattle.std.specs.Prelude.{int_le}
 use Rattle.std.proofs.lemmas.Int.{ints}
 use Rattle.int_laws.proofs.Ring.{product_grouped, product_swapped, minus_times, times_minus, zero_times}
@@ -8,9 +8,9 @@ use Rattle.int_laws.proofs.Tests.{tested_at_most, at_most_tested}
 use Rattle.int_laws.proofs.Multiples.{at_most_scaled}
 use Rattle.plane_spec.specs.declared.Point.{Point}
 use Rattle.plane_spec.specs.declared.Segment.{Segment}
-use Rattle.plane_spec.specs.Vectors.{vector, cross_of, orient_of, InRange, IsWithin}
+use Rattle.plane_spec.specs.Vectors.{vector, cross_of, InRange}
 use Rattle.plane_spec.specs.Segments.{IsSegmentInRange}
-use Rattle.plane_spec.specs.Fractions.{Fraction, reduced, floor_of, ceil_of, is_at_least, is_at_most, IsReduced}
+use Rattle.plane_spec.specs.Fractions.{Fraction, reduced, floor_of, ceil_of, is_at_least, is_at_most}
 use Rattle.sight_spec.specs.Scene.{Scene, blockers_of_scene}
 use Rattle.sight_spec.specs.Isovist.{Run, blocker_at, meeting_with}
 use Rattle.exact_geom.proofs.Lowest.{divisor_of, divisor_is_positive, reduced_is_reduced}

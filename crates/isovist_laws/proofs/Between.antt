@@ -1,16 +1,16 @@
 -- What lies strictly between two directions lies between them in the order, too.
-use Rattle.std.proofs.Common.{◌≡◌, ◌∙◌, ◌⊎◌, inl, inr, ℤ, pos, neg_ℤ, ◌+ℤ◌, ◌-ℤ◌, ◌*ℤ◌, ◌<ℤ◌, ◌≤ℤ◌, arith, ap, refl, sym, subst}
-use Rattle.std.specs.Prelude.{Bool, true, false, int_lt}
-use Rattle.std.proofs.lemmas.Int.{ints, by_lt_z}
+use Rattle.std.proofs.Common.{◌≡◌, ◌∙◌, ℤ, pos, neg_ℤ, ◌-ℤ◌, ◌*ℤ◌, ◌<ℤ◌, arith, ap, refl, sym, subst}
+use Rattle.std.specs.Prelude.{Bool, true, false}
+use Rattle.std.proofs.lemmas.Int.{ints}
 use Rattle.std.proofs.lemmas.Bool.{both_ways}
 use Rattle.plane_spec.specs.declared.Point.{Point}
-use Rattle.plane_spec.specs.Vectors.{cross_of, turns_left, is_upper, turns_by, turns_before, turn_order_of, IsDirected, point, same_point}
-use Rattle.std.specs.declared.cmp.Ordering.TheVariants.{Less, Equal, Greater}
+use Rattle.plane_spec.specs.Vectors.{cross_of, is_upper, turns_by, turns_before, turn_order_of, IsDirected}
+use Rattle.std.specs.declared.cmp.Ordering.TheVariants.{Equal}
 use Rattle.int_laws.proofs.Ring.{cross_of_three, times_zero, times_neg, times_minus, product_moved, product_swapped}
 use Rattle.int_laws.proofs.Signs.{positive_product, not_negative_product, positive_factor, positive_tested}
 use Rattle.exact_geom.specs.Directions.{PointAlike}
 use Rattle.exact_geom.proofs.Turns.{cross_of_exchanged}
-use Rattle.exact_geom.proofs.Circle.{IsUpper, above, along, upper_is, lower_is, not_down, back, both_back}
+use Rattle.exact_geom.proofs.Circle.{IsUpper, above, along, upper_is, lower_is, not_down, both_back}
 use Rattle.exact_geom.proofs.TurnLaws.{equal_is_alike}
 
 -- ---- one half turn
@@ -140,7 +140,7 @@ other_side f v x a =
     ∙ sym (times_neg a.times_other (cross_of f x)) ∙ ap (λ t. a.times_other *ℤ t) (sym (cross_of_exchanged f x))
 
 -- a number has the sign of its multiples
-sign_kept : (r s y z : ℤ) → pos 0 <ℤ r → pos 0 <ℤ s → r *ℤ y ≡ s *ℤ z → pos 0 <ℤ y → pos 0 <ℤ z
+pub sign_kept : (r s y z : ℤ) → pos 0 <ℤ r → pos 0 <ℤ s → r *ℤ y ≡ s *ℤ z → pos 0 <ℤ y → pos 0 <ℤ z
 sign_kept r s y z r_up s_up same up =
     let product = positive_product r y r_up up in
     let swapped = product_swapped s z in

@@ -1,15 +1,14 @@
 -- The directions in which corners lie: they are in order, none is (0,0), and where a corner lies one of them points.
-use Rattle.std.proofs.Common.{◌≡◌, ◌∙◌, ℤ, pos, ◌-ℤ◌, ◌*ℤ◌, ◌<ℤ◌, arith, Bool, true, false, not, ◌&&◌, List, [], ◌∷◌, map, filter, get_or, refl, sym, ap, subst}
-use Rattle.std.specs.Prelude.{int_lt}
+use Rattle.std.proofs.Common.{◌≡◌, ◌∙◌, ℤ, pos, ◌-ℤ◌, ◌<ℤ◌, arith, Bool, true, false, not, ◌&&◌, List, [], ◌∷◌, filter, refl, sym, ap, subst}
 use Rattle.std.specs.Ordering.{int_eq}
 use Rattle.std.specs.List.{All, list_any}
 use Rattle.std.specs.List.Sorted.{ties}
 use Rattle.std.proofs.lemmas.Int.{ints}
 use Rattle.std.proofs.lemmas.Bool.{and_parts, and_from, both_ways, not-true, not_from_false, or_left, or_right, true_from_ne_false, false_from_ne_true}
-use Rattle.std.proofs.lemmas.List.Elements.{All-nil, All-cons, All-head, All-tail, All-map, All-weaker, All-filter, filter_passes}
+use Rattle.std.proofs.lemmas.List.Elements.{All-head, All-tail, All-map, All-weaker, filter_passes}
 use Rattle.list_laws.specs.Orders.{IsRising, IsWeakOrder}
 use Rattle.list_laws.proofs.Firsts.{firsts_hold}
-use Rattle.list_laws.proofs.Tests.{list_any_map, filter_none}
+use Rattle.list_laws.proofs.Tests.{list_any_map}
 use Rattle.list_laws.proofs.Elements.{found_among_passing}
 use Rattle.int_laws.proofs.Ring.{times_zero}
 use Rattle.int_laws.proofs.Tests.{tested_equal, equal_tested}

@@ -3,12 +3,12 @@
 -- A list in which each element comes before all after it is told by which element of it, if any, ties with each value.
 -- In the elements that are like none before them, put in order, it is the first one of the list that ties with the
 -- value. A stable sort keeps the order of those that tie; so it is the same one in the sorted list without repeats.
-use Rattle.std.proofs.Common.{◌≡◌, ◌∙◌, ℕ, suc, ◌+◌, ◌<◌, Bool, true, false, cond, not, ◌&&◌, ◌||◌, List, [], ◌∷◌, map, filter, take, length, get_or}
-use Rattle.std.proofs.Common.{refl, sym, ap, subst, arith, add-one}
+use Rattle.std.proofs.Common.{◌≡◌, ◌∙◌, suc, ◌+◌, Bool, true, false, cond, not, ◌&&◌, List, [], ◌∷◌, map, filter, get_or}
+use Rattle.std.proofs.Common.{refl, sym, ap, subst, arith}
 use Rattle.std.specs.List.{All, list_any, dedup_from, dedup}
 use Rattle.std.specs.List.Sorted.{ties, IsSortedBy}
 use Rattle.std.specs.Cmp.{IsStrictWeakOrder}
-use Rattle.std.proofs.lemmas.Bool.{and_parts, not-true, not_from_false, both_ways, or_parts}
+use Rattle.std.proofs.lemmas.Bool.{and_parts, not-true, both_ways, or_parts}
 use Rattle.std.proofs.lemmas.List.Elements.{All-nil, All-cons, All-head, All-tail, All-map, All-weaker, All-filter, filter_passes}
 use Rattle.std.proofs.lemmas.List.Sorted.{sorted_far}
 use Rattle.plane_spec.specs.Lists.{distinct_after, distinct_by, inserted_by, in_order}

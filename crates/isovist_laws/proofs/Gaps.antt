@@ -2,7 +2,7 @@
 --
 -- In a gap from one direction to the next, each direction of the list stands up to the first of them or from the second
 -- on. In the gap from the last to the first one, each stands up to the last, and from the first on.
-use Rattle.std.proofs.Common.{◌≡◌, ◌∙◌, ◌⊎◌, inl, inr, Bool, true, false, List, [], ◌∷◌, ◌++◌, refl, sym, ap, subst, append_assoc}
+use Rattle.std.proofs.Common.{◌≡◌, ◌∙◌, Bool, true, false, List, [], ◌∷◌, ◌++◌, refl, sym, subst, append_assoc}
 use Rattle.std.specs.List.{All}
 use Rattle.std.proofs.lemmas.Bool.{both_ways}
 use Rattle.std.proofs.lemmas.List.Elements.{All-nil, All-cons, All-head, All-tail, All-append, All-weaker, All-same}
@@ -24,7 +24,8 @@ not_between e f x e_some f_some x_some (up_to h n) b = not_before e f x b e_some
 not_between e f x e_some f_some x_some (onwards h n) b = not_after e f x b e_some f_some x_some h n
 not_between e f x e_some f_some x_some (within h n m) b = not_neither e f x b e_some f_some x_some h n m
 
-itself : (x : Point) → turns_before x x ≡ false
+-- no direction comes before itself
+pub itself : (x : Point) → turns_before x x ≡ false
 itself x = by (turns_before x x) refl
   where
     by : (t : Bool) → turns_before x x ≡ t → t ≡ false

@@ -7,3 +7,6 @@ pub mod Directions
 pub mod Spanning
 pub mod Meetings
 pub mod Areas
+pub mod Rounds
+pub mod Inside
+mod Examples

@@ -14,7 +14,7 @@ use Rattle.plane_spec.specs.Vectors.{vector, cross_of, turns_left}
 use Rattle.plane_spec.specs.Fractions.{Fraction, fraction}
 use Rattle.sight_spec.specs.Scene.{Scene, scene_of, blockers_of_scene}
 use Rattle.sight_spec.specs.Stops.{wall_parameter}
-use Rattle.sight_spec.specs.Isovist.{Run, blocker_at, meeting_with, runs_of, sectors_of}
+use Rattle.sight_spec.specs.Isovist.{Run, blocker_at, runs_of, sectors_of}
 use Rattle.plan_spec.specs.Plan.{Plan}
 use Rattle.std.specs.List.{All}
 use Rattle.std.proofs.lemmas.List.Elements.{All-weaker}

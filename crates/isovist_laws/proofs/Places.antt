@@ -2,7 +2,7 @@
 use Rattle.std.proofs.Common.{◌≡◌, ◌∙◌, Bool, true, false, cond, ◌||◌, List, [], ◌∷◌, ◌++◌, map, get_or, refl, ap}
 use Rattle.std.specs.List.{All, list_any, flat_map}
 use Rattle.std.proofs.lemmas.Bool.{or_left, or_right, and_from}
-use Rattle.std.proofs.lemmas.List.Elements.{All-nil, All-cons, All-head, All-tail, All-append, All-map, All-weaker}
+use Rattle.std.proofs.lemmas.List.Elements.{All-nil, All-head, All-tail, All-append, All-map, All-weaker}
 use Rattle.std.proofs.lemmas.List.Folds.{list_any-append, list_any_at}
 use Rattle.list_laws.proofs.Tests.{list_any_map}
 use Rattle.list_laws.proofs.Elements.{found_in_part}
@@ -17,7 +17,7 @@ use Rattle.plane_spec.specs.Vectors.{same_point}
 use Rattle.plane_spec.specs.Polygons.{edges_to, edges_of}
 use Rattle.plan_spec.specs.declared.item.Screen.{Screen}
 use Rattle.plan_spec.specs.Plan.{Plan, Obstacle}
-use Rattle.sight_spec.specs.Scene.{Scene, scene_of, blockers_of_scene, has_orientation, oriented_corners, corners_after}
+use Rattle.sight_spec.specs.Scene.{scene_of, blockers_of_scene, has_orientation, oriented_corners, corners_after}
 use Rattle.sight_spec.specs.Scene.{last_edge, corners_along, turned_corner, corners_of, corners_of_obstacle}
 use Rattle.sight_spec.specs.Scene.{ends_of_screen, walls_of_obstacle, segment_of_screen, oriented_walls}
 use Rattle.box_laws.specs.Boxes.{OfEnds}

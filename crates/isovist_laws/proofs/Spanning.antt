@@ -4,12 +4,12 @@
 -- of the ray and the other to the left, less than a half turn apart. Both ends are corners, so that directions of corners
 -- point to them, and none lies strictly within the sector. So the wall spans the sector (`Wedge`). A run is made of
 -- sectors that follow each other, and the same wall spans each: so it spans the run.
-use Rattle.std.proofs.Common.{◌≡◌, ◌∙◌, ℕ, ◌<◌, ℤ, pos, neg_ℤ, ◌+ℤ◌, ◌-ℤ◌, ◌*ℤ◌, ◌<ℤ◌, ◌≤ℤ◌, arith, Bool, true, false, cond, not, ◌&&◌, ◌||◌, eqb, List, [], ◌∷◌, map, length, get_or, Option, Some, None, refl, sym, ap, subst}
-use Rattle.std.specs.Prelude.{int_lt, int_le, if◌then◌else◌}
-use Rattle.std.specs.List.{All, position}
+use Rattle.std.proofs.Common.{◌≡◌, ◌∙◌, ℕ, ◌<◌, ℤ, pos, neg_ℤ, ◌-ℤ◌, ◌<ℤ◌, arith, Bool, true, false, not, ◌&&◌, eqb, List, [], ◌∷◌, map, length, get_or, Option, Some, None, refl, sym, ap, subst}
+use Rattle.std.specs.Prelude.{int_lt, int_le}
+use Rattle.std.specs.List.{All}
 use Rattle.std.specs.List.Sorted.{ties}
-use Rattle.std.proofs.lemmas.Int.{ints, by_lt_z}
-use Rattle.std.proofs.lemmas.Bool.{and_parts, or_parts, or_cases, not-true, both_ways, eqb-true, cases_Bool, false_from_ne_true}
+use Rattle.std.proofs.lemmas.Int.{ints}
+use Rattle.std.proofs.lemmas.Bool.{and_parts, or_cases, not-true, both_ways, eqb-true, false_from_ne_true}
 use Rattle.std.proofs.lemmas.List.Elements.{All-nil, All-cons, All-head, All-tail, All-map, All-weaker}
 use Rattle.std.proofs.lemmas.List.Quantifiers.{position-Some}
 use Rattle.std.proofs.Common.{◌⊎◌, inl, inr}
@@ -17,16 +17,13 @@ use Rattle.int_laws.proofs.Tests.{tested_less}
 use Rattle.int_laws.proofs.Signs.{positive_tested, not_positive_tested}
 use Rattle.plane_spec.specs.declared.Point.{Point}
 use Rattle.plane_spec.specs.declared.Segment.{Segment}
-use Rattle.plane_spec.specs.Vectors.{vector, cross_of, turns_before, IsDirected}
-use Rattle.plane_spec.specs.Segments.{are_opposite}
-use Rattle.plane_spec.specs.Fractions.{Fraction, fraction}
+use Rattle.plane_spec.specs.Vectors.{vector, cross_of, turns_before}
+use Rattle.plane_spec.specs.Fractions.{fraction}
 use Rattle.plan_spec.specs.Plan.{Plan}
-use Rattle.sight_spec.specs.Scene.{Scene, scene_of, blockers_of_scene, corners_of}
-use Rattle.sight_spec.specs.Stops.{is_across, wall_parameter, blocker_hit, is_nearest, near_wall_of, RayHit, ray_hit}
-use Rattle.sight_spec.specs.Isovist.{corner_directions, gaps_to, gaps_of, sum_of, stops_at_once, wall_by, wall_between, Sector, sector_in, sectors_of, Run, run, goes_on, run_before, run_of_sector, has_wall, runs_of, blocker_at, no_segment}
+use Rattle.sight_spec.specs.Scene.{Scene, scene_of, blockers_of_scene}
+use Rattle.sight_spec.specs.Stops.{is_across, wall_parameter, blocker_hit, is_nearest, near_wall_of, ray_hit}
+use Rattle.sight_spec.specs.Isovist.{corner_directions, gaps_to, gaps_of, sum_of, stops_at_once, wall_between, Sector, sector_in, sectors_of, Run, run, goes_on, run_before, run_of_sector, has_wall, runs_of, blocker_at, no_segment}
 use Rattle.exact_geom.proofs.Turns.{cross_of_exchanged}
-use Rattle.exact_geom.proofs.Circle.{turns_one_way}
-use Rattle.box_laws.specs.Boxes.{OfEnds}
 use Rattle.isovist_laws.specs.Spans.{Wedge, Spans, forth, back, IsSpanned}
 use Rattle.isovist_laws.proofs.Wedge.{wedge_of_gap, wedges_join}
 use Rattle.isovist_laws.proofs.Between.{IsBetween, between_alike}

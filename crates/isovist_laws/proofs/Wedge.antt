@@ -6,12 +6,12 @@
 -- ef ab + eb fa = ea fb, where ea fb isn't positive, eb and fa have different signs; and they can't be the wrong way
 -- round, since then ea fb would be the smaller. So both directions lie from a to b: the ray in each of them meets the
 -- wall's line, and the wall from end to end.
-use Rattle.std.proofs.Common.{◌≡◌, ◌∙◌, ℤ, pos, neg_ℤ, ◌+ℤ◌, ◌-ℤ◌, ◌*ℤ◌, ◌<ℤ◌, ◌≤ℤ◌, arith, ap, refl, sym, subst}
+use Rattle.std.proofs.Common.{◌≡◌, ℤ, pos, neg_ℤ, ◌+ℤ◌, ◌-ℤ◌, ◌*ℤ◌, ◌<ℤ◌, ◌≤ℤ◌, arith}
 use Rattle.std.proofs.lemmas.Int.{ints, by_lt_z}
 use Rattle.plane_spec.specs.declared.Point.{Point}
-use Rattle.plane_spec.specs.Vectors.{cross_of, vector}
+use Rattle.plane_spec.specs.Vectors.{cross_of}
 use Rattle.sight_spec.specs.Isovist.{sum_of}
-use Rattle.int_laws.proofs.Ring.{cross_of_four, sum_times, minus_times, times_minus, product_swapped, neg_times}
+use Rattle.int_laws.proofs.Ring.{cross_of_four, sum_times, minus_times, product_swapped, neg_times}
 use Rattle.int_laws.proofs.Signs.{positive_product, not_negative_product, opposite_product, negative_factors, positive_factor}
 use Rattle.exact_geom.proofs.Turns.{cross_of_exchanged}
 use Rattle.isovist_laws.specs.Spans.{Wedge}
