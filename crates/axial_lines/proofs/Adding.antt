@@ -1,8 +1,8 @@
 -- Lines that are added pair by pair and row by row.
-use Rattle.std.proofs.Common.{◌≡◌, ◌∙◌, ℕ, suc, ◌+◌, ◌-◌, ◌<◌, ◌≤◌, Bool, true, false, cond, List, [], ◌∷◌, ◌++◌, map, filter, length, drop, take, get_or, arith, refl, sym, ap, subst}
-use Rattle.std.specs.Prelude.{Option}
+use Rattle.std.proofs.Common.{◌≡◌, ◌∙◌, ℕ, suc, ◌+◌, ◌<◌, ◌≤◌, Bool, true, false, cond, List, [], ◌∷◌, ◌++◌, map, filter, length, drop, get_or, arith, refl, sym, ap, subst}
+use Rattle.std.specs.Prelude.{Option, Some, None}
 use Rattle.std.specs.List.{list_any}
-use Rattle.std.proofs.lemmas.List.{map-append, drop_all, length-append, length-drop, take_all}
+use Rattle.std.proofs.lemmas.List.{map-append, drop_all, length-append}
 use Rattle.std.proofs.lemmas.List.Elements.{filter-append}
 use Rattle.std.proofs.Math.Seq.{drop-cons}
 use Rattle.plane_spec.specs.declared.Point.{Point}
@@ -11,7 +11,7 @@ use Rattle.plane_spec.specs.Lists.{pairs, with_each}
 use Rattle.sight_spec.specs.Scene.{Scene}
 use Rattle.sight_spec.specs.Axial.{AxialLine, line_through, is_seen_pair}
 use Rattle.extent_laws.specs.Corners.{Pair}
-use Rattle.axial_lines.specs.Found.{added, has_ends_of, is_wanted, lines_with, lines_added}
+use Rattle.axial_lines.specs.Found.{added, has_ends_of, is_wanted, is_wanted_extent, seen_line, lines_with, lines_added}
 
 plain : (k : ℕ) → suc k ≡ k + 1
 plain k = omega arith
@@ -35,9 +35,15 @@ none_fewer {X = X} alike kept (x ∷ xs) = by (list_any (alike x) kept) (λ ks. 
     by true ih = ih kept
     by false ih = let more = ih (kept ++ x ∷ []) in omega (arith, more, length-append kept (x ∷ []))
 
--- all that is left after a place
-pub rest_is : {X : Type 0} (n : ℕ) (xs : List X) → take (length xs - n) (drop n xs) ≡ drop n xs
-rest_is n xs = take_all (length xs - n) (drop n xs) (omega (arith, length-drop n xs))
+-- ---- ends that are known
+
+-- the extent of a line between the same points is wanted or not
+pub wanted_of_ends : (area : Option PlanBox) (m n first second : ℕ × Point) (line : AxialLine) → m ≡ first → n ≡ second
+    → {w : Bool} → is_wanted_extent area m.1 n.1 line.from line.to ≡ w
+    → is_wanted_extent area first.1 second.1 line.from line.to ≡ w
+wanted_of_ends area m n first second line e f h =
+    sym (ap (λ k. is_wanted_extent area k.1 n.1 line.from line.to) e
+    ∙ ap (λ k. is_wanted_extent area first.1 k.1 line.from line.to) f) ∙ h
 
 -- ---- lines of a scene
 
@@ -66,6 +72,43 @@ module _ (scene : Scene) (area : Option PlanBox) where
     where
       grown : {m n : ℕ} → m ≤ n → most < m → most < n
       grown h k = omega arith
+
+  -- ---- one pair
+
+  module _ (kept : List AxialLine) (e : Pair) (line : AxialLine) (seen : seen_line scene e ≡ Some line) where
+    -- the pair sees each other, and this is its line
+    sees : {P : Type 0} → (is_seen_pair scene e ≡ true → line_through scene e ≡ line → P) → P
+    sees {P = P} f = by (is_seen_pair scene e) refl seen
+      where
+        value_or : Option AxialLine → AxialLine
+        value_or None = line
+        value_or (Some l) = l
+
+        by : (t : Bool) → is_seen_pair scene e ≡ t → cond t (Some (line_through scene e)) None ≡ Some line → P
+        by true s h = f s (ap value_or h)
+        by false s h = cc
+
+    wanted_by : (w : Bool) → is_wanted_extent area e.0.1 e.1.1 line.from line.to ≡ w → line_through scene e ≡ line
+        → is_wanted scene area e ≡ w
+    wanted_by w h same = ap (λ l. is_wanted_extent area e.0.1 e.1.1 l.from l.to) same ∙ h
+
+    -- a line that isn't wanted adds nothing
+    pub one_unwanted : is_wanted_extent area e.0.1 e.1.1 line.from line.to ≡ false
+        → kept ≡ lines_added scene area kept (e ∷ [])
+    one_unwanted w = sees (λ s same. ap (added has_ends_of kept) (sym (none s (wanted_by false w same))))
+      where
+        none : is_seen_pair scene e ≡ true → is_wanted scene area e ≡ false → lines_with scene area (e ∷ []) ≡ []
+        none s t = rw (s, t) refl
+
+    -- one that is wanted is added
+    pub one_wanted : is_wanted_extent area e.0.1 e.1.1 line.from line.to ≡ true
+        → added has_ends_of kept (line ∷ []) ≡ lines_added scene area kept (e ∷ [])
+    one_wanted w =
+        sees (λ s same. ap (added has_ends_of kept) (sym (one s (wanted_by true w same) ∙ ap (λ l. l ∷ []) same)))
+      where
+        one : is_seen_pair scene e ≡ true → is_wanted scene area e ≡ true
+            → lines_with scene area (e ∷ []) ≡ line_through scene e ∷ []
+        one s t = rw (s, t) refl
 
   -- ---- a row, one pair after the other
 

@@ -1,8 +1,9 @@
 -- The corners of a scene, by their numbers.
 use Rattle.std.proofs.Common.{◌≡◌, ◌∙◌, ℕ, suc, ◌+◌, ◌<◌, ◌≤◌, List, [], ◌∷◌, ◌++◌, map, length, drop, get_or, All, arith, sym, ap, append_assoc}
 use Rattle.std.specs.List.{enumerate_from}
-use Rattle.std.proofs.lemmas.List.{drop_all, append-nil}
+use Rattle.std.proofs.lemmas.List.{drop_all, append-nil, length-map}
 use Rattle.std.proofs.lemmas.List.Elements.{All-map, All-weaker}
+use Rattle.std.proofs.lemmas.List.FromFn.{length-enumerate_from}
 use Rattle.std.proofs.Math.Seq.{drop-cons}
 use Rattle.plane_spec.specs.declared.Point.{Point}
 use Rattle.plane_spec.specs.declared.Corner.{Corner}
@@ -28,6 +29,12 @@ ends_in_range n corners all =
     numbered_hold InRange n (map here_of corners)
     (All-map InRange here_of corners
     (All-weaker IsCornerInRange (λ c. InRange (here_of c)) (λ c h. h.here) corners all))
+
+-- as many as there are corners
+pub as_many : (corners : List Corner) (ends : List (ℕ × Point)) → ends ≡ enumerate_from 0 (map here_of corners)
+    → length ends ≡ length corners
+as_many corners ends e =
+    ap length e ∙ length-enumerate_from 0 (map here_of corners) ∙ length-map corners here_of
 
 -- one after the other
 pub next_numbered : (corners : List Corner) (ends : List (ℕ × Point)) (k : ℕ) (d : Corner) → k < length corners

@@ -1,13 +1,15 @@
 -- Pairs that are stopped, one after the other.
-use Rattle.std.proofs.Common.{◌≡◌, ◌∙◌, ℕ, suc, ◌+◌, ◌<◌, ◌≤◌, Bool, true, false, ◌&&◌, List, [], ◌∷◌, ◌++◌, filter, map, length, drop, get_or, arith, refl, sym, ap}
+use Rattle.std.proofs.Common.{◌≡◌, ◌∙◌, ℕ, suc, ◌+◌, ◌<◌, ◌≤◌, Bool, true, false, ◌&&◌, List, [], ◌∷◌, ◌++◌, filter, map, length, drop, get_or, pos, arith, refl, sym, ap}
 use Rattle.std.specs.List.{list_all}
 use Rattle.std.proofs.lemmas.List.{drop_all}
 use Rattle.std.proofs.Math.Seq.{drop-cons}
 use Rattle.plane_spec.specs.declared.Point.{Point}
 use Rattle.plane_spec.specs.Lists.{pairs, with_each}
+use Rattle.plane_spec.specs.Vectors.{point}
 use Rattle.sight_spec.specs.Scene.{Scene}
 use Rattle.sight_spec.specs.Axial.{is_seen_pair}
 use Rattle.line_laws.specs.Lines.{is_stopped}
+use Rattle.axial_lines.specs.Looks.{end_at}
 use Rattle.axial_lines.specs.Removal.{is_stopped_if_seen}
 
 plain : (k : ℕ) → suc k ≡ k + 1
@@ -49,15 +51,14 @@ next_stopped test ends k d h =
     (plain k)
 
 -- a row that isn't stopped
-pub fails_at : (scene : Scene) (ends later : List (ℕ × Point)) (k : ℕ) (d : ℕ × Point) (row : Bool) → k < length ends
-    → later ≡ drop (k + 1) ends
-    → row ≡ list_all (is_stopped_if_seen scene) (map (with_each (get_or ends k d)) later) → row ≡ false
+pub fails_at : (scene : Scene) (ends : List (ℕ × Point)) (k : ℕ) (row : Bool) → k < length ends
+    → row ≡ list_all (is_stopped_if_seen scene) (map (with_each (end_at ends k)) (drop (k + 1) ends)) → row ≡ false
     → list_all (is_stopped_if_seen scene) (pairs (drop k ends)) ≡ list_all (is_stopped_if_seen scene) (pairs ends)
     → false ≡ list_all (is_stopped scene) (filter (is_seen_pair scene) (pairs ends))
-fails_at scene ends later k d row h l r none e =
-    sym (sym (stopped_if_seen scene (pairs ends)) ∙ sym e ∙ next_stopped (is_stopped_if_seen scene) ends k d h
-    ∙ ap (λ t. t && list_all (is_stopped_if_seen scene) (pairs (drop (k + 1) ends)))
-    (ap (λ ls. list_all (is_stopped_if_seen scene) (map (with_each (get_or ends k d)) ls)) (sym l) ∙ sym r ∙ none))
+fails_at scene ends k row h r none e =
+    sym (sym (stopped_if_seen scene (pairs ends)) ∙ sym e
+    ∙ next_stopped (is_stopped_if_seen scene) ends k (0, point (pos 0) (pos 0)) h
+    ∙ ap (λ t. t && list_all (is_stopped_if_seen scene) (pairs (drop (k + 1) ends))) (sym r ∙ none))
 
 -- all rows are
 pub holds_for_all : (scene : Scene) (ends : List (ℕ × Point)) (k : ℕ) → length ends ≤ k

@@ -118,17 +118,6 @@ removal_updated area before after old ends start count r o g e stopped =
     ∙ sym (lines_after_removal area before after (removed_in_box area before after (removed area before after r))
     g.closes are_stopped)
 
--- by what code was given: the ends that were found, those that were asked, and those that were used
-pub removal_asked : (area : PlanBox) (before after : Scene) (old : List AxialLine) (found asked used : List (ℕ × Point))
-    (start count : ℕ) (stopped : Bool) → IsEdited before after (removal_of area) → old ≡ axial_lines before
-    → IsGap area before after start count → found ≡ dirty_corners (removal_of area) before old after
-    → asked ≡ found → used ≡ found
-    → stopped ≡ list_all (is_stopped after) (filter (is_seen_pair after) (pairs asked)) → stopped ≡ true
-    → updated area before after old start count used ≡ axial_lines after
-removal_asked area before after old found asked used start count stopped r o g f a u s h =
-    removal_updated area before after old used start count r o g (u ∙ f)
-    (ap (λ es. list_all (is_stopped after) (filter (is_seen_pair after) (pairs es))) (u ∙ sym a) ∙ sym s ∙ h)
-
 -- ---- edits
 
 of_sound_plan : (before after : Scene) (boxes : Changed) → IsEdited before after boxes → IsOfSoundPlan before

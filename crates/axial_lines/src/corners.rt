@@ -1,6 +1,6 @@
 //! The corners of a scene with their numbers, and lists that grow.
 
-ghost use Rattle.std.specs.Prelude.{All, IfOk, OnErr, OnOk, ◌≡◌, ◌<◌, ◌+◌, ◌∷◌, ◌++◌, [], drop, length, map};
+ghost use Rattle.std.specs.Prelude.{All, IfOk, OnErr, OnOk, ◌≡◌, ◌<◌, ◌∷◌, ◌++◌, [], length, map};
 ghost use Rattle.std.specs.List.{enumerate_from};
 ghost use Rattle.plane_spec.specs.Vectors.{InRange};
 ghost use Rattle.sight_spec.specs.Axial.{here_of};
@@ -41,15 +41,4 @@ pub(crate) fn numbered_corners(alloc: Global, scene: &Scene) -> Result<Vec<(u32,
         append(&mut ends, (k as u32, corners[k].here))?;
     }
     Ok(ends)
-}
-
-/// The numbered points after one of them.
-#[tactic(auto, using(crate::proofs::Adding::rest_is))]
-pub(crate) fn later_than(ends: &[(u32, Point)], k: usize) -> &[(u32, Point)]
-    requires inside { k < length ends.now }
-    requires ends_in { All IsEndInRange ends.now }
-    ensures later { result.now ≡ drop (k + 1) ends.now }
-    ensures later_in { All IsEndInRange result.now }
-{
-    &ends[k + 1..]
 }

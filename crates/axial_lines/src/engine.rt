@@ -1,6 +1,6 @@
 //! The lines between numbered points.
 
-ghost use Rattle.std.specs.Prelude.{All, Err, IfOk, IfSome, OnOk, ◌≡◌, ◌≤◌, ◌<◌, ◌∷◌, [], length, map};
+ghost use Rattle.std.specs.Prelude.{Err, IfOk, IfSome, OnOk, ◌≡◌, ◌≤◌, ◌<◌, ◌+◌, ◌∷◌, [], drop, length, map};
 ghost use Rattle.plane_spec.specs.Vectors.{InRange};
 ghost use Rattle.plane_spec.specs.Lists.{distinct_by, pairs, with_each};
 ghost use Rattle.plan_spec.specs.Ranges.{IsBoxInRange};
@@ -9,13 +9,14 @@ ghost use Rattle.sight_spec.specs.Axial as axial;
 ghost use Rattle.exact_geom.specs.Parts.{HasRPointParts};
 ghost use Rattle.axial_lines.specs.declared.fault.LinesFault.TheVariants.{TooManyLines};
 ghost use Rattle.axial_lines.specs.Found as found;
-ghost use Rattle.axial_lines.specs.Found.{IsEndInRange, lines_added, lines_with};
+ghost use Rattle.axial_lines.specs.Found.{lines_added, lines_with};
+ghost use Rattle.axial_lines.specs.Looks.{end_at};
 
-use crate::corners::later_than;
 use crate::fault::LinesFault;
 use crate::line::AxialLine;
 use crate::line_set::LineSet;
-use crate::seen::seen_line;
+use crate::outlooks::Outlooks;
+use crate::pair::seen_line;
 use exact_geom::extent_meets_box;
 use plane_spec::{PlanBox, Point};
 use sight_core::Scene;
@@ -36,47 +37,53 @@ fn is_wanted(area: Option<PlanBox>, p: Point, q: Point, line: &AxialLine) -> boo
     }
 }
 
-/// Adds the line of a pair, where the two see each other, the line is wanted, and none of the others has its ends.
+/// Adds the line of the points at two places, where they see each other, the line is wanted, and none of the others has
+/// its ends.
 fn add_pair(
     lines: &mut LineSet,
     scene: &Scene,
+    outlooks: &Outlooks,
     area: Option<PlanBox>,
-    first: (u32, Point),
-    second: (u32, Point),
+    i: usize,
+    j: usize,
 ) -> Result<(), LinesFault>
+    requires of_scene { outlooks.now.scene ≡ scene.now }
     requires area_in { IfSome area IsBoxInRange }
-    requires first_in { InRange first.1 }
-    requires second_in { InRange second.1 }
-    ensures added { OnOk result (lines.new ≡ lines_added scene.now area lines.old ((first, second) ∷ [])) }
-    ensures too_many { result ≡ Err TooManyLines
-        → MAX_AXIAL_LINES < length (lines_added scene.now area lines.old ((first, second) ∷ [])) }
+    requires i_in { i < length outlooks.now.ends }
+    requires j_in { j < length outlooks.now.ends }
+    ensures added { OnOk result (lines.new
+        ≡ lines_added scene.now area lines.old ((end_at outlooks.now.ends i, end_at outlooks.now.ends j) ∷ [])) }
+    ensures too_many { result ≡ Err TooManyLines → MAX_AXIAL_LINES < length
+        (lines_added scene.now area lines.old ((end_at outlooks.now.ends i, end_at outlooks.now.ends j) ∷ [])) }
 {
-    let Some(line) = seen_line(scene, first, second) else {
+    let Some(line) = seen_line(scene, outlooks, i, j) else {
         return Ok(());
     };
-    if !is_wanted(area, first.1, second.1, &line) {
+    if !is_wanted(area, outlooks.end(i).1, outlooks.end(j).1, &line) {
         return Ok(());
     }
     lines.add(line)
 }
 
-/// Adds the lines of pairs of one point and each of the others.
+/// Adds the lines of the point at a place and each of those after it.
 fn add_row(
     lines: &mut LineSet,
     scene: &Scene,
+    outlooks: &Outlooks,
     area: Option<PlanBox>,
-    first: (u32, Point),
-    later: &[(u32, Point)],
+    i: usize,
 ) -> Result<(), LinesFault>
+    requires of_scene { outlooks.now.scene ≡ scene.now }
     requires area_in { IfSome area IsBoxInRange }
-    requires first_in { InRange first.1 }
-    requires later_in { All IsEndInRange later.now }
-    ensures added { OnOk result (lines.new ≡ lines_added scene.now area lines.old (map (with_each first) later.now)) }
-    ensures too_many { result ≡ Err TooManyLines
-        → MAX_AXIAL_LINES < length (lines_added scene.now area lines.old (map (with_each first) later.now)) }
+    requires i_in { i < length outlooks.now.ends }
+    ensures added { OnOk result (lines.new ≡ lines_added scene.now area lines.old
+        (map (with_each (end_at outlooks.now.ends i)) (drop (i + 1) outlooks.now.ends))) }
+    ensures too_many { result ≡ Err TooManyLines → MAX_AXIAL_LINES < length (lines_added scene.now area lines.old
+        (map (with_each (end_at outlooks.now.ends i)) (drop (i + 1) outlooks.now.ends))) }
 {
-    for k in 0..later.len() {
-        if let Err(fault) = add_pair(lines, scene, area, first, later[k]) {
+    let count = outlooks.count();
+    for k in i + 1..count {
+        if let Err(fault) = add_pair(lines, scene, outlooks, area, i, k) {
             return Err(fault);
         }
     }
@@ -87,17 +94,18 @@ fn add_row(
 fn add_rows(
     lines: &mut LineSet,
     scene: &Scene,
+    outlooks: &Outlooks,
     area: Option<PlanBox>,
-    ends: &[(u32, Point)],
 ) -> Result<(), LinesFault>
+    requires of_scene { outlooks.now.scene ≡ scene.now }
     requires area_in { IfSome area IsBoxInRange }
-    requires ends_in { All IsEndInRange ends.now }
-    ensures added { OnOk result (lines.new ≡ lines_added scene.now area lines.old (pairs ends.now)) }
+    ensures added { OnOk result (lines.new
+        ≡ lines_added scene.now area lines.old (pairs outlooks.now.ends)) }
     ensures too_many { result ≡ Err TooManyLines
-        → MAX_AXIAL_LINES < length (lines_added scene.now area lines.old (pairs ends.now)) }
+        → MAX_AXIAL_LINES < length (lines_added scene.now area lines.old (pairs outlooks.now.ends)) }
 {
-    for k in 0..ends.len() {
-        if let Err(fault) = add_row(lines, scene, area, ends[k], later_than(ends, k)) {
+    for k in 0..outlooks.count() {
+        if let Err(fault) = add_row(lines, scene, outlooks, area, k) {
             return Err(fault);
         }
     }
@@ -107,24 +115,24 @@ fn add_rows(
 /// The lines of the pairs that see each other and whose line meets the box, where there is one, each where none before
 /// it has its ends.
 ///
-/// Cost: for each pair sight and two stops, and for each line one look-up by a hash of its ends.
+/// Cost: for each pair sight; for those in sight two stops, and a look-up by a hash of the line's ends.
 #[tactic(auto, using(crate::proofs::Distinct::added_are_distinct))]
 pub(crate) fn lines_between(
     alloc: Global,
     scene: &Scene,
+    outlooks: &Outlooks,
     area: Option<PlanBox>,
-    ends: &[(u32, Point)],
 ) -> Result<Vec<AxialLine>, LinesFault>
+    requires of_scene { outlooks.now.scene ≡ scene.now }
     requires area_in { IfSome area IsBoxInRange }
-    requires ends_in { All IsEndInRange ends.now }
     ensures lines { IfOk result (λ lines. lines.items
-        ≡ distinct_by axial.same_ends (lines_with scene.now area (pairs ends.now))) }
+        ≡ distinct_by axial.same_ends (lines_with scene.now area (pairs outlooks.now.ends))) }
     ensures at_most { IfOk result (λ lines. length lines.items ≤ MAX_AXIAL_LINES) }
-    ensures too_many { result ≡ Err TooManyLines
-        → MAX_AXIAL_LINES < length (distinct_by axial.same_ends (lines_with scene.now area (pairs ends.now))) }
+    ensures too_many { result ≡ Err TooManyLines → MAX_AXIAL_LINES
+        < length (distinct_by axial.same_ends (lines_with scene.now area (pairs outlooks.now.ends))) }
 {
     let mut lines = LineSet::empty(alloc);
-    if let Err(fault) = add_rows(&mut lines, scene, area, ends) {
+    if let Err(fault) = add_rows(&mut lines, scene, outlooks, area) {
         return Err(fault);
     }
     match lines.to_list(alloc) {

@@ -6,6 +6,7 @@
 //! | [`LinesFault`] | why there is no list of lines |
 //! | [`all_lines`] | the axial lines of a scene |
 //! | [`update_lines`] | the axial lines after an edit, from those before it |
+//! | [`Steps`] | how many sweeps were made |
 //!
 //! Each pair of corners that see each other gives a line. Beyond each of the two it ends where something stops it, or
 //! at the corner itself where nothing does:
@@ -32,11 +33,15 @@ mod gap;
 mod kept;
 mod line;
 mod line_set;
+mod outlooks;
+mod pair;
 mod seen;
 mod stopped;
 mod update;
+mod views;
 
 pub use all::all_lines;
 pub use fault::LinesFault;
 pub use line::AxialLine;
+pub use sight_sweep::Steps;
 pub use update::update_lines;

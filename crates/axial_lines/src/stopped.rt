@@ -1,39 +1,39 @@
 //! Whether something stops the lines of pairs of corners at each end.
 
-ghost use Rattle.std.specs.Prelude.{All, ◌≡◌, filter, map};
+ghost use Rattle.std.specs.Prelude.{◌≡◌, ◌<◌, ◌+◌, drop, filter, length, map};
 ghost use Rattle.std.specs.List.{list_all};
 ghost use Rattle.plane_spec.specs.Lists.{pairs, with_each};
-ghost use Rattle.plane_spec.specs.Vectors.{InRange};
 ghost use Rattle.sight_spec.specs.Axial.{is_seen_pair};
 ghost use Rattle.line_laws.specs.Lines as lists;
-ghost use Rattle.axial_lines.specs.Found.{IsEndInRange};
+ghost use Rattle.axial_lines.specs.Looks.{end_at};
 ghost use Rattle.axial_lines.specs.Removal.{is_stopped_if_seen};
 
-use crate::corners::later_than;
-use crate::seen::stops_of_pair;
-use plane_spec::Point;
+use crate::outlooks::Outlooks;
 use sight_core::Scene;
 
-/// Whether something stops the line of the pair at each end, if the two see each other.
-fn is_stopped(scene: &Scene, first: (u32, Point), second: (u32, Point)) -> bool
-    requires first_in { InRange first.1 }
-    requires second_in { InRange second.1 }
-    ensures { result ≡ is_stopped_if_seen scene.now (first, second) }
+/// Whether something stops the line of the points at two places at each end, if the two see each other.
+fn is_stopped(scene: &Scene, outlooks: &Outlooks, i: usize, j: usize) -> bool
+    requires of_scene { outlooks.now.scene ≡ scene.now }
+    requires i_in { i < length outlooks.now.ends }
+    requires j_in { j < length outlooks.now.ends }
+    ensures { result ≡ is_stopped_if_seen scene.now (end_at outlooks.now.ends i, end_at outlooks.now.ends j) }
 {
-    match stops_of_pair(scene, first.1, second.1) {
+    match outlooks.stops_of_pair(scene, i, j) {
         None => true,
         Some((before, after)) => before.is_some() && after.is_some(),
     }
 }
 
-/// The same of the pairs of one point and each of the others.
-fn is_row_stopped(scene: &Scene, first: (u32, Point), later: &[(u32, Point)]) -> bool
-    requires first_in { InRange first.1 }
-    requires later_in { All IsEndInRange later.now }
-    ensures { result ≡ list_all (is_stopped_if_seen scene.now) (map (with_each first) later.now) }
+/// The same of the pairs of the point at a place and each of those after it.
+fn is_row_stopped(scene: &Scene, outlooks: &Outlooks, i: usize) -> bool
+    requires of_scene { outlooks.now.scene ≡ scene.now }
+    requires i_in { i < length outlooks.now.ends }
+    ensures { result ≡ list_all (is_stopped_if_seen scene.now)
+        (map (with_each (end_at outlooks.now.ends i)) (drop (i + 1) outlooks.now.ends)) }
 {
-    for k in 0..later.len() {
-        if !is_stopped(scene, first, later[k]) {
+    let count = outlooks.count();
+    for k in i + 1..count {
+        if !is_stopped(scene, outlooks, i, k) {
             return false;
         }
     }
@@ -42,14 +42,15 @@ fn is_row_stopped(scene: &Scene, first: (u32, Point), later: &[(u32, Point)]) ->
 
 /// The same of all pairs.
 ///
-/// Cost: for each pair sight and two stops.
+/// Cost: for each pair sight, and for those in sight two stops.
 #[tactic(auto, using(crate::proofs::Stopping::stopped_if_seen))]
-pub(crate) fn are_stopped(scene: &Scene, ends: &[(u32, Point)]) -> bool
-    requires ends_in { All IsEndInRange ends.now }
-    ensures { result ≡ list_all (lists.is_stopped scene.now) (filter (is_seen_pair scene.now) (pairs ends.now)) }
+pub(crate) fn are_stopped(scene: &Scene, outlooks: &Outlooks) -> bool
+    requires of_scene { outlooks.now.scene ≡ scene.now }
+    ensures { result
+        ≡ list_all (lists.is_stopped scene.now) (filter (is_seen_pair scene.now) (pairs outlooks.now.ends)) }
 {
-    for k in 0..ends.len() {
-        if !is_row_stopped(scene, ends[k], later_than(ends, k)) {
+    for k in 0..outlooks.count() {
+        if !is_row_stopped(scene, outlooks, k) {
             return false;
         }
     }

@@ -4,7 +4,7 @@ ghost use Rattle.std.specs.Prelude.{◌≡◌, ◌≤◌, length};
 ghost use Rattle.plan_spec.specs.declared.limits.TheConstants.{MAX_AXIAL_LINES};
 ghost use Rattle.sight_spec.specs.Axial.{IsLineOf, axial_lines as lines_of};
 
-use axial_lines::{AxialLine, all_lines};
+use axial_lines::{AxialLine, Steps, all_lines};
 use line_graph::{crossing_graph, meet};
 use plan_check::{Item, Items, Plan};
 use plane_spec::Point;
@@ -35,7 +35,7 @@ fn lines_in(rt: &impl Abort, alloc: Global, scene: &Scene) -> Vec<AxialLine>
     ensures lines { result.items ≡ lines_of scene.now }
     ensures at_most { length result.items ≤ MAX_AXIAL_LINES }
 {
-    match all_lines(alloc, scene) {
+    match all_lines(alloc, scene, &mut Steps::new()) {
         Ok(lines) => lines,
         Err(_) => panic!(rt; "there is memory, and there are few lines"),
     }

@@ -5,7 +5,7 @@ ghost use Rattle.plan_spec.specs.Edits.{HasShift};
 ghost use Rattle.sight_spec.specs.Axial.{axial_lines};
 ghost use Rattle.sight_spec.specs.Scene as scenes;
 
-use axial_lines::{AxialLine, all_lines, update_lines};
+use axial_lines::{AxialLine, Steps, all_lines, update_lines};
 use exact_geom::RPoint;
 use plan_check::{Edit, Item, Items, Name, Plan, PlanData, Points, check};
 use plane_spec::Point;
@@ -73,22 +73,28 @@ fn scene(rt: &impl Abort, alloc: Global, plan: &Plan) -> Scene
     }
 }
 
-fn lines(rt: &impl Abort, alloc: Global, scene: &Scene) -> Vec<AxialLine>
+fn lines(rt: &impl Abort, alloc: Global, scene: &Scene, steps: &mut Steps) -> Vec<AxialLine>
     ensures { result.items ≡ axial_lines scene.now }
 {
-    match all_lines(alloc, scene) {
+    match all_lines(alloc, scene, steps) {
         Ok(lines) => lines,
         Err(_) => panic!(rt; "there is memory, and there are few lines"),
     }
 }
 
 fn lines_of(rt: &impl Abort, alloc: Global, plan: &Plan) -> Vec<AxialLine> {
-    lines(rt, alloc, &scene(rt, alloc, plan))
+    lines(rt, alloc, &scene(rt, alloc, plan), &mut Steps::new())
 }
 
-/// The lines after an edit, from those before it.
+/// The lines after an edit, from those before it. Only the sweeps of the former are counted.
 #[tactic(auto, using(axial_lines::proofs::Edits::edited_plan))]
-fn after_edit(rt: &impl Abort, alloc: Global, plan: &Plan, edit: &Edit) -> Vec<AxialLine>
+fn after_edit(
+    rt: &impl Abort,
+    alloc: Global,
+    plan: &Plan,
+    edit: &Edit,
+    steps: &mut Steps,
+) -> Vec<AxialLine>
     requires { HasShift edit.now }
 {
     // a plan says that it is sound where its outer polygon is read
@@ -97,8 +103,8 @@ fn after_edit(rt: &impl Abort, alloc: Global, plan: &Plan, edit: &Edit) -> Vec<A
         panic!(rt; "the edit is accepted");
     };
     let (before, after) = (scene(rt, alloc, plan), scene(rt, alloc, &edited));
-    let old = lines(rt, alloc, &before);
-    match update_lines(alloc, &old, &before, &after, plan.changed(edit)) {
+    let old = lines(rt, alloc, &before, &mut Steps::new());
+    match update_lines(alloc, &old, &before, &after, plan.changed(edit), steps) {
         Ok(lines) => lines,
         Err(_) => panic!(rt; "there is memory, and there are few lines"),
     }
@@ -188,18 +194,22 @@ fn equal_lines(rt: &impl Abort, alloc: Global) {
 }
 
 fn after_removal(rt: &impl Abort, alloc: Global, plan: &Plan, letter: u8) -> Vec<AxialLine> {
-    after_edit(rt, alloc, plan, &Edit::Remove(name(rt, letter)))
+    let edit = Edit::Remove(name(rt, letter));
+    after_edit(rt, alloc, plan, &edit, &mut Steps::new())
 }
 
 fn after_screen_removal(rt: &impl Abort, alloc: Global, plan: &Plan, letter: u8) -> Vec<AxialLine> {
-    after_edit(rt, alloc, plan, &Edit::RemoveScreen(name(rt, letter)))
+    let edit = Edit::RemoveScreen(name(rt, letter));
+    after_edit(rt, alloc, plan, &edit, &mut Steps::new())
 }
 
 /// A box is added to the empty room.
 fn box_added(rt: &impl Abort, alloc: Global, room: &Plan) {
     let points = box_points(rt, alloc, at(4, 4), at(6, 6));
     let edit = Edit::Add(name(rt, b'A'), points);
-    is_room_with_box(rt, &after_edit(rt, alloc, room, &edit));
+    let mut steps = Steps::new();
+    is_room_with_box(rt, &after_edit(rt, alloc, room, &edit, &mut steps));
+    assert!(rt; steps.sweeps() == 8);
 }
 
 /// Lines that stay change their numbers, and those that were hidden come between them.
@@ -209,6 +219,26 @@ fn one_of_three_removed(rt: &impl Abort, alloc: Global) {
     assert!(rt; after_removal(rt, alloc, &plan, b'A').len() == 32);
     assert!(rt; after_removal(rt, alloc, &plan, b'B').len() == 29);
     assert!(rt; after_screen_removal(rt, alloc, &plan, b'S').len() == 39);
+}
+
+/// How many sweeps are counted when the box of a letter is taken out.
+fn sweeps_of_removal(rt: &impl Abort, alloc: Global, plan: &Plan, letter: u8) -> u64 {
+    let mut steps = Steps::new();
+    let edit = Edit::Remove(name(rt, letter));
+    let _lines = after_edit(rt, alloc, plan, &edit, &mut steps);
+    steps.sweeps()
+}
+
+/// One sweep a corner for all lines, and one for each dirty corner after a removal: the four corners below a wide box are
+/// clean where a small box above it is taken out.
+fn sweeps_are_counted(rt: &impl Abort, alloc: Global) {
+    let boxes = [(b'A', at(1, 5), at(9, 6)), (b'B', at(4, 8), at(5, 9))];
+    let plan = room(rt, alloc, &boxes, &[]);
+    let mut steps = Steps::new();
+    let _lines = lines(rt, alloc, &scene(rt, alloc, &plan), &mut steps);
+    assert!(rt; steps.sweeps() == 12);
+    assert!(rt; sweeps_of_removal(rt, alloc, &plan, b'B') == 4);
+    assert!(rt; sweeps_of_removal(rt, alloc, &plan, b'A') == 8);
 }
 
 #[test]
@@ -221,6 +251,7 @@ fn rooms_have_these_axial_lines(rt: HostRuntime) {
     is_room_with_box(&rt, &lines_of(&rt, alloc, &boxed));
     is_room_with_screen(&rt, &lines_of(&rt, alloc, &screened));
     equal_lines(&rt, alloc);
+    sweeps_are_counted(&rt, alloc);
 }
 
 #[test]

@@ -14,7 +14,7 @@ ghost use Rattle.vga_grid.specs.Rows.{graph_of};
 ghost use Rattle.axial_lines.specs.declared.fault.LinesFault.TheVariants.{TooManyLines};
 ghost use Rattle.plan_edit.specs.Sessions as sessions;
 
-use axial_lines::{AxialLine, LinesFault, all_lines, update_lines};
+use axial_lines::{AxialLine, LinesFault, Steps, all_lines, update_lines};
 use plan_check::{Changed, Edit, EditFault, Plan};
 use sight_core::{Scene, scene_of};
 use std::alloc::Global;
@@ -72,7 +72,7 @@ fn lines_after(
     let Some(old) = kept else {
         return Ok(None);
     };
-    match update_lines(alloc, old, before, after, boxes) {
+    match update_lines(alloc, old, before, after, boxes, &mut Steps::new()) {
         Ok(lines) => Ok(Some(lines)),
         Err(LinesFault::TooManyLines) => Ok(None),
         Err(LinesFault::NoMemory) => Err(NoMemory),
@@ -178,7 +178,7 @@ impl Session {
         ensures stays { OnErr result (self.new ≡ self.old) }
     {
         if self.lines.is_none() {
-            let lines = all_lines(alloc, &self.scene)?;
+            let lines = all_lines(alloc, &self.scene, &mut Steps::new())?;
             self.lines = Some(lines);
         }
         Ok(())

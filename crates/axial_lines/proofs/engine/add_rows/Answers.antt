@@ -1,5 +1,5 @@
-use Rattle.std.proofs.Common.{ℕ, pos, ap, sym, subst, ◌∙◌, ◌+◌, ◌<◌, drop, map, get_or, length}
-use Rattle.plane_spec.specs.Lists.{pairs, with_each}
+use Rattle.std.proofs.Common.{ℕ, pos, ap, sym, subst, ◌∙◌, ◌+◌, ◌<◌, drop}
+use Rattle.plane_spec.specs.Lists.{pairs}
 use Rattle.plane_spec.specs.declared.Point.{Point}
 use Rattle.plane_spec.specs.Vectors.{point}
 use Rattle.plan_spec.specs.declared.limits.TheConstants.{MAX_AXIAL_LINES}
@@ -12,17 +12,15 @@ none = (0, point (pos 0) (pos 0))
 
 pub loop-k-preserved : goal.loop-k-preserved
 loop-k-preserved c =
-    ap (λ ls. lines_added c.args.scene.now c.args.area ls (pairs (drop (c.loop-k.k + 1) c.args.ends.now)))
-    (c.in_default.ensures.added
-    ∙ ap (λ later. lines_added c.args.scene.now c.args.area c.loop-k.lines
-    (map (with_each (get_or c.args.ends.now c.loop-k.k none)) later)) c.later_than.ensures.later)
-    ∙ sym (next_row c.args.scene.now c.args.area c.args.ends.now c.loop-k.lines c.loop-k.k none c.loop-k-test.true)
+    let ends = c.args.outlooks.now.ends in
+    ap (λ ls. lines_added c.args.scene.now c.args.area ls (pairs (drop (c.loop-k.k + 1) ends)))
+    c.in_default.ensures.added
+    ∙ sym (next_row c.args.scene.now c.args.area ends c.loop-k.lines c.loop-k.k none
+    (subst (λ n. c.loop-k.k < n) c.count-k-end.ensures c.loop-k-test.true))
     ∙ c.loop-k.invariant
 
 pub returns-in-Err-clause-too_many : goal.returns-in-Err-clause-too_many
 returns-in-Err-clause-too_many c =
-    λ e. too_many_with_row c.args.scene.now c.args.area c.args.ends.now c.loop-k.lines c.loop-k.k MAX_AXIAL_LINES _ none
-    c.loop-k-test.true c.loop-k.invariant
-    (subst (λ later. MAX_AXIAL_LINES < length (lines_added c.args.scene.now c.args.area c.loop-k.lines
-    (map (with_each (get_or c.args.ends.now c.loop-k.k none)) later))) c.later_than.ensures.later
-    (c.in-Err.ensures.too_many e))
+    λ e. too_many_with_row c.args.scene.now c.args.area c.args.outlooks.now.ends c.loop-k.lines c.loop-k.k
+    MAX_AXIAL_LINES _ none (subst (λ n. c.loop-k.k < n) c.count-k-end.ensures c.loop-k-test.true) c.loop-k.invariant
+    (c.in-Err.ensures.too_many e)

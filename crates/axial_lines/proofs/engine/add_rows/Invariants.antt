@@ -5,5 +5,5 @@ use Rattle.axial_lines.proofs.engine.add_rows.Given as goal
 
 abbrev pub invariant-loop-k : goal.invariant-loop-k
 invariant-loop-k l =
-    lines_added l.scene l.area l.lines (pairs (drop l.k l.ends))
-    ≡ lines_added l.scene l.area l.fn.lines (pairs l.ends)
+    lines_added l.scene l.area l.lines (pairs (drop l.k l.outlooks.ends))
+    ≡ lines_added l.scene l.area l.fn.lines (pairs l.outlooks.ends)

@@ -6,5 +6,5 @@ use Rattle.axial_lines.proofs.stopped.are_stopped.Given as goal
 
 abbrev pub invariant-loop-k : goal.invariant-loop-k
 invariant-loop-k l =
-    list_all (is_stopped_if_seen l.scene) (pairs (drop l.k l.ends))
-    ≡ list_all (is_stopped_if_seen l.scene) (pairs l.ends)
+    list_all (is_stopped_if_seen l.scene) (pairs (drop l.k l.outlooks.ends))
+    ≡ list_all (is_stopped_if_seen l.scene) (pairs l.outlooks.ends)

@@ -1,6 +1,9 @@
-use Rattle.std.proofs.Common.{◌≡◌, ◌<◌, Err, IfOk, length, subst}
+use Rattle.std.proofs.Common.{◌≡◌, ◌<◌, Err, IfOk, length, subst, sym}
 use Rattle.plan_spec.specs.declared.limits.TheConstants.{MAX_AXIAL_LINES}
 use Rattle.axial_lines.specs.declared.fault.LinesFault.TheVariants.{TooManyLines}
+use Rattle.axial_lines.specs.Looks.{HasCountedUpTo, more_by}
+use Rattle.axial_lines.proofs.DirtyCounts.{all_are_dirty, none_is_dirty}
+use Rattle.axial_lines.proofs.Looking.{unmoved}
 use Rattle.axial_lines.proofs.Updating.{lines_unchanged, old_lines_known, old_box_in}
 use Rattle.axial_lines.proofs.update.update_lines.Goals as goal
 
@@ -23,3 +26,21 @@ returns-in-None-first-clause-too_many c =
     subst (λ ls. c.unchanged.result ≡ Err TooManyLines → MAX_AXIAL_LINES < length ls)
     (lines_unchanged c.args.before.now c.args.after.now c.args.boxes c.args.old.now c.requires.edited c.requires.old_are
     c.in-None-first.is c.in-None.is) c.unchanged.ensures.too_many
+
+pub returns-in-Some-clause-counted : goal.returns-in-Some-clause-counted
+returns-in-Some-clause-counted c =
+    subst (λ n. IfOk c.all_lines.result (λ lines. c.all_lines.new.steps ≡ more_by n c.args.steps.now))
+    (sym (all_are_dirty c.args.before.now c.args.after.now c.args.boxes c.in-Some.field-0 c.args.old.now
+    c.requires.edited c.in-Some.is)) c.all_lines.ensures.counted
+
+pub returns-in-Some-clause-counted_at_most : goal.returns-in-Some-clause-counted_at_most
+returns-in-Some-clause-counted_at_most c =
+    subst (λ n. HasCountedUpTo n c.args.steps.now c.all_lines.new.steps)
+    (sym (all_are_dirty c.args.before.now c.args.after.now c.args.boxes c.in-Some.field-0 c.args.old.now
+    c.requires.edited c.in-Some.is)) c.all_lines.ensures.counted_at_most
+
+pub returns-in-None-first-clause-counted : goal.returns-in-None-first-clause-counted
+returns-in-None-first-clause-counted c =
+    unmoved c.unchanged.result _ c.args.steps.now
+    (none_is_dirty c.args.before.now c.args.after.now c.args.boxes c.args.old.now c.requires.edited
+    c.in-None-first.is c.in-None.is)
