@@ -1,39 +1,31 @@
 -- What a look tells of a pair is whether it is an edge.
-use Rattle.std.specs.Prelude.{◌≡◌, ℕ, ◌<◌, Bool, true, false, List, length, slice_index_or, Option, Some, None}
-use Rattle.std.proofs.Common.{refl, ◌∙◌, arith}
+use Rattle.std.specs.Prelude.{◌≡◌, ℕ, ◌<◌, ◌&&◌, Bool, true, false, List, [], length, map, slice_index_or}
+use Rattle.std.specs.List.{range_with_len}
+use Rattle.std.proofs.Common.{refl, sym, ap, ◌∙◌, arith}
+use Rattle.std.proofs.lemmas.Bool.{lt-ltb}
 use Rattle.std.proofs.lemmas.List.FromFn.{get_or-map-range_with_len}
 use Rattle.plan_spec.specs.Plan.{Plan}
 use Rattle.plan_spec.specs.Grid.{grid_points, point_of_number}
-use Rattle.sight_spec.specs.Scene.{scene_of}
-use Rattle.sight_spec.specs.Sight.{are_in_sight}
-use Rattle.view_laws.specs.declared.view.View.{View}
 use Rattle.vga_grid.specs.Openness.{is_number_open, openness_of}
 use Rattle.vga_grid.proofs.Covered.{are_joined, visible_is}
+use Rattle.vga_looks.specs.Tables.{is_seen_later, seen_later}
+use Rattle.vga_fill.specs.Graphs.{is_edge_of}
 use Rattle.vga_fill.specs.Sights.{IsLook}
 
 module _ (plan : Plan) (flags : List Bool) (tested : flags ≡ openness_of plan (length (grid_points plan.grid))) where
+  -- a flag tells whether its point is open
   pub flag_is : (k : ℕ) → k < length (grid_points plan.grid) → slice_index_or flags k false ≡ is_number_open plan k
   flag_is k below =
       rw tested (get_or-map-range_with_len (is_number_open plan) 0 (length (grid_points plan.grid)) k k false below (omega arith))
 
-  module _ (row j : ℕ) (rises : row < j) (below : j < length (grid_points plan.grid)) where
-    pub closed_is : is_number_open plan row ≡ false → false ≡ are_joined plan row j
-    closed_is shut =
-        let flag = flag_is row (omega (arith, rises, below)) ∙ shut in
-        visible_is plan flags row j false tested rises below (rw flag refl)
+  -- a closed point sees none: no answers are those of a look from it
+  pub closed_look : (row : ℕ) → slice_index_or flags row false ≡ false → IsLook plan row []
+  unfolding is_edge_of
+  closed_look row shut j rises below = visible_is plan flags row j false tested rises below (rw shut refl)
 
-    pub hidden_is : is_number_open plan row ≡ true → slice_index_or flags j false ≡ false → false ≡ are_joined plan row j
-    hidden_is opened shut =
-        let flag = flag_is row (omega (arith, rises, below)) ∙ opened in
-        visible_is plan flags row j false tested rises below (rw (flag, shut) refl)
-
-    pub seen_is : (t : Bool) → is_number_open plan row ≡ true → slice_index_or flags j false ≡ true
-        → t ≡ are_in_sight (scene_of plan) (point_of_number plan.grid row) (point_of_number plan.grid j) → t ≡ are_joined plan row j
-    seen_is t opened opened_too seen =
-        let flag = flag_is row (omega (arith, rises, below)) ∙ opened in
-        visible_is plan flags row j t tested rises below (rw (flag, opened_too) seen)
-
--- without a look the point is closed
-pub no_look : (plan : Plan) (row : ℕ) (look : Option View) → IsLook plan row look → ((view : View) → look ≡ Some view → ⊥) → is_number_open plan row ≡ false
-no_look plan row None is none = is
-no_look plan row (Some view) is none = absurd (none view refl)
+-- the later points that a point sees are told by its row
+pub seen_look : (plan : Plan) (row : ℕ) (seen : List Bool) → seen ≡ seen_later plan row (length (grid_points plan.grid)) → IsLook plan row seen
+unfolding is_edge_of
+seen_look plan row seen is j rises below =
+    rw is (get_or-map-range_with_len (is_seen_later plan row) 0 (length (grid_points plan.grid)) j j false below (omega arith)
+    ∙ ap (λ t. t && are_joined plan row j) (lt-ltb row j rises))

@@ -15,6 +15,27 @@ module _ (n : ℕ) (ones : ℕ → ℕ → Bool) where
   abbrev pub is_told : ℕ → ℕ → Bool
   is_told a b = nat_lt b n && ones a b
 
+  and_none : (t : Bool) → (t && false) ≡ false
+  and_none true = refl
+  and_none false = refl
+
+  -- places of a row that are 0 are passed over
+  pub passed_over : (i j m a b : ℕ) → j ≤ m → ((k : ℕ) → j ≤ k → k < m → ones i k ≡ false)
+      → (is_told a b && is_covered i j a b) ≡ (is_told a b && is_covered i m a b)
+  passed_over i j m a b order none = elim (cases_eq a i) [
+    | inr other ↦ rw (ne_eqb a i other) refl
+    | inl here ↦ elim (cases_lt b j) [
+      | inl less ↦ rw (eq-eqb a i here, lt-ltb b j less, lt-ltb b m (omega (arith, less, order))) refl
+      | inr past ↦ elim (cases_lt b m) [
+        | inl between ↦
+            let off : is_told a b ≡ false
+            = ap (λ t. nat_lt b n && t) (ap (λ (k : ℕ). ones k b) here ∙ none b past between) ∙ and_none (nat_lt b n) in
+            rw off refl
+        | inr beyond ↦ rw (le-ltb b j past, le-ltb b m beyond) refl
+      ]
+    ]
+  ]
+
   pub row_ended : (i j a b : ℕ) → n ≤ j → a < b → (is_told a b && is_covered i j a b) ≡ (is_told a b && nat_lt a (i + 1))
   row_ended i j a b past up = elim (cases_lt b n) [
     | inr beyond ↦ rw (le-ltb b n beyond) refl

@@ -11,3 +11,5 @@ pub mod DirtyRows
 pub mod WrittenRows
 pub mod Edited
 pub mod Working
+pub mod GridRuns
+pub mod Ones

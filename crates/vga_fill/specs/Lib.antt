@@ -5,4 +5,5 @@ pub mod Graphs
 pub mod DoneRows
 pub mod Seats
 pub mod Sights
+pub mod Runs
 pub mod Workers

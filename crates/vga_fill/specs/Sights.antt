@@ -1,25 +1,19 @@
 -- What is asked of a plan, row by row.
-use Rattle.std.specs.Prelude.{◌≡◌, ℕ, ◌<◌, Bool, true, false, Option, Some, None}
+use Rattle.std.specs.Prelude.{◌≡◌, ℕ, ◌<◌, Bool, false, List, length, slice_index_or}
 use Rattle.plan_spec.specs.declared.edit.Changed.{Changed}
-use Rattle.plan_spec.specs.Grid.{point_of_number}
+use Rattle.plan_spec.specs.Grid.{grid_points, point_of_number}
 use Rattle.plan_spec.specs.Plan.{Plan}
 use Rattle.plan_spec.specs.Ranges.{AreBoxesInRange}
 use Rattle.sight_spec.specs.Dirty.{is_dirty_pair}
-use Rattle.sight_spec.specs.Scene.{scene_of}
-use Rattle.sight_sweep.specs.Answers.{IsSeenFrom}
-use Rattle.view_laws.specs.declared.view.Arc.TheVariants.{Later}
-use Rattle.view_laws.specs.declared.view.View.{View as WhatIsSeen}
-use Rattle.vga_grid.specs.Openness.{is_number_open}
 use Rattle.vga_fill.specs.declared.events.Task.{Task}
 use Rattle.vga_fill.specs.declared.job.Job.{Job}
 use Rattle.vga_fill.specs.declared.job.Job.TheVariants.{All, Dirty}
-use Rattle.vga_fill.specs.Graphs.{was_joined, is_to_join}
+use Rattle.vga_fill.specs.Graphs.{is_edge_of, was_joined, is_to_join}
 
--- what is seen from the grid point of a number in the half turn of those of greater numbers, or none where it is closed
-abbrev pub IsLook : Plan → ℕ → Option WhatIsSeen → Type 0
-IsLook plan row None = is_number_open plan row ≡ false
-IsLook plan row (Some view) =
-    (is_number_open plan row ≡ true) × IsSeenFrom (scene_of plan) (point_of_number plan.grid row) Later view
+-- the answers tell of each later grid point whether the visibility graph joins it with the one of the number
+abbrev pub IsLook : Plan → ℕ → List Bool → Type 0
+IsLook plan row seen =
+    (j : ℕ) → row < j → j < length (grid_points plan.grid) → slice_index_or seen j false ≡ is_edge_of plan row j
 
 -- the pair of two grid points is dirty
 abbrev pub is_dirty : Plan → Changed → ℕ → ℕ → Bool

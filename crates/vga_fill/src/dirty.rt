@@ -6,10 +6,13 @@ ghost use Rattle.plan_spec.specs.Ranges.{AreBoxesInRange, IsBoxInRange};
 ghost use Rattle.plane_spec.specs.Vectors.{InRange};
 ghost use Rattle.sight_spec.specs.Dirty as dirty;
 
+use crate::runs::first_dirty;
 use exact_geom::meets_box;
+use plan_check::Plan;
 use plan_spec::Changed;
 use plane_spec::{PlanBox, Point};
 use vga_grid::Grid;
+use vga_looks::later_points_are_above;
 
 /// Whether the segment meets the box, where there is one.
 fn meets_if_there(p: Point, q: Point, area: Option<PlanBox>) -> bool
@@ -46,16 +49,15 @@ pub(crate) fn is_dirty(grid: &Grid, boxes: Changed, i: u32, j: u32) -> bool
 }
 
 /// Whether a pair of the row's point with a later one is dirty.
-pub(crate) fn is_dirty_row(grid: &Grid, boxes: Changed, row: u32) -> bool
+///
+/// Cost: constant where both boxes lie below the row's point; else some steps for each line of the grid.
+pub(crate) fn is_dirty_row(plan: &Plan, boxes: Changed, row: u32) -> bool
     requires boxes_in { AreBoxesInRange boxes }
-    requires row_in { row < length (grid_points grid.now) }
-    ensures { result ≡ dirty.is_dirty_row boxes (grid_points grid.now) row }
+    requires row_in { row < length (grid_points plan.now.grid) }
+    ensures { result ≡ dirty.is_dirty_row boxes (grid_points plan.now.grid) row }
 {
+    later_points_are_above();
+    let grid = Grid::of(plan);
     let count = grid.count();
-    for j in row + 1..count {
-        if is_dirty(grid, boxes, row, j) {
-            return true;
-        }
-    }
-    false
+    first_dirty(&grid, boxes, row, row + 1, count).is_some()
 }

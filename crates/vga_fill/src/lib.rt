@@ -36,6 +36,7 @@ mod looks;
 mod opening;
 mod places;
 mod rows;
+mod runs;
 mod seat;
 mod shared;
 mod sights;

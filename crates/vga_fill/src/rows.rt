@@ -24,19 +24,19 @@ use crate::sights::Sights;
 use plan_check::Plan;
 use plan_spec::Changed;
 use sight_core::Scene;
-use sight_sweep::{Steps, View};
+use sight_sweep::Steps;
 use std::alloc::Global;
 use text_spec::NoMemory;
 use vga_grid::Grid;
 
 /// Writes the edges of the row. The old graph has none.
-fn write_edges(fill: &Fill, seat: &mut FillSeat, row: u32, sights: &Sights, view: &Option<View>)
+fn write_edges(fill: &Fill, seat: &mut FillSeat, row: u32, plan: &Plan, seen: &[bool])
     requires of { IsSeatOf fill.now seat.old }
     requires held { held_by seat.old ≡ Some row }
     requires within { row < count_of fill.now }
-    requires plan { sights.now.plan.value ≡ (task_of fill.now).after.value }
+    requires plan { plan.now ≡ (task_of fill.now).after.value }
     requires empty { (i j : ℕ) → was_joined (task_of fill.now) i j ≡ false }
-    requires look { IsLook sights.now.plan.value row view.now }
+    requires look { IsLook plan.now row seen.now }
     ensures of { IsSeatOf fill.now seat.new }
     ensures held { held_by seat.new ≡ Some row }
     ensures more { GoesOn (view_of seat.old) (view_of seat.new) }
@@ -44,7 +44,7 @@ fn write_edges(fill: &Fill, seat: &mut FillSeat, row: u32, sights: &Sights, view
         (view_of seat.new) row }
 {
     for j in row + 1..fill.count {
-        if is_edge(sights, row, view, j) {
+        if is_edge(plan, row, seen, j) {
             fill.write_pair(seat, row, j, true);
         }
     }
@@ -55,25 +55,26 @@ fn write_dirty(
     fill: &Fill,
     seat: &mut FillSeat,
     row: u32,
-    sights: &Sights,
+    plan: &Plan,
     boxes: Changed,
-    view: &Option<View>,
+    seen: &[bool],
 )
     requires of { IsSeatOf fill.now seat.old }
     requires held { held_by seat.old ≡ Some row }
     requires within { row < count_of fill.now }
-    requires plan { sights.now.plan.value ≡ (task_of fill.now).after.value }
+    requires plan { plan.now ≡ (task_of fill.now).after.value }
     requires boxes { AreBoxesOf (task_of fill.now) boxes }
-    requires look { IsLook sights.now.plan.value row view.now }
+    requires look { IsLook plan.now row seen.now }
     ensures of { IsSeatOf fill.now seat.new }
     ensures held { held_by seat.new ≡ Some row }
     ensures more { GoesOn (view_of seat.old) (view_of seat.new) }
     ensures done { IsDone (was_joined (task_of fill.now)) (is_to_join (task_of fill.now)) (count_of fill.now)
         (view_of seat.new) row }
 {
+    let grid = Grid::of(plan);
     for j in row + 1..fill.count {
-        if is_dirty(&sights.grid, boxes, row, j) {
-            let joined = is_edge(sights, row, view, j);
+        if is_dirty(&grid, boxes, row, j) {
+            let joined = is_edge(plan, row, seen, j);
             fill.write_pair(seat, row, j, joined);
         }
     }
@@ -85,6 +86,7 @@ fn ask_row(
     fill: &Fill,
     seat: &mut FillSeat,
     row: u32,
+    plan: &Plan,
     sights: &Sights,
     job: Job,
     steps: &mut Steps,
@@ -92,7 +94,8 @@ fn ask_row(
     requires of { IsSeatOf fill.now seat.old }
     requires held { held_by seat.old ≡ Some row }
     requires within { row < count_of fill.now }
-    requires plan { sights.now.plan.value ≡ (task_of fill.now).after.value }
+    requires plan { plan.now ≡ (task_of fill.now).after.value }
+    requires same { plan.now ≡ sights.now.plan.value }
     requires job { IsJobOf (task_of fill.now) job }
     ensures of { IsSeatOf fill.now seat.new }
     ensures row { IfOk result (λ u. held_by seat.new ≡ None) }
@@ -101,10 +104,10 @@ fn ask_row(
     ensures counted { steps.new
         ≡ if is_number_open (task_of fill.now).after.value row then one_more steps.old else steps.old }
 {
-    let view = look_from(alloc, sights, row, steps)?;
+    let seen = look_from(alloc, plan, sights, row, steps)?;
     match job {
-        Job::All => write_edges(fill, seat, row, sights, &view),
-        Job::Dirty(boxes) => write_dirty(fill, seat, row, sights, boxes, &view),
+        Job::All => write_edges(fill, seat, row, plan, &seen),
+        Job::Dirty(boxes) => write_dirty(fill, seat, row, plan, boxes, &seen),
     }
     fill.finish(seat);
     Ok(())
@@ -116,6 +119,7 @@ pub(crate) fn work_row(
     fill: &Fill,
     seat: &mut FillSeat,
     row: u32,
+    plan: &Plan,
     sights: &Sights,
     job: Job,
     steps: &mut Steps,
@@ -123,19 +127,20 @@ pub(crate) fn work_row(
     requires of { IsSeatOf fill.now seat.old }
     requires held { held_by seat.old ≡ Some row }
     requires within { row < count_of fill.now }
-    requires plan { sights.now.plan.value ≡ (task_of fill.now).after.value }
+    requires plan { plan.now ≡ (task_of fill.now).after.value }
+    requires same { plan.now ≡ sights.now.plan.value }
     requires job { IsJobOf (task_of fill.now) job }
     ensures of { IsSeatOf fill.now seat.new }
     ensures row { IfOk result (λ u. held_by seat.new ≡ None) }
     ensures more { GoesOn (view_of seat.old) (view_of seat.new) }
 {
     if let Job::Dirty(boxes) = job {
-        if !is_dirty_row(&sights.grid, boxes, row) {
+        if !is_dirty_row(plan, boxes, row) {
             fill.finish(seat);
             return Ok(());
         }
     }
-    ask_row(alloc, fill, seat, row, sights, job, steps)
+    ask_row(alloc, fill, seat, row, plan, sights, job, steps)
 }
 
 /// Finishes a row that the seat holds, after the edit that makes `after` of `before` and has these boxes: asks the
@@ -175,11 +180,19 @@ pub fn fill_row(
     ensures none { dirty.is_dirty_row boxes (grid_points after.now.grid) row ≡ false → steps.new ≡ steps.old }
 {
     let _ = before;
-    let grid = Grid::of(after);
-    if !is_dirty_row(&grid, boxes, row) {
+    if !is_dirty_row(after, boxes, row) {
         fill.finish(seat);
         return Ok(());
     }
     let sights = sights_of(alloc, after, scene)?;
-    ask_row(alloc, fill, seat, row, &sights, Job::Dirty(boxes), steps)
+    ask_row(
+        alloc,
+        fill,
+        seat,
+        row,
+        after,
+        &sights,
+        Job::Dirty(boxes),
+        steps,
+    )
 }

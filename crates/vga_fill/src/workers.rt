@@ -25,27 +25,29 @@ use sight_sweep::Steps;
 use std::alloc::Global;
 use std::thread::{Threads, join};
 use text_spec::NoMemory;
-use vga_grid::BitGraph;
+use vga_grid::{BitGraph, Grid};
 
 /// Claims rows and finishes them until none is left, and tells the gate of each.
 fn work<G: Gate>(
     alloc: Global,
     fill: &Fill,
     mut seat: FillSeat,
+    plan: &Plan,
     sights: &Sights,
     job: Job,
     worker: u32,
     gate: &G,
 ) -> Result<FillSeat, NoMemory>
     requires seat { MayFill fill.now 1 seat }
-    requires plan { sights.now.plan.value ≡ (task_of fill.now).after.value }
+    requires plan { plan.now ≡ (task_of fill.now).after.value }
+    requires same { plan.now ≡ sights.now.plan.value }
     requires job { IsJobOf (task_of fill.now) job }
     ensures { IfOk result (HasFilled fill.now seat) }
 {
     let mut steps = Steps::new();
     'claims: while let Claim::Row(row) = fill.claim(&mut seat) {
         gate.row(worker, row);
-        work_row(alloc, fill, &mut seat, row, sights, job, &mut steps)?;
+        work_row(alloc, fill, &mut seat, row, plan, sights, job, &mut steps)?;
     }
     Ok(seat)
 }
@@ -56,6 +58,7 @@ fn work_all<R: Threads + Sync, G: Gate>(
     alloc: Global,
     fill: &Fill,
     seat: FillSeat,
+    plan: &Plan,
     sights: &Sights,
     job: Job,
     first: u32,
@@ -65,12 +68,13 @@ fn work_all<R: Threads + Sync, G: Gate>(
     requires seat { MayFill fill.now workers seat }
     requires workers { 0 < workers }
     requires numbers { first + workers ≤ 64 }
-    requires plan { sights.now.plan.value ≡ (task_of fill.now).after.value }
+    requires plan { plan.now ≡ (task_of fill.now).after.value }
+    requires same { plan.now ≡ sights.now.plan.value }
     requires job { IsJobOf (task_of fill.now) job }
     ensures { IfOk result (HasFilled fill.now seat) }
 {
     if workers == 1 {
-        return work(alloc, fill, seat, sights, job, first, gate);
+        return work(alloc, fill, seat, plan, sights, job, first, gate);
     }
     let fewer = workers / 2;
     let more = workers - fewer;
@@ -79,12 +83,14 @@ fn work_all<R: Threads + Sync, G: Gate>(
         rt,
         move || -> Result<FillSeat, NoMemory>
             requires { IsSync R.row × MayFill fill.now more left × (0 < more) × (first + more ≤ 64)
-                × (sights.now.plan.value ≡ (task_of fill.now).after.value) × IsJobOf (task_of fill.now) job }
+                × (plan.now ≡ (task_of fill.now).after.value) × (plan.now ≡ sights.now.plan.value)
+                × IsJobOf (task_of fill.now) job }
             ensures { IfOk result (HasFilled fill.entry.now left) }
-        { work_all(rt, alloc, fill, left, sights, job, first, more, gate) },
+        { work_all(rt, alloc, fill, left, plan, sights, job, first, more, gate) },
         move || -> Result<FillSeat, NoMemory>
             requires { IsSync R.row × MayFill fill.now fewer right × (0 < fewer) × (first + more + fewer ≤ 64)
-                × (sights.now.plan.value ≡ (task_of fill.now).after.value) × IsJobOf (task_of fill.now) job }
+                × (plan.now ≡ (task_of fill.now).after.value) × (plan.now ≡ sights.now.plan.value)
+                × IsJobOf (task_of fill.now) job }
             ensures { IfOk result (HasFilled fill.entry.now right) }
         {
             work_all(
@@ -92,6 +98,7 @@ fn work_all<R: Threads + Sync, G: Gate>(
                 alloc,
                 fill,
                 right,
+                plan,
                 sights,
                 job,
                 first + more,
@@ -124,9 +131,20 @@ pub fn fill_all<R: Threads + Sync, G: Gate>(
     ensures { IfOk result (λ graph. graph_of graph ≡ visibility_graph plan.now) }
 {
     let sights = sights_of(alloc, plan, scene)?;
-    let empty = BitGraph::empty(alloc, sights.grid.count())?;
+    let empty = BitGraph::empty(alloc, Grid::of(plan).count())?;
     let (fill, seat) = Fill::new(alloc, &empty, plan)?;
-    let seat = work_all(rt, alloc, &fill, seat, &sights, Job::All, 0, workers, gate)?;
+    let seat = work_all(
+        rt,
+        alloc,
+        &fill,
+        seat,
+        plan,
+        &sights,
+        Job::All,
+        0,
+        workers,
+        gate,
+    )?;
     fill.close(alloc, seat)
 }
 
@@ -163,6 +181,7 @@ pub fn refill<R: Threads + Sync, G: Gate>(
         alloc,
         &fill,
         seat,
+        after,
         &sights,
         Job::Dirty(boxes),
         0,

@@ -1,50 +1,57 @@
-use Rattle.std.proofs.Common.{refl, sym, ap, subst, ◌∙◌, length}
-use Rattle.plan_spec.specs.Grid.{grid_points, point_of_number}
+use Rattle.std.proofs.Common.{refl, sym, ap, subst, ◌≡◌, ◌∙◌, length, true, false}
+use Rattle.std.proofs.lemmas.Result.{IfOk-weaker}
+use Rattle.plan_spec.specs.Grid.{grid_points}
+use Rattle.plan_spec.specs.Plan.{Plan}
 use Rattle.sight_spec.specs.Scene.{scene_of}
-use Rattle.sight_sweep.specs.Answers.{IsSeenFrom}
-use Rattle.view_laws.specs.declared.view.Arc.TheVariants.{Later}
+use Rattle.vga_looks.specs.Tables.{OpenPoints, grid_table_of}
+use Rattle.vga_grid.specs.Openness.{is_number_open, openness_of}
 use Rattle.vga_grid.proofs.Covered.{flag_count}
-use Rattle.vga_fill.proofs.Asked.{flag_is}
+use Rattle.vga_fill.specs.Sights.{IsLook}
+use Rattle.vga_fill.proofs.Asked.{flag_is, closed_look, seen_look}
 use Rattle.vga_fill.proofs.looks.look_from.Goals as goal
+
+-- the points that were made ready are those of the plan
+open_flags : (plan : Plan) (points : OpenPoints) (other : Plan) → plan ≡ other → points ≡ grid_table_of other
+    → points.are_open ≡ openness_of plan (length (grid_points plan.grid))
+open_flags plan points other same is = ap (λ g. g.are_open) (is ∙ ap grid_table_of (sym same))
 
 pub is_open-requires : goal.is_open-requires
 is_open-requires c =
-    let plan = c.args.sights.now.plan.value in
-    record { within = rw (c.deref.ensures.value, c.args.sights.now.open_is, flag_count plan (length (grid_points plan.grid))) c.requires.within }
+    let plan = c.args.plan.now in
+    rw (open_flags plan c.args.sights.now.points c.args.sights.now.plan.value c.requires.same c.args.sights.now.points_are, flag_count plan (length (grid_points plan.grid)))
+    c.requires.within
+
+pub later_in_sight-requires-clause-scene : goal.later_in_sight-requires-clause-scene
+later_in_sight-requires-clause-scene c = c.args.sights.now.table_is ∙ ap scene_of (sym c.requires.same)
+
+pub later_in_sight-requires-clause-grid : goal.later_in_sight-requires-clause-grid
+later_in_sight-requires-clause-grid c = c.args.sights.now.points_are ∙ ap grid_table_of (sym c.requires.same)
 
 pub returns-then-not-is_open-clause-look : goal.returns-then-not-is_open-clause-look
 returns-then-not-is_open-clause-look c =
-    let plan = c.args.sights.now.plan.value in
-    let flag = flag_is plan c.deref.result.now (c.deref.ensures.value ∙ c.args.sights.now.open_is) c.args.row c.requires.within in
-    sym flag ∙ (sym c.is_open.ensures ∙ c.if-not-is_open.true)
+    let sights = c.args.sights.now in
+    let plan = c.args.plan.now in
+    let shut = sym c.is_open.ensures ∙ c.if-not-is_open.true in
+    subst (IsLook plan c.args.row) (sym c.new.ensures.items)
+    (closed_look plan sights.points.are_open (open_flags plan c.args.sights.now.points c.args.sights.now.plan.value c.requires.same sights.points_are) c.args.row shut)
 
 pub returns-then-not-is_open-clause-counted : goal.returns-then-not-is_open-clause-counted
 returns-then-not-is_open-clause-counted c =
-    let plan = c.args.sights.now.plan.value in
-    let flag = flag_is plan c.deref.result.now (c.deref.ensures.value ∙ c.args.sights.now.open_is) c.args.row c.requires.within in
-    let shut = sym flag ∙ (sym c.is_open.ensures ∙ c.if-not-is_open.true) in
+    let sights = c.args.sights.now in
+    let plan = c.args.plan.now in
+    let flag = flag_is plan sights.points.are_open (open_flags plan c.args.sights.now.points c.args.sights.now.plan.value c.requires.same sights.points_are) c.args.row c.requires.within in
+    let shut : is_number_open plan c.args.row ≡ false = sym flag ∙ (sym c.is_open.ensures ∙ c.if-not-is_open.true) in
     rw shut refl
-
-pub returns-in_err-view-clause-counted : goal.returns-in_err-view-clause-counted
-returns-in_err-view-clause-counted c =
-    let plan = c.args.sights.now.plan.value in
-    let flag = flag_is plan c.deref.result.now (c.deref.ensures.value ∙ c.args.sights.now.open_is) c.args.row c.requires.within in
-    let opened = sym flag ∙ (sym c.is_open.ensures ∙ c.if-not-is_open.false) in
-    rw opened c.look.ensures.counted
 
 pub returns-clause-look : goal.returns-clause-look
 returns-clause-look c =
-    let sights = c.args.sights.now in
-    let plan = sights.plan.value in
-    let flag = flag_is plan c.deref.result.now (c.deref.ensures.value ∙ sights.open_is) c.args.row c.requires.within in
-    let opened = sym flag ∙ (sym c.is_open.ensures ∙ c.if-not-is_open.false) in
-    let seen : IsSeenFrom sights.table c.place-here.result Later c.in_ok-view.view = record { is_view = c.in_ok-view.ensures.view; ground = c.in_ok-view.ensures.under } in
-    let here = c.place-here.ensures.place ∙ ap (λ g. point_of_number g c.args.row) sights.grid_is in
-    (opened, subst (λ p. IsSeenFrom (scene_of plan) p Later c.in_ok-view.view) here (subst (λ s. IsSeenFrom s c.place-here.result Later c.in_ok-view.view) sights.table_is seen))
+    let plan = c.args.plan.now in
+    IfOk-weaker c.later_in_sight.result _ _ (λ seen is. seen_look plan c.args.row seen.items is) c.later_in_sight.ensures.row
 
 pub returns-clause-counted : goal.returns-clause-counted
 returns-clause-counted c =
-    let plan = c.args.sights.now.plan.value in
-    let flag = flag_is plan c.deref.result.now (c.deref.ensures.value ∙ c.args.sights.now.open_is) c.args.row c.requires.within in
-    let opened = sym flag ∙ (sym c.is_open.ensures ∙ c.if-not-is_open.false) in
-    rw opened c.look.ensures.counted
+    let sights = c.args.sights.now in
+    let plan = c.args.plan.now in
+    let flag = flag_is plan sights.points.are_open (open_flags plan c.args.sights.now.points c.args.sights.now.plan.value c.requires.same sights.points_are) c.args.row c.requires.within in
+    let opened : is_number_open plan c.args.row ≡ true = sym flag ∙ (sym c.is_open.ensures ∙ c.if-not-is_open.false) in
+    rw opened c.later_in_sight.ensures.counted

@@ -18,7 +18,7 @@ finish-requires-clause-done c =
     let row = c.args.row in
     let edit = boxes_of_edit k c.args.before.now c.args.after.now boxes c.requires.old_graph c.requires.after_plan c.requires.edited in
     let clean = ap (λ p. is_dirty_row boxes (grid_points p.grid) row) c.requires.after_plan
-    ∙ (ap (λ g. is_dirty_row boxes (grid_points g) row) (sym c.of-grid.ensures.grid) ∙ (sym c.is_dirty_row.ensures ∙ c.if-not-is_dirty_row.true)) in
+    ∙ (sym c.is_dirty_row.ensures ∙ c.if-not-is_dirty_row.true) in
     let view = c.args.seat.now.seat.me.0 in
     subst (λ h. IfSome h (λ r. IsDone (was_joined k) (is_to_join k) fill.count view r)) (sym c.requires.held)
     (clean_row k boxes fill.count view row edit fill.same fill.new_count c.requires.within clean)

@@ -1,0 +1,10 @@
+use Rattle.std.proofs.Common.{sym, ◌≡◌, ◌∙◌, true}
+use Rattle.vga_fill.specs.Runs.{is_beside_both}
+use Rattle.vga_fill.proofs.GridRuns.{run_is_clean}
+use Rattle.vga_fill.proofs.runs.misses_run.Goals as goal
+
+pub returns : goal.returns
+returns c = λ is.
+    let beside = rw (c.place.ensures.place, c.place-2.ensures.place, c.place-3.ensures.place) at c.is_beside_both.ensures in
+    run_is_clean c.args.grid.now c.requires.rises c.args.boxes c.args.row c.args.from c.args.last c.requires.later c.requires.order c.requires.within
+    (sym beside ∙ is)
