@@ -54,14 +54,13 @@ pub fn line_measures(
     rt: &(impl Threads + Sync),
     alloc: Global,
     session: &Session,
-    workers: usize,
 ) -> Result<Vec<Measure>, NoMemory>
     requires { IsTrue session.now.keeps_lines }
     ensures { IfOk result (λ ms. ms.items
         ≡ measures_of_nodes (axial.crossing_graph (axial.axial_lines (scene_of session.now.plan)))) }
 {
     let graph = crossing_graph(alloc, session.scene(), session.lines())?;
-    measures(rt, alloc, &graph, workers)
+    measures(rt, alloc, &graph, session.workers() as usize)
 }
 
 /// The number of the first piece of a route.

@@ -12,7 +12,7 @@ ghost use Rattle.plan_answers.specs.Answered.{Leaves, Replies, shown_step};
 
 use crate::questions::answer_query;
 use crate::replies::{put_done, put_refusal};
-use dm_io::Sink;
+use dm_io::{Gate, Sink};
 use grammar_spec::{Line, TextWhy};
 use options_spec::Form;
 use plan_check::EditFault;
@@ -26,20 +26,22 @@ use std::thread::Threads;
 
 /// Makes the edit, and prints the reply. Whether it is refused.
 #[tactic(auto, using(crate::proofs::Printed::nothing))]
-fn answer_edit<O: Sink>(
+fn answer_edit<O: Sink, G: Gate>(
+    rt: &(impl Threads + Sync),
     alloc: Global,
     session: &mut Session,
     form: Form,
     number: u64,
     edit: &Edit,
     out: &mut O,
+    gate: &G,
 ) -> Result<bool, ReportFault>
     requires shift { HasShift edit.now }
     ensures answers { Replies form (O.written out.old) (O.written out.new) (edit_step session.old.plan number edit.now (why_not_edit session.old.plan edit.now)) result }
     ensures leaves { Leaves session.old.plan session.new.plan (edit_step session.old.plan number edit.now (why_not_edit session.old.plan edit.now)) result }
     ensures faults { Counts result (O.faults out.old) (O.faults out.new) }
 {
-    match session.apply(alloc, edit) {
+    match session.apply(rt, alloc, edit, gate) {
         Ok(()) => put_done(alloc, out, form, number),
         Err(EditFault::Refused(why)) => {
             put_refusal(alloc, out, form, number, &Reason::Edit(why))
@@ -50,15 +52,15 @@ fn answer_edit<O: Sink>(
 
 /// Does what a line that was read asks for, and prints the reply. Whether it is refused.
 #[tactic(auto, using(crate::proofs::Printed::no_record))]
-fn answer_read<O: Sink>(
+fn answer_read<O: Sink, G: Gate>(
     rt: &(impl Threads + Sync),
     alloc: Global,
     session: &mut Session,
     form: Form,
-    workers: usize,
     number: u64,
     line: &Line,
     out: &mut O,
+    gate: &G,
 ) -> Result<bool, ReportFault>
     requires shift { HasShiftInLine line.now }
     ensures answers { Replies form (O.written out.old) (O.written out.new) (step_by session.old.plan number (Ok line.now)) result }
@@ -67,31 +69,29 @@ fn answer_read<O: Sink>(
 {
     match line {
         Line::Blank => Ok(false),
-        Line::Edit(edit) => answer_edit(alloc, session, form, number, edit, out),
-        Line::Query(query) => {
-            answer_query(rt, alloc, session, form, workers, number, query, out)
-        }
+        Line::Edit(edit) => answer_edit(rt, alloc, session, form, number, edit, out, gate),
+        Line::Query(query) => { answer_query(rt, alloc, session, form, number, query, out, gate) }
     }
 }
 
 /// Reads the line that is shown, does what it asks for, and prints the reply. Whether it is refused.
 #[tactic(auto, using(crate::proofs::Printed::nothing))]
-fn answer_shown<O: Sink>(
+fn answer_shown<O: Sink, G: Gate>(
     rt: &(impl Threads + Sync),
     alloc: Global,
     session: &mut Session,
     form: Form,
-    workers: usize,
     number: u64,
     bytes: &[u8],
     out: &mut O,
+    gate: &G,
 ) -> Result<bool, ReportFault>
     ensures answers { Replies form (O.written out.old) (O.written out.new) (step_by session.old.plan number (reading_of_shown bytes.now)) result }
     ensures leaves { Leaves session.old.plan session.new.plan (step_by session.old.plan number (reading_of_shown bytes.now)) result }
     ensures faults { Counts result (O.faults out.old) (O.faults out.new) }
 {
     match read_line(alloc, bytes) {
-        Ok(line) => answer_read(rt, alloc, session, form, workers, number, &line, out),
+        Ok(line) => answer_read(rt, alloc, session, form, number, &line, out, gate),
         Err(ReadLineFault::Bad(why)) => {
             put_refusal(alloc, out, form, number, &Reason::Text(why))
         }
@@ -101,21 +101,22 @@ fn answer_shown<O: Sink>(
 
 /// Does what a line of a script asks for, and prints the reply: nothing to a blank line, `ok N` and the table that it
 /// asks for, or `refused N WHY`. Whether it is refused. The line is shown without its newline and a carriage return
-/// before it, or `None` where it was too long.
+/// before it, or `None` where it was too long. `rt` lends threads, and each worker tells the gate each row of the
+/// visibility graph that it claims.
 ///
 /// After a fault a prefix of the reply was written, and an edit may be made or not. The clauses with `whole` say all of
 /// it once more, of the line as it stands in the script.
 ///
 /// Cost: that of what is asked for, where the session doesn't keep it.
-pub fn answer_line<O: Sink>(
+pub fn answer_line<O: Sink, G: Gate>(
     rt: &(impl Threads + Sync),
     alloc: Global,
     session: &mut Session,
     form: Form,
-    workers: usize,
     number: u64,
     line: Option<&[u8]>,
     out: &mut O,
+    gate: &G,
 ) -> Result<bool, ReportFault>
     ensures answers { Replies form (O.written out.old) (O.written out.new) (shown_step session.old.plan number (option_map (λ bytes. bytes.now) line.entry)) result }
     ensures after { Leaves session.old.plan session.new.plan (shown_step session.old.plan number (option_map (λ bytes. bytes.now) line.entry)) result }
@@ -127,7 +128,7 @@ pub fn answer_line<O: Sink>(
 {
     shown_lines_are_read();
     match line {
-        Some(bytes) => answer_shown(rt, alloc, session, form, workers, number, bytes, out),
+        Some(bytes) => answer_shown(rt, alloc, session, form, number, bytes, out, gate),
         None => put_refusal(alloc, out, form, number, &Reason::Text(TextWhy::Long)),
     }
 }

@@ -10,7 +10,7 @@ ghost use Rattle.plan_answers.specs.Answered.{Answers};
 use crate::found::{find_lines, line_measures};
 use crate::replies::{put_both, put_one, put_refusal};
 use crate::tables::{AxialTable, EdgesTable, LinesTable, PlanTable, PointsTable, SegmentsTable};
-use dm_io::Sink;
+use dm_io::{Gate, Sink};
 use options_spec::{Form, Mode};
 use plan_edit::Session;
 use report_spec::Reason;
@@ -23,21 +23,21 @@ use vga_grid::open_points;
 
 /// The edges of the visibility graph, and the open points with their measures in it.
 #[tactic(auto, using(crate::proofs::Printed::nothing), unfolding(report_spec::specs::Output::mode_records))]
-fn put_vga<O: Sink>(
+fn put_vga<O: Sink, G: Gate>(
     rt: &(impl Threads + Sync),
     alloc: Global,
     session: &mut Session,
     form: Form,
-    workers: usize,
     out: &mut O,
+    gate: &G,
 ) -> Result<bool, ReportFault>
     ensures answers { Answers form (O.written out.old) (O.written out.new) (mode_records Mode.Vga session.old.plan) (mode_is_refused Mode.Vga session.old.plan) result }
     ensures plan { session.new.plan ≡ session.old.plan }
     ensures faults { Counts result (O.faults out.old) (O.faults out.new) }
 {
-    session.make_graph(alloc)?;
+    session.make_graph(rt, alloc, gate)?;
     let points = open_points(alloc, session.plan())?;
-    let measures = measures(rt, alloc, session.graph(), workers)?;
+    let measures = measures(rt, alloc, session.graph(), session.workers() as usize)?;
     let edges = EdgesTable {
         graph: session.graph(),
     };
@@ -70,7 +70,6 @@ fn put_axial_map<O: Sink>(
     alloc: Global,
     session: &mut Session,
     form: Form,
-    workers: usize,
     out: &mut O,
 ) -> Result<bool, ReportFault>
     ensures answers { Answers form (O.written out.old) (O.written out.new) (mode_records Mode.AxialMap session.old.plan) (mode_is_refused Mode.AxialMap session.old.plan) result }
@@ -80,7 +79,7 @@ fn put_axial_map<O: Sink>(
     if !find_lines(alloc, session)? {
         return put_refusal(alloc, out, form, 0, &Reason::Lines);
     }
-    let measures = line_measures(rt, alloc, session, workers)?;
+    let measures = line_measures(rt, alloc, session)?;
     let axial = AxialTable {
         lines: session.lines(),
     };
@@ -130,17 +129,18 @@ fn put_text_of<O: Sink>(
 }
 
 /// Prints the tables of a mode over the plan of a session, or the refusal of too many axial lines, where the mode asks
-/// for them; `refused 0 lines` is that. Whether it is refused. After a fault a prefix was written.
+/// for them; `refused 0 lines` is that. Whether it is refused. After a fault a prefix was written. Each worker tells the
+/// gate each row of the visibility graph that it claims.
 ///
 /// Cost: that of what the tables show, where the session doesn't keep it.
-pub fn put_mode<O: Sink>(
+pub fn put_mode<O: Sink, G: Gate>(
     rt: &(impl Threads + Sync),
     alloc: Global,
     session: &mut Session,
     form: Form,
-    workers: usize,
     mode: Mode,
     out: &mut O,
+    gate: &G,
 ) -> Result<bool, ReportFault>
     ensures written { OnOk result (O.written out.new ≡ appended_to (O.written out.old) (records_bytes form (mode_records mode session.old.plan))) }
     ensures refused { IfOk result (λ refused. refused ≡ mode_is_refused mode session.old.plan) }
@@ -149,9 +149,9 @@ pub fn put_mode<O: Sink>(
     ensures faults { Counts result (O.faults out.old) (O.faults out.new) }
 {
     match mode {
-        Mode::Vga => put_vga(rt, alloc, session, form, workers, out),
+        Mode::Vga => put_vga(rt, alloc, session, form, out, gate),
         Mode::Isovists => put_all_isovists(alloc, session, form, out),
-        Mode::AxialMap => put_axial_map(rt, alloc, session, form, workers, out),
+        Mode::AxialMap => put_axial_map(rt, alloc, session, form, out),
         Mode::Segments => put_pieces(alloc, session, form, out),
         Mode::Check => put_text_of(alloc, session, form, out),
     }

@@ -11,7 +11,7 @@ use crate::tables::{
     SegmentsTable,
 };
 use crate::turns_table::TurnsTable;
-use dm_io::Sink;
+use dm_io::{Gate, Sink};
 use exact_geom::in_range;
 use grammar_spec::Query;
 use isovist_core::{IsovistFault, isovist};
@@ -31,18 +31,20 @@ use vga_grid::open_points;
 
 /// The edges of the visibility graph.
 #[tactic(auto, using(crate::proofs::Printed::nothing), unfolding(report_spec::specs::Replies::answer))]
-fn answer_edges<O: Sink>(
+fn answer_edges<O: Sink, G: Gate>(
+    rt: &(impl Threads + Sync),
     alloc: Global,
     session: &mut Session,
     form: Form,
     number: u64,
     out: &mut O,
+    gate: &G,
 ) -> Result<bool, ReportFault>
     ensures answers { Replies form (O.written out.old) (O.written out.new) (question session.old.plan number Query.Edges) result }
     ensures plan { session.new.plan ≡ session.old.plan }
     ensures faults { Counts result (O.faults out.old) (O.faults out.new) }
 {
-    session.make_graph(alloc)?;
+    session.make_graph(rt, alloc, gate)?;
     let table = EdgesTable {
         graph: session.graph(),
     };
@@ -51,22 +53,22 @@ fn answer_edges<O: Sink>(
 
 /// The open points, with their measures in the visibility graph.
 #[tactic(auto, using(crate::proofs::Printed::nothing), unfolding(report_spec::specs::Replies::answer))]
-fn answer_points<O: Sink>(
+fn answer_points<O: Sink, G: Gate>(
     rt: &(impl Threads + Sync),
     alloc: Global,
     session: &mut Session,
     form: Form,
-    workers: usize,
     number: u64,
     out: &mut O,
+    gate: &G,
 ) -> Result<bool, ReportFault>
     ensures answers { Replies form (O.written out.old) (O.written out.new) (question session.old.plan number Query.Points) result }
     ensures plan { session.new.plan ≡ session.old.plan }
     ensures faults { Counts result (O.faults out.old) (O.faults out.new) }
 {
-    session.make_graph(alloc)?;
+    session.make_graph(rt, alloc, gate)?;
     let points = open_points(alloc, session.plan())?;
-    let measures = measures(rt, alloc, session.graph(), workers)?;
+    let measures = measures(rt, alloc, session.graph(), session.workers() as usize)?;
     let table = PointsTable {
         points: &points,
         measures: &measures,
@@ -103,7 +105,6 @@ fn answer_lines<O: Sink>(
     alloc: Global,
     session: &mut Session,
     form: Form,
-    workers: usize,
     number: u64,
     out: &mut O,
 ) -> Result<bool, ReportFault>
@@ -114,7 +115,7 @@ fn answer_lines<O: Sink>(
     if !find_lines(alloc, session)? {
         return put_refusal(alloc, out, form, number, &Reason::Lines);
     }
-    let measures = line_measures(rt, alloc, session, workers)?;
+    let measures = line_measures(rt, alloc, session)?;
     let table = LinesTable {
         measures: &measures,
     };
@@ -164,13 +165,15 @@ fn answer_plan<O: Sink>(
 
 /// The depths of the open points from the grid point at `p`. Refused where none stands there, or it isn't open.
 #[tactic(auto, using(crate::proofs::Printed::nothing), unfolding(report_spec::specs::Replies::answer))]
-fn answer_depth<O: Sink>(
+fn answer_depth<O: Sink, G: Gate>(
+    rt: &(impl Threads + Sync),
     alloc: Global,
     session: &mut Session,
     form: Form,
     number: u64,
     p: Point,
     out: &mut O,
+    gate: &G,
 ) -> Result<bool, ReportFault>
     ensures answers { Replies form (O.written out.old) (O.written out.new) (question session.old.plan number (Query.Depth p)) result }
     ensures plan { session.new.plan ≡ session.old.plan }
@@ -182,7 +185,7 @@ fn answer_depth<O: Sink>(
     if !is_open(session.plan(), p) {
         return put_refusal(alloc, out, form, number, &Reason::Closed);
     }
-    session.make_graph(alloc)?;
+    session.make_graph(rt, alloc, gate)?;
     let points = open_points(alloc, session.plan())?;
     let depths = depths(alloc, session.graph(), source)?;
     let table = DepthTable {
@@ -241,28 +244,28 @@ fn answer_turns<O: Sink>(
 }
 
 /// Prints the reply to a question: `ok N` and the table, or `refused N WHY`. Whether it is refused.
-pub fn answer_query<O: Sink>(
+pub fn answer_query<O: Sink, G: Gate>(
     rt: &(impl Threads + Sync),
     alloc: Global,
     session: &mut Session,
     form: Form,
-    workers: usize,
     number: u64,
     query: &Query,
     out: &mut O,
+    gate: &G,
 ) -> Result<bool, ReportFault>
     ensures answers { Replies form (O.written out.old) (O.written out.new) (question session.old.plan number query.now) result }
     ensures plan { session.new.plan ≡ session.old.plan }
     ensures faults { Counts result (O.faults out.old) (O.faults out.new) }
 {
     match query {
-        Query::Edges => answer_edges(alloc, session, form, number, out),
-        Query::Points => answer_points(rt, alloc, session, form, workers, number, out),
+        Query::Edges => answer_edges(rt, alloc, session, form, number, out, gate),
+        Query::Points => answer_points(rt, alloc, session, form, number, out, gate),
         Query::Axial => answer_axial(alloc, session, form, number, out),
-        Query::Lines => answer_lines(rt, alloc, session, form, workers, number, out),
+        Query::Lines => answer_lines(rt, alloc, session, form, number, out),
         Query::Segments => answer_segments(alloc, session, form, number, out),
         Query::Plan => answer_plan(alloc, session, form, number, out),
-        Query::Depth(p) => answer_depth(alloc, session, form, number, *p, out),
+        Query::Depth(p) => answer_depth(rt, alloc, session, form, number, *p, out, gate),
         Query::Isovist(p) => answer_isovist(alloc, session, form, number, *p, out),
         Query::Turns(name) => answer_turns(alloc, session, form, number, name, out),
     }

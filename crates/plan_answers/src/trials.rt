@@ -4,12 +4,12 @@ ghost use Rattle.std.specs.Prelude.{ℕ, ◌≡◌, ◌≤◌, ◌+◌, ◌*◌,
 ghost use Rattle.std.specs.List.{sum_by};
 ghost use Rattle.dm_io.specs.Streams.{WritesPrefix, appended_to};
 ghost use Rattle.graph_spec.specs.Graphs.{no_measures};
-ghost use Rattle.options_spec.specs.declared.options.TheConstants.{MAX_TRIAL_BOXES};
+ghost use Rattle.options_spec.specs.declared.options.TheConstants.{MAX_TRIAL_BOXES, MAX_WORKERS};
 ghost use Rattle.report_spec.specs.Output.{trial_output};
 ghost use Rattle.report_spec.specs.Trial.{trial_plan, trial_record, trial_record_of};
 ghost use Rattle.reports.specs.Faults.{Counts};
 
-use dm_io::Sink;
+use dm_io::{Gate, Sink};
 use options_spec::Form;
 use plan_check::{CheckFault, Plan, check};
 use plan_edit::Session;
@@ -74,20 +74,20 @@ struct TrialCounts {
 }
 
 /// What a trial counts of the plan of a session.
-fn counts_of(
+fn counts_of<G: Gate>(
     rt: &(impl Threads + Sync),
     alloc: Global,
     session: &mut Session,
-    workers: usize,
+    gate: &G,
 ) -> Result<TrialCounts, NoMemory>
     ensures { IfOk result (λ found. (boxes : ℕ)
         → trial_record boxes found.points found.open_points found.edges found.depth
         ≡ trial_record_of boxes session.old.plan) }
 {
-    session.make_graph(alloc)?;
+    session.make_graph(rt, alloc, gate)?;
     let points = Grid::of(session.plan()).count();
     let open = open_points(alloc, session.plan())?;
-    let measures = measures(rt, alloc, session.graph(), workers)?;
+    let measures = measures(rt, alloc, session.graph(), session.workers() as usize)?;
     let depth = sum_totals(&open, &measures);
     Ok(TrialCounts {
         points,
@@ -98,41 +98,48 @@ fn counts_of(
 }
 
 /// What the trial of a number of boxes counts.
-fn trial_counts(
+fn trial_counts<G: Gate>(
     rt: &(impl Threads + Sync),
     alloc: Global,
-    workers: usize,
+    workers: u32,
     boxes: u32,
+    gate: &G,
 ) -> Result<TrialCounts, NoMemory>
     requires some { 1 ≤ boxes }
     requires few { boxes ≤ MAX_TRIAL_BOXES }
+    requires some_workers { 1 ≤ workers }
+    requires few_workers { workers ≤ MAX_WORKERS }
     ensures { IfOk result (λ found. trial_record boxes found.points found.open_points found.edges found.depth
         ≡ trial_record_of boxes (trial_plan boxes)) }
 {
     let plan = trial_plan(alloc, boxes)?;
-    let mut session = Session::begin(alloc, plan)?;
-    counts_of(rt, alloc, &mut session, workers)
+    let mut session = Session::begin(alloc, plan, workers)?;
+    counts_of(rt, alloc, &mut session, gate)
 }
 
 /// Prints the record of the trial of a number of boxes: how many boxes, grid points, open ones and edges of the
-/// visibility graph there are, and the sum of the depths between each two open points, both ways.
+/// visibility graph there are, and the sum of the depths between each two open points, both ways. So many workers fill
+/// the graph, 1 to `MAX_WORKERS`; `rt` lends their threads, and each tells the gate each row that it claims.
 ///
 /// Cost: that of the graph and its measures.
-pub fn put_trial_of<O: Sink>(
+pub fn put_trial_of<O: Sink, G: Gate>(
     rt: &(impl Threads + Sync),
     alloc: Global,
     out: &mut O,
     form: Form,
-    workers: usize,
+    workers: u32,
     boxes: u32,
+    gate: &G,
 ) -> Result<(), ReportFault>
     requires some { 1 ≤ boxes }
     requires few { boxes ≤ MAX_TRIAL_BOXES }
+    requires some_workers { 1 ≤ workers }
+    requires few_workers { workers ≤ MAX_WORKERS }
     ensures all { OnOk result (O.written out.new ≡ appended_to (O.written out.old) (trial_output form boxes)) }
     ensures prefix { OnErr result (WritesPrefix (O.written out.old) (O.written out.new) (trial_output form boxes)) }
     ensures faults { Counts result (O.faults out.old) (O.faults out.new) }
 {
-    let found = trial_counts(rt, alloc, workers, boxes)?;
+    let found = trial_counts(rt, alloc, workers, boxes, gate)?;
     put_trial(
         alloc,
         out,

@@ -1,15 +1,20 @@
 -- What an edit leaves of what is kept.
-use Rattle.std.proofs.Common.{Bool, ◌&&◌, ◌||◌, not, ap, ◌≡◌, ◌∙◌, true, false, refl, sym, subst, List, Option, Some, None, option_map, map, length, ◌≤◌}
+use Rattle.std.proofs.Common.{Bool, ◌&&◌, ◌||◌, not, ap, ◌≡◌, ◌∙◌, true, false, refl, sym, subst, ℕ, List, Option, Some, None, Result, Ok, Err, IsErrAnd, IfErr, option_map, length, ◌≤◌}
 use Rattle.std.specs.Option.{IfSome}
+use Rattle.options_spec.specs.declared.options.TheConstants.{MAX_WORKERS}
 use Rattle.plan_spec.specs.declared.edit.Edit.{Edit}
 use Rattle.plan_spec.specs.declared.edit.Edit.TheVariants.{Add, Remove, Move, AddScreen, RemoveScreen, AddRoute, RemoveRoute}
 use Rattle.plan_spec.specs.declared.limits.TheConstants.{MAX_AXIAL_LINES}
+use Rattle.plan_spec.specs.declared.why.Why.{Why}
 use Rattle.plan_spec.specs.Plan.{Plan, with_item}
 use Rattle.plan_spec.specs.Edits.{plan_after_edit}
 use Rattle.sight_spec.specs.Scene.{Scene, scene_of}
 use Rattle.sight_spec.specs.Sight.{is_open}
 use Rattle.sight_spec.specs.Visibility.{visibility_graph}
 use Rattle.sight_spec.specs.Axial.{AxialLine, axial_lines}
+use Rattle.plan_check.specs.Faults.{IfRefused}
+use Rattle.plan_check.specs.declared.editing.EditFault.{EditFault}
+use Rattle.plan_check.specs.declared.editing.EditFault.TheVariants.{Refused, NoMemory as OutOfMemory}
 use Rattle.vga_grid.specs.Rows.{Matrix, graph_of}
 use Rattle.report_spec.specs.Replies.{has_too_many_lines}
 use Rattle.plan_edit.specs.Sessions.{IsKept, Session, has_lines_after, is_of_route, session_after}
@@ -40,16 +45,35 @@ same_graph plan (RemoveScreen name) h = cc
 
 -- so all that is kept stays
 pub kept_over_route : (plan after : Plan) (edit : Edit) (scene : Scene) (graph : Option Matrix)
-    (lines : Option (List AxialLine)) → after ≡ plan_after_edit plan edit → is_of_route edit ≡ true
-    → IsKept plan scene graph lines → IsKept after scene graph lines
-kept_over_route plan after edit scene graph lines is route k =
-    subst (λ p. IsKept p scene graph lines) (sym is) (
+    (lines : Option (List AxialLine)) (workers : ℕ) → after ≡ plan_after_edit plan edit → is_of_route edit ≡ true
+    → IsKept plan scene graph lines workers → IsKept after scene graph lines workers
+kept_over_route plan after edit scene graph lines workers is route k =
+    subst (λ p. IsKept p scene graph lines workers) (sym is) (
     record {
       scene_is = k.scene_is ∙ sym (same_scene plan edit route);
       graph_is = subst (λ v. IfSome graph (λ g. graph_of g ≡ v)) (sym (same_graph plan edit route)) k.graph_is;
       lines_are = subst (λ s. IfSome lines (λ ls. ls ≡ axial_lines s)) (sym (same_scene plan edit route)) k.lines_are;
       at_most = k.at_most;
+      some_workers = k.some_workers;
+      few_workers = k.few_workers;
     })
+
+and_true : (t : Bool) → t ≡ (t && true)
+and_true true = refl
+and_true false = refl
+
+-- the session after it
+pub session_over_route : (old : Session) (edit : Edit) (plan : Plan) → is_of_route edit ≡ true
+    → plan ≡ plan_after_edit old.plan edit
+    → record { plan = plan; workers = old.workers; keeps_graph = old.keeps_graph; keeps_lines = old.keeps_lines }
+    ≡ session_after old edit
+session_over_route old edit plan route makes =
+    ap (λ p. session p old.keeps_lines) makes
+    ∙ ap (session (plan_after_edit old.plan edit)) (and_true old.keeps_lines
+    ∙ ap (λ t. old.keeps_lines && (t || has_lines_after old.plan edit)) (sym route))
+  where
+    session : Plan → Bool → Session
+    session p l = record { plan = p; workers = old.workers; keeps_graph = old.keeps_graph; keeps_lines = l }
 
 -- ---- any other edit
 
@@ -59,32 +83,32 @@ in_each : {V X : Type 0} (items : V → X) (P : X → Type 0) (found : Option V)
 in_each items P None h = h
 in_each items P (Some v) h = h
 
--- a new scene, and lines that are its own
-pub kept_anew : {V : Type 0} (items : V → List AxialLine) (plan : Plan) (scene : Scene) (found : Option V)
-    → scene ≡ scene_of plan → IfSome found (λ v. items v ≡ axial_lines scene)
-    → IfSome found (λ v. length (items v) ≤ MAX_AXIAL_LINES) → IsKept plan scene None (option_map items found)
-kept_anew items plan scene found is lines few =
+-- a new scene, and a graph and lines that are its own
+pub kept_anew : {V : Type 0} (items : V → List AxialLine) (plan : Plan) (scene : Scene) (graph : Option Matrix)
+    (found : Option V) (workers : ℕ) → scene ≡ scene_of plan
+    → IfSome graph (λ g. graph_of g ≡ visibility_graph plan) → IfSome found (λ v. items v ≡ axial_lines scene)
+    → IfSome found (λ v. length (items v) ≤ MAX_AXIAL_LINES) → 1 ≤ workers → workers ≤ MAX_WORKERS
+    → IsKept plan scene graph (option_map items found) workers
+kept_anew items plan scene graph found workers is joined lines few some_workers few_workers =
     record {
       scene_is = is;
-      graph_is = tt;
+      graph_is = joined;
       lines_are = in_each items (λ ls. ls ≡ axial_lines (scene_of plan)) found
           (subst (λ s. IfSome found (λ v. items v ≡ axial_lines s)) is lines);
       at_most = in_each items (λ ls. length ls ≤ MAX_AXIAL_LINES) found few;
+      some_workers = some_workers;
+      few_workers = few_workers;
     }
 
-and_false : (t u : Bool) → u ≡ false → false ≡ (t && u)
-and_false true u e = sym e
-and_false false u e = refl
-
 -- the session after it
-pub session_changed : (old : Session) (edit : Edit) (plan : Plan) (scene : Scene) (found : Bool)
+pub session_changed : (old : Session) (edit : Edit) (plan : Plan) (scene : Scene) (joined found : Bool)
     → is_of_route edit ≡ false → plan ≡ plan_after_edit old.plan edit → scene ≡ scene_of plan
-    → found ≡ (old.keeps_lines && not (has_too_many_lines scene))
-    → record { plan = plan; keeps_graph = false; keeps_lines = found } ≡ session_after old edit
-session_changed old edit plan scene found route makes is few =
-    ap (λ p. session p false found) makes
-    ∙ ap (λ t. session after t found) (and_false old.keeps_graph (is_of_route edit) route)
-    ∙ ap (λ t. session after (old.keeps_graph && is_of_route edit) t) (
+    → joined ≡ old.keeps_graph → found ≡ (old.keeps_lines && not (has_too_many_lines scene))
+    → record { plan = plan; workers = old.workers; keeps_graph = joined; keeps_lines = found } ≡ session_after old edit
+session_changed old edit plan scene joined found route makes is kept few =
+    ap (λ p. session p joined found) makes
+    ∙ ap (λ t. session after t found) kept
+    ∙ ap (λ t. session after old.keeps_graph t) (
     few
     ∙ ap (λ s. old.keeps_lines && not (has_too_many_lines s)) (is ∙ ap scene_of makes)
     ∙ ap (λ t. old.keeps_lines && (t || has_lines_after old.plan edit)) (sym route))
@@ -93,4 +117,13 @@ session_changed old edit plan scene found route makes is few =
     after = plan_after_edit old.plan edit
 
     session : Plan → Bool → Bool → Session
-    session p g l = record { plan = p; keeps_graph = g; keeps_lines = l }
+    session p g l = record { plan = p; workers = old.workers; keeps_graph = g; keeps_lines = l }
+
+-- ---- refusals
+
+-- out of memory is no refusal
+pub no_refusal : {T : Type 0} (result : Result T EditFault) (P : Why → Type 0) → IsErrAnd result (λ fault. fault ≡ OutOfMemory)
+    → IfErr result (λ fault. IfRefused fault P)
+no_refusal (Ok v) P e = absurd e
+no_refusal (Err (Refused why)) P e = absurd cc
+no_refusal (Err OutOfMemory) P e = tt

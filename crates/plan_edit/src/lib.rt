@@ -9,9 +9,11 @@
 //! ```text
 //!   edit of            scene    graph     axial lines
 //!   a route            stays    stays     stay
-//!   an obstacle        anew     let go    changed, where they were there and aren't too many now
-//!   a screen           anew     let go    likewise
+//!   an obstacle        anew     mended    mended, where they aren't too many now
+//!   a screen           anew     mended    likewise
 //! ```
+//!
+//! Graph and lines are made where they are first asked for: a session that is asked for neither pays for neither.
 #![tactic(auto)]
 
 mod session;

@@ -1,9 +1,10 @@
 //! The session.
 
-ghost use Rattle.std.specs.Prelude.{Err, IfErr, IfOk, IsTrue, None, OnErr, OnOk, Some, ◌≡◌, ◌≤◌, ◌&&◌, false, is_some, length, not};
+ghost use Rattle.std.specs.Prelude.{Err, IfErr, IfOk, IsTrue, None, OnErr, OnOk, Some, ◌≡◌, ◌<◌, ◌≤◌, ◌&&◌, false, is_some, length, not};
 ghost use Rattle.std.specs.Option.{IfSome};
+ghost use Rattle.options_spec.specs.declared.options.TheConstants.{MAX_WORKERS};
 ghost use Rattle.plan_spec.specs.declared.limits.TheConstants.{MAX_AXIAL_LINES};
-ghost use Rattle.plan_spec.specs.Edits.{HasShift, why_not_edit};
+ghost use Rattle.plan_spec.specs.Edits.{HasShift, IsEditBetween, why_not_edit};
 ghost use Rattle.sight_spec.specs.Scene as scenes;
 ghost use Rattle.sight_spec.specs.Visibility.{visibility_graph};
 ghost use Rattle.sight_spec.specs.Axial.{axial_lines};
@@ -15,19 +16,23 @@ ghost use Rattle.axial_lines.specs.declared.fault.LinesFault.TheVariants.{TooMan
 ghost use Rattle.plan_edit.specs.Sessions as sessions;
 
 use axial_lines::{AxialLine, LinesFault, Steps, all_lines, update_lines};
+use dm_io::Gate;
 use plan_check::{Changed, Edit, EditFault, Plan};
 use sight_core::{Scene, scene_of};
 use std::alloc::Global;
 use std::marker::Model;
+use std::thread::Threads;
 use text_spec::NoMemory;
+use vga_fill::{fill_all, refill};
 use vga_grid::BitGraph;
-use vga_looks::graph_by_looks;
 
-/// A plan, its scene, and its visibility graph and axial lines once they were asked for. Contracts see the plan, and
-/// whether the graph and the lines are kept.
+/// A plan, its scene, and its visibility graph and axial lines. These two are made where they are first asked for, and
+/// mended over edits from then on. Contracts see the plan, how many workers fill the graph, and whether the graph and
+/// the lines are kept.
 #[derive(Drop)]
 pub struct Session {
     plan: Plan,
+    workers: u32,
     scene: Scene,
     graph: Option<BitGraph>,
     lines: Option<Vec<AxialLine>>,
@@ -39,9 +44,9 @@ impl Model for Session {
 
     ghost Value = { SessionParts };
 
-    ghost view = { λ a. record { plan = a.plan; keeps_graph = is_some a.graph; keeps_lines = is_some a.lines } };
+    ghost view = { λ a. record { plan = a.plan; workers = a.workers; keeps_graph = is_some a.graph; keeps_lines = is_some a.lines } };
 
-    ghost invariant = { λ a. IsKept a.plan a.scene a.graph (option_map (λ v. v.items) a.lines) };
+    ghost invariant = { λ a. IsKept a.plan a.scene a.graph (option_map (λ v. v.items) a.lines) a.workers };
 }
 
 /// Whether the edit is of a route, which blocks nothing.
@@ -53,6 +58,33 @@ fn is_of_route(edit: &Edit) -> bool
         Edit::RemoveRoute(_name) => true,
         _ => false,
     }
+}
+
+/// The visibility graph after an edit, from the one before it where it was kept.
+fn graph_after<R: Threads + Sync, G: Gate>(
+    rt: &R,
+    alloc: Global,
+    kept: &Option<BitGraph>,
+    before: &Plan,
+    after: &Plan,
+    scene: &Scene,
+    boxes: Changed,
+    workers: u32,
+    gate: &G,
+) -> Result<Option<BitGraph>, NoMemory>
+    requires kept_is { IfSome kept.now (λ graph. graph_of graph ≡ visibility_graph before.now) }
+    requires edited { IsEditBetween before.now after.now boxes }
+    requires scene { scene.now ≡ scenes.scene_of after.now }
+    requires some { 0 < workers }
+    requires at_most { workers ≤ 64 }
+    ensures kept { IfOk result (λ new. is_some new ≡ is_some kept.now) }
+    ensures graph { IfOk result (λ new. IfSome new (λ graph. graph_of graph ≡ visibility_graph after.now)) }
+{
+    let Some(old) = kept else {
+        return Ok(None);
+    };
+    let graph = refill(rt, alloc, before, after, scene, old, boxes, workers, gate)?;
+    Ok(Some(graph))
 }
 
 /// The axial lines after an edit, from those before it where they were kept; none where there are too many.
@@ -80,15 +112,19 @@ fn lines_after(
 }
 
 impl Session {
-    /// A session that begins with this plan, and keeps neither graph nor lines.
+    /// A session that begins with this plan, and keeps neither graph nor lines. So many workers will fill the graph: 1 to
+    /// `MAX_WORKERS`.
     ///
     /// Cost: that of the plan's scene.
-    pub fn begin(alloc: Global, plan: Plan) -> Result<Session, NoMemory>
-        ensures { IfOk result (λ session. session ≡ sessions.begun plan) }
+    pub fn begin(alloc: Global, plan: Plan, workers: u32) -> Result<Session, NoMemory>
+        requires some { 1 ≤ workers }
+        requires few { workers ≤ MAX_WORKERS }
+        ensures { IfOk result (λ session. session ≡ sessions.begun plan workers) }
     {
         let scene = scene_of(alloc, &plan)?;
         Ok(Session {
             plan,
+            workers,
             scene,
             graph: None,
             lines: None,
@@ -102,6 +138,13 @@ impl Session {
         &self.plan
     }
 
+    /// How many workers fill the visibility graph.
+    pub fn workers(&self) -> u32
+        ensures { result ≡ self.now.workers }
+    {
+        self.workers
+    }
+
     /// The walls, screens and corners of the plan.
     pub fn scene(&self) -> &Scene
         ensures { result.now ≡ scenes.scene_of self.now.plan }
@@ -111,14 +154,21 @@ impl Session {
 
     /// Changes the plan by the edit. Where the edit is refused, or there is no memory, nothing is changed.
     ///
-    /// An edit of a route keeps the graph and the lines. After any other the graph is let go, and lines that were kept
-    /// are those of the new plan, or are let go where there are more than `MAX_AXIAL_LINES`.
+    /// An edit of a route touches neither graph nor lines. After any other the graph, where it was kept, is that of the
+    /// new plan, and so are the lines, which are let go where there are more than `MAX_AXIAL_LINES`. `rt` lends the
+    /// threads of the workers, and each of them tells the gate each row that it claims.
     ///
     /// `Err(Refused)` names the first cause for which the edit is refused. The shift of a move is at most `MAX_SHIFT`.
     ///
-    /// Cost: that of `Plan::with`; where the edit is of an obstacle or a screen that of the scene, too, and where lines
-    /// are kept that of `update_lines`.
-    pub fn apply(&mut self, alloc: Global, edit: &Edit) -> Result<(), EditFault>
+    /// Cost: that of `Plan::with`; where the edit is of an obstacle or a screen that of the scene, too, where the graph
+    /// is kept that of `refill`, and where lines are kept that of `update_lines`.
+    pub fn apply<R: Threads + Sync, G: Gate>(
+        &mut self,
+        rt: &R,
+        alloc: Global,
+        edit: &Edit,
+        gate: &G,
+    ) -> Result<(), EditFault>
         requires shift { HasShift edit.now }
         ensures session { OnOk result (self.new ≡ sessions.session_after self.old edit.now) }
         ensures valid { OnOk result (why_not_edit self.old.plan edit.now ≡ None) }
@@ -134,23 +184,40 @@ impl Session {
         // a plan says that it is sound where its outer polygon is read
         let _outer = self.plan.outer();
         let boxes = self.plan.changed(edit);
+        let graph = graph_after(
+            rt,
+            alloc,
+            &self.graph,
+            &self.plan,
+            &plan,
+            &scene,
+            boxes,
+            self.workers,
+            gate,
+        )?;
         let lines = lines_after(alloc, &self.lines, &self.scene, &scene, boxes)?;
         self.plan = plan;
         self.scene = scene;
-        self.graph = None;
+        self.graph = graph;
         self.lines = lines;
         Ok(())
     }
 
-    /// Makes the visibility graph of the plan, where it isn't kept. Without memory nothing is changed.
+    /// Makes the visibility graph of the plan, where it isn't kept. It is kept from then on. Without memory nothing is
+    /// changed. `rt` lends the threads of the workers, and each of them tells the gate each row that it claims.
     ///
-    /// Cost: that of `graph_by_looks`, once for a plan.
-    pub fn make_graph(&mut self, alloc: Global) -> Result<(), NoMemory>
+    /// Cost: that of `fill_all`, once for a session.
+    pub fn make_graph<R: Threads + Sync, G: Gate>(
+        &mut self,
+        rt: &R,
+        alloc: Global,
+        gate: &G,
+    ) -> Result<(), NoMemory>
         ensures made { OnOk result (self.new ≡ sessions.with_graph self.old) }
         ensures stays { OnErr result (self.new ≡ self.old) }
     {
         if self.graph.is_none() {
-            let graph = graph_by_looks(alloc, &self.plan, &self.scene)?;
+            let graph = fill_all(rt, alloc, &self.plan, &self.scene, self.workers, gate)?;
             self.graph = Some(graph);
         }
         Ok(())
