@@ -40,7 +40,15 @@ without_last xs = take (length xs - 1) xs
 abbrev pub undone_to : History → Option (Plan × List ℕ) → Option (List ℕ × History)
 undone_to h None = None
 undone_to h (Some last) =
-    Some (last.1, record { depth = h.depth; now = last.0; past = without_last h.past; next = h.next ++ (h.now, last.1) ∷ [] })
+    Some (
+      last.1,
+      record {
+        depth = h.depth;
+        now = last.0;
+        past = without_last h.past;
+        next = h.next ++ (h.now, last.1) ∷ [];
+      },
+    )
 
 -- the name that undo answers and what is then, or none where nothing can be undone
 unfoldable pub undone : History → Option (List ℕ × History)
@@ -50,7 +58,15 @@ undone h = undone_to h (last_item h.past)
 abbrev pub redone_to : History → Option (Plan × List ℕ) → Option (List ℕ × History)
 redone_to h None = None
 redone_to h (Some last) =
-    Some (last.1, record { depth = h.depth; now = last.0; past = h.past ++ (h.now, last.1) ∷ []; next = without_last h.next })
+    Some (
+      last.1,
+      record {
+        depth = h.depth;
+        now = last.0;
+        past = h.past ++ (h.now, last.1) ∷ [];
+        next = without_last h.next;
+      },
+    )
 
 -- the name that redo answers and what is then, or none where nothing can be redone
 unfoldable pub redone : History → Option (List ℕ × History)

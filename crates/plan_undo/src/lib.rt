@@ -7,8 +7,10 @@
 //! | [`undoing_gives_back`] | law: a change that is undone gives back the plan |
 //!
 //! ```text
-//! add A    add B    undo    undo    redo
-//! A        A B      A               A        past: two, one, none, one changes; next: none, one, two, one
+//! change                  add A   add B   undo   undo   redo
+//! obstacles               A       A B     A             A
+//! changes to undo    0    1       2       1      0      1
+//! changes to redo    0    0       0       1      2      1
 //! ```
 #![tactic(auto)]
 

@@ -22,7 +22,8 @@ pub(crate) fn step<E: Editor>(
 ) -> Result<Name, UndoFault>
     requires ways { AreWays (E.plan editor.old) from.old.items }
     requires room { length from.old.items + length to.old.items ≤ to.old.capacity }
-    ensures step { IfOk result (IsStep (E.plan editor.old) (E.plan editor.new) from.old.items from.new.items to.old.items to.new.items) }
+    ensures step { IfOk result (IsStep (E.plan editor.old) (E.plan editor.new)
+        from.old.items from.new.items to.old.items to.new.items) }
     ensures from_capacity { from.new.capacity ≡ from.old.capacity }
     ensures to_capacity { to.new.capacity ≡ to.old.capacity }
     ensures nothing { result ≡ Err UndoFault.Nothing → from.old.items ≡ [] }

@@ -36,8 +36,8 @@ impl<E: Editor> Undo<E> {
     ghost use Rattle.std.specs.Prelude.{◌≡◌, ◌≤◌, Err, IfOk, None, OnErr, Some};
     ghost use Rattle.plan_undo.specs.History.{begun, redone, undone};
 
-    /// An editor over this one, with nothing to undo yet, and later at most `depth` changes. Without memory the editor is
-    /// dropped.
+    /// An editor over this one, with nothing to undo yet, and later at most `depth` changes. Without memory the editor
+    /// is dropped.
     pub fn new(alloc: Global, editor: E, depth: usize) -> Result<Undo<E>, NoMemory>
         requires { 1 ≤ depth }
         ensures { IfOk result (λ undo. undo ≡ begun depth (E.plan editor)) }

@@ -16,7 +16,8 @@ use text_spec::NoMemory;
 /// The change that leads back from the plan after the change to this one, where nothing refuses it.
 pub(crate) fn way_back(alloc: Global, plan: &Plan, back: &Back) -> Result<Back, NoMemory>
     requires shift { HasShift (like_edit back.now) }
-    ensures { why_not_back plan.now back.now ≡ None → IfOk result (IsWayBack plan.now (plan_after_back plan.now back.now) (name_of back.now)) }
+    ensures { why_not_back plan.now back.now ≡ None
+        → IfOk result (IsWayBack plan.now (plan_after_back plan.now back.now) (name_of back.now)) }
 {
     inverse(alloc, plan, back)
 }
@@ -24,7 +25,8 @@ pub(crate) fn way_back(alloc: Global, plan: &Plan, back: &Back) -> Result<Back, 
 /// The same of an edit.
 pub(crate) fn way_back_of_edit(alloc: Global, plan: &Plan, edit: &Edit) -> Result<Back, NoMemory>
     requires shift { HasShift edit.now }
-    ensures { why_not_edit plan.now edit.now ≡ None → IfOk result (IsWayBack plan.now (plan_after_edit plan.now edit.now) (edit_name edit.now)) }
+    ensures { why_not_edit plan.now edit.now ≡ None
+        → IfOk result (IsWayBack plan.now (plan_after_edit plan.now edit.now) (edit_name edit.now)) }
 {
     let back = back_of(alloc, plan, edit)?;
     way_back(alloc, plan, &back)

@@ -10,22 +10,34 @@ use text_spec::Name;
 /// What kind of change it was.
 #[derive(Clone, Copy, Debug, PartialEq, Eq)]
 pub enum NoteKind {
+    /// An obstacle came.
     Add,
+    /// An obstacle went.
     Remove,
+    /// An obstacle was moved.
     Move,
+    /// A screen came.
     AddScreen,
+    /// A screen went.
     RemoveScreen,
+    /// A route came.
     AddRoute,
+    /// A route went.
     RemoveRoute,
+    /// The last change was taken back.
     Undo,
+    /// The last change that was taken back was made again.
     Redo,
 }
 
 /// That a line of a script changed the plan: the line's number, the kind of the change, and the name of what changed.
 #[derive(Drop)]
 pub struct Note {
+    /// The number of the line, counted from 1.
     pub line: u64,
+    /// What kind of change it was.
     pub kind: NoteKind,
+    /// The name of what changed.
     pub name: Name,
 }
 
