@@ -1,16 +1,11 @@
 //! Intervals of a line, and whether they meet a box.
 
-ghost use Rattle.std.specs.Prelude.{◌≡◌, ◌≢◌, pos};
-ghost use Rattle.plane_spec.specs.Vectors.{InRange, IsWithin};
-ghost use Rattle.plane_spec.specs.Fractions.{is_at_least, is_at_most};
-ghost use Rattle.plane_spec.specs.Boxes.{does_extent_meet_box, is_on_extent};
-ghost use Rattle.plane_spec.specs.RPoints.{fractions_overlap, is_between_fractions};
-ghost use Rattle.plane_spec.specs.Fractions.{whole};
-ghost use Rattle.plane_spec.specs.declared.TheConstants.{MAX_COORDINATE};
-ghost use Rattle.exact_geom.specs.Parts.{HasCoordinateParts, HasRPointParts};
+ghost use Rattle.std.specs.Prelude.{◌≢◌, pos};
+ghost use Rattle.plane_spec.specs.Vectors.{IsWithin};
+ghost use Rattle.exact_geom.specs.Parts.{HasRPointParts};
 ghost use Rattle.exact_geom.specs.declared.limits.TheConstants.{MAX_STOP_PART};
 
-use super::*;
+use exact_geom::{Frac, PlanBox, Point, RPoint, extent_meets_box};
 
 /// The place after `num / den` steps from (1,0) by (3,1).
 fn place(num: i128, den: i128) -> RPoint

@@ -1,17 +1,11 @@
 //! Fractions by hand.
 
-ghost use Rattle.std.specs.Prelude.{◌≡◌, ◌≢◌, ◌<◌, ◌≤◌, pos, unsigned_abs, ◌≤ℤ◌, ◌*◌, ◌↔◌, ℕ, true, ℤ, neg_ℤ, ◌&&◌};
-ghost use Rattle.std.specs.Ordering.{int_eq};
-ghost use Rattle.std.specs.Cmp.Rules.{comparing};
-ghost use Rattle.std.proofs.Common.{rules};
-ghost use Prim.Native.Nat.{◌∣◌};
-ghost use Rattle.std.specs.Int.{IsGcd, int_div_euclid};
+ghost use Rattle.std.specs.Prelude.{◌≢◌, pos};
 ghost use Rattle.plane_spec.specs.Vectors.{IsWithin};
-ghost use Rattle.plane_spec.specs.Fractions as fractions;
-ghost use Rattle.exact_geom.specs.Parts.{HasCoordinateParts, HasPartsWithin, same_parts};
 ghost use Rattle.exact_geom.specs.declared.limits.TheConstants.{MAX_COORDINATE_PART, MAX_FRACTION_PART};
 
-use super::*;
+use exact_geom::Frac;
+use std::cmp::Ordering;
 
 /// Whether `num / den` has these parts in lowest terms, this floor and this ceiling.
 fn is(num: i128, den: i128, parts: (i128, i128), floor: i128, ceil: i128) -> bool

@@ -8,7 +8,8 @@ ghost use Rattle.view_laws.specs.Views.{IsViewOf};
 ghost use Rattle.station_laws.specs.Grounds.{IsGroundOf};
 ghost use Rattle.sight_sweep.specs.Actives.{seen, IsActive};
 ghost use Rattle.sight_sweep.specs.Arcs.{IsArc};
-ghost use Rattle.sight_sweep.specs.Rounds.{all_kept, spanned_so_far};
+ghost use Rattle.sight_sweep.specs.LeftOut.{is_set};
+ghost use Rattle.sight_sweep.specs.Rounds.{spanned_so_far};
 ghost use Rattle.sight_sweep.specs.Stations.{IsStation};
 ghost use Rattle.sight_sweep.specs.Steps.{one_more};
 
@@ -17,7 +18,9 @@ use crate::arcs::start_of;
 use crate::blocker::Blocker;
 use crate::count::Steps;
 use crate::events::events_of;
+use crate::flags::is_set;
 use crate::grounds::ground_of;
+use crate::hiding::what_to_look_at;
 use crate::products::is_left;
 use crate::push::with_room;
 use crate::round::{first_of, go_round};
@@ -35,10 +38,11 @@ fn is_spanned(blocker: &Blocker, d: Point) -> bool
     is_left(blocker.from, d) && is_left(d, blocker.to)
 }
 
-/// Puts the wall or screen of the number in, if the direction spans it.
+/// Puts the wall or screen of the number in, if it is kept and the direction spans it.
 fn put_if_spanned(
     active: &mut Vec<Blocker>,
     table: &SceneTable,
+    kept: &[bool],
     p: Point,
     d: Point,
     number: u32,
@@ -47,9 +51,12 @@ fn put_if_spanned(
     requires station { IsStation table.now p }
     requires d_in { IsDirection d }
     requires within { number < length (blockers_of_scene table.now) }
-    ensures { IsActive table.now p all_kept (spanned_so_far d number) active.old.items
-        → IfOk result (λ u. IsActive table.now p all_kept (spanned_so_far d (number + 1)) active.new.items) }
+    ensures { IsActive table.now p (is_set kept.now) (spanned_so_far d number) active.old.items
+        → IfOk result (λ u. IsActive table.now p (is_set kept.now) (spanned_so_far d (number + 1)) active.new.items) }
 {
+    if !is_set(kept, number as usize) {
+        return Ok(());
+    }
     let Some(blocker) = table.seen(p, number) else {
         return Ok(());
     };
@@ -59,22 +66,23 @@ fn put_if_spanned(
     put_in(active, blocker)
 }
 
-/// The walls and screens that the direction spans, from the station outwards.
+/// The walls and screens that are kept and that the direction spans, from the station outwards.
 fn spanned_by(
     alloc: Global,
     table: &SceneTable,
+    kept: &[bool],
     p: Point,
     d: Point,
 ) -> Result<Vec<Blocker>, NoMemory>
     requires p_in { InRange p }
     requires station { IsStation table.now p }
     requires d_in { IsDirection d }
-    ensures { IfOk result (λ active. IsActive table.now p all_kept (λ n s. order.spans d s) active.items) }
+    ensures { IfOk result (λ active. IsActive table.now p (is_set kept.now) (λ n s. order.spans d s) active.items) }
 {
     let count = table.count();
     let mut active = with_room(alloc, count as usize)?;
     for number in 0..count {
-        put_if_spanned(&mut active, table, p, d, number)?;
+        put_if_spanned(&mut active, table, kept, p, d, number)?;
     }
     Ok(active)
 }
@@ -86,12 +94,13 @@ fn view_from(alloc: Global, table: &SceneTable, p: Point, arc: Arc) -> Result<Vi
     ensures view { IfOk result (λ view. IsViewOf table.now p arc view) }
     ensures under { IfOk result (λ view. IsGroundOf table.now p view.ground) }
 {
-    let events = events_of(alloc, table, p, arc)?;
+    let left = what_to_look_at(alloc, table, p, arc)?;
+    let events = events_of(alloc, table, &left.shown, p, arc)?;
     let start = start_of(arc);
-    let mut active = spanned_by(alloc, table, p, start)?;
+    let mut active = spanned_by(alloc, table, &left.kept, p, start)?;
     let mut sectors = with_room(alloc, events.len())?;
     let before = first_of(&active);
-    go_round(&mut active, &mut sectors, table, p, &events)?;
+    go_round(&mut active, &mut sectors, table, &left.kept, p, &events)?;
     let under = ground_of(table, p);
     Ok(View {
         ground: under,

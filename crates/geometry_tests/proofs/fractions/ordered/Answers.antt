@@ -1,6 +1,6 @@
 use Rattle.std.proofs.Common.{arith, ◌^◌}
 use Rattle.std.proofs.lemmas.Int.{ints}
-use Rattle.exact_geom.proofs.fractions.tests.ordered.Goals as goal
+use Rattle.geometry_tests.proofs.fractions.ordered.Goals as goal
 
 pub compare-requires-clause-self_in : goal.compare-requires-clause-self_in
 compare-requires-clause-self_in c =

@@ -1,6 +1,6 @@
 use Rattle.std.proofs.Common.{arith, ◌^◌}
 use Rattle.std.proofs.lemmas.Int.{ints}
-use Rattle.exact_geom.proofs.extents.tests.place.Goals as goal
+use Rattle.geometry_tests.proofs.extents.place.Goals as goal
 
 pub along-requires-clause-t_in : goal.along-requires-clause-t_in
 along-requires-clause-t_in c =
