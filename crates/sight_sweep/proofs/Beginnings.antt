@@ -118,7 +118,8 @@ spanned_whole scene p d kept count active end a = active_so scene p kept (spanne
 
 -- ---- how the round begins
 
-pub underway_at_start : (scene : Scene) (p : Point) (arc : Arc) (kept : ℕ → Bool) (before : Option Front) (active : List Blocker)
+pub underway_at_start : (scene : Scene) (p : Point) (arc : Arc) (kept : ℕ → Bool) (before : Option Front)
+    (active : List Blocker)
     → AreWalls scene p → IsArc arc → IsDirection (start_of arc) → IsDirected (start_of arc)
     → IsActive scene p kept (λ n s. spans (start_of arc) s) active → before ≡ option_map front (first_of active)
     → IsUnderway scene p arc kept (start_place arc) before [] (start_place arc) active
@@ -153,7 +154,8 @@ underway_at_start scene p arc kept before active walls is_arc d_in d_some a befo
 
 -- ---- the view at its end
 
-pub view_at_end : (scene : Scene) (p : Point) (arc : Arc) (kept : ℕ → Bool) (view : View) (active : List Blocker) → IsArc arc
+pub view_at_end : (scene : Scene) (p : Point) (arc : Arc) (kept : ℕ → Bool) (view : View) (active : List Blocker)
+    → IsArc arc
     → IsUnderway scene p arc kept (start_place arc) view.before view.sectors.items (end_place arc) active
     → ((d : Point) → IsDirection d → IsDirected d → begins_blocked scene p d ≡ is_led_into view.ground d)
     → IsViewOf scene p arc view

@@ -138,7 +138,8 @@ pub record IsEventAt (events : List ℕ) (place number : ℕ) : Type 0 where
   pub place_is : place_at (get_or events at 0) ≡ place
   pub number_is : corner_of (get_or events at 0) ≡ number
 
-event_at : (scene : Scene) (p : Point) (arc : Arc) (kept shown : ℕ → Bool) (events : List ℕ) (k : ℕ) → IsWay scene p arc kept shown events
+event_at : (scene : Scene) (p : Point) (arc : Arc) (kept shown : ℕ → Bool) (events : List ℕ) (k : ℕ)
+    → IsWay scene p arc kept shown events
     → k < length scene.corners → shown k ≡ true → IsDirected (way_at p scene.corners k)
     → start_place arc ≤ place_of (way_at p scene.corners k) → place_of (way_at p scene.corners k) < end_place arc
     → IsEventAt events (place_of (way_at p scene.corners k)) k
@@ -210,7 +211,8 @@ same_itself : (x : Point) → same_point x x ≡ true
 same_itself x = grind (arith, ints)
 
 -- the event of the corner at v
-met_event : (scene : Scene) (p v : Point) (arc : Arc) (kept shown : ℕ → Bool) (events : List ℕ) → IsWay scene p arc kept shown events
+met_event : (scene : Scene) (p v : Point) (arc : Arc) (kept shown : ℕ → Bool) (events : List ℕ)
+    → IsWay scene p arc kept shown events
     → (m : HasShownCorner p scene.corners shown v) → IsDirected v → start_place arc ≤ place_of v
     → place_of v < end_place arc → IsEventAt events (place_of v) m.corner.number
 met_event scene p v arc kept shown events w m some low high =
@@ -222,7 +224,8 @@ met_event scene p v arc kept shown events w m some low high =
 
 -- it is among the run's corners
 met_among : (scene : Scene) (p v : Point) (arc : Arc) (kept shown : ℕ → Bool) (events : List ℕ) (from upto place : ℕ)
-    → IsWay scene p arc kept shown events → IsRun events from upto place → HasShownCorner p scene.corners shown v → IsDirected v
+    → IsWay scene p arc kept shown events → IsRun events from upto place → HasShownCorner p scene.corners shown v
+    → IsDirected v
     → place_of v ≡ place
     → start_place arc ≤ place → place < end_place arc
     → list_any (λ e. same_point v (way_at p scene.corners (corner_of e))) (slice_range events from upto) ≡ true
@@ -244,7 +247,8 @@ met_among scene p v arc kept shown events from upto place w r m some is low high
 -- ---- a run is a group
 
 pub group_of : (scene : Scene) (p : Point) (arc : Arc) (kept shown : ℕ → Bool) (events : List ℕ) (from upto place : ℕ)
-    → IsWay scene p arc kept shown events → IsRun events from upto place → start_place arc ≤ place → place < end_place arc
+    → IsWay scene p arc kept shown events → IsRun events from upto place → start_place arc ≤ place
+    → place < end_place arc
     → IsGroup scene p arc kept shown place (slice_range events from upto)
 group_of scene p arc kept shown events from upto place w r low high = record {
   some = subst (λ n. 0 < n) (sym (length-between events from upto r.within)) (up from upto r.some);
@@ -300,7 +304,8 @@ no_end_test x low high le none = by_lt x low
     (λ far. number_not_less x low ge ∙ sym (number_not_less x high far)))
 
 pub gap_ends_nowhere : (scene : Scene) (p : Point) (arc : Arc) (kept shown : ℕ → Bool) (events : List ℕ) (low high : ℕ)
-    → IsWay scene p arc kept shown events → IsGap events low high → low ≤ high → start_place arc ≤ low → high ≤ end_place arc
+    → IsWay scene p arc kept shown events → IsGap events low high → low ≤ high → start_place arc ≤ low
+    → high ≤ end_place arc
     → EndNowhere p (blockers_of_scene scene) kept low high
 gap_ends_nowhere scene p arc kept shown events low high w gap le first last n s within own is =
     let b = w.walls.blockers n s within is in
@@ -316,7 +321,8 @@ gap_ends_nowhere scene p arc kept shown events low high w gap le first last n s 
     to_high : (a b c : ℕ) → a < b → b ≤ c → a < c
     to_high a b c h k = omega (arith, h, k)
 
-    away : (v : Point) → HasShownCorner p scene.corners shown v → IsDirected v → low ≤ place_of v → place_of v < high → ⊥
+    away : (v : Point) → HasShownCorner p scene.corners shown v → IsDirected v → low ≤ place_of v
+        → place_of v < high → ⊥
     away v m some h k =
         let e = met_event scene p v arc kept shown events w m some (from_low (start_place arc) low (place_of v) first h)
         (to_high (place_of v) high (end_place arc) k last) in
@@ -325,7 +331,8 @@ gap_ends_nowhere scene p arc kept shown events low high w gap le first last n s 
 -- ---- what is known of a station
 
 pub way_of : (scene : Scene) (p : Point) (arc : Arc) (kept shown : ℕ → Bool) (events : List ℕ) → IsStation scene p
-    → IsArc arc → AreLeftOut scene p arc kept shown → AreEvents scene.corners p arc shown events → IsWay scene p arc kept shown events
+    → IsArc arc → AreLeftOut scene p arc kept shown → AreEvents scene.corners p arc shown events
+    → IsWay scene p arc kept shown events
 way_of scene p arc kept shown events station is_arc left events_are = record {
   is_arc = is_arc;
   walls = station.walls;
@@ -337,10 +344,12 @@ way_of scene p arc kept shown events station is_arc left events_are = record {
 
 -- ---- on to the next group
 
-event_in_gap : (scene : Scene) (p d : Point) (arc : Arc) (kept shown : ℕ → Bool) (events : List ℕ) (low high : ℕ) (j : ℕ)
+event_in_gap : (scene : Scene) (p d : Point) (arc : Arc) (kept shown : ℕ → Bool) (events : List ℕ) (low high : ℕ)
+    (j : ℕ)
     → IsWay scene p arc kept shown events → IsGap events low high → start_place arc ≤ low → high ≤ end_place arc
     → IsDirection d → IsDirected d → low ≤ place_of d → place_of d < high → j < length scene.corners
-    → shown j ≡ true → stands_in p d (get_or scene.corners j no_corner).here ≡ true → IsDirected (way_at p scene.corners j) → ⊥
+    → shown j ≡ true → stands_in p d (get_or scene.corners j no_corner).here ≡ true
+    → IsDirected (way_at p scene.corners j) → ⊥
 event_in_gap scene p d arc kept shown events low high j w gap first last d_in d_some above below lt own stands some =
     let same : place_of d ≡ place_of (way_at p scene.corners j) = tested_same_number (place_of d)
     (place_of (way_at p scene.corners j))
@@ -394,7 +403,10 @@ first_in_gap scene p d arc kept shown events low high active w gap le first last
     (first_between p d (blockers_of_scene scene) kept low (map numbered active) d_in d_some w.walls.blockers
     (w.walls.apart d) opened.held
     (gap_ends_nowhere scene p arc kept shown events low (place_of d + 1) w
-    (record { none = λ i lt ge under. gap.none i lt ge (chain (place_at (get_or events i 0)) (place_of d) high under below) })
+    (record {
+      none = λ i lt ge under. gap.none i lt ge (chain (place_at (get_or events i 0)) (place_of d) high under
+          below);
+    })
     (up low (place_of d) above) first (most (place_of d) high (end_place arc) below last))
     above) (w.left.covered d d_in d_some within)
   where
@@ -407,8 +419,10 @@ first_in_gap scene p d arc kept shown events low high active w gap le first last
     most : (a b c : ℕ) → a < b → b ≤ c → a + 1 ≤ c
     most a b c h k = omega (arith, h, k)
 
-pub goes_on : (scene : Scene) (p : Point) (arc : Arc) (kept shown : ℕ → Bool) (before : Option Front) (sectors : List Sector)
-    (events : List ℕ) (low high : ℕ) (active : List Blocker) → IsWay scene p arc kept shown events → IsGap events low high
+pub goes_on : (scene : Scene) (p : Point) (arc : Arc) (kept shown : ℕ → Bool) (before : Option Front)
+    (sectors : List Sector)
+    (events : List ℕ) (low high : ℕ) (active : List Blocker) → IsWay scene p arc kept shown events
+    → IsGap events low high
     → low < high → high ≤ end_place arc → IsUnderway scene p arc kept (start_place arc) before sectors low active
     → IsUnderway scene p arc kept (start_place arc) before sectors high active
 goes_on scene p arc kept shown before sectors events low high active w gap lt last u =
@@ -437,8 +451,10 @@ goes_on scene p arc kept shown before sectors events low high active w gap lt la
     up : (a b c : ℕ) → a ≤ b → b ≤ c → a ≤ c
     up a b c h k = omega (arith, h, k)
 
-pub goes_on_or_stays : (scene : Scene) (p : Point) (arc : Arc) (kept shown : ℕ → Bool) (before : Option Front) (sectors : List Sector)
-    (events : List ℕ) (low high : ℕ) (active : List Blocker) → IsWay scene p arc kept shown events → IsGap events low high
+pub goes_on_or_stays : (scene : Scene) (p : Point) (arc : Arc) (kept shown : ℕ → Bool) (before : Option Front)
+    (sectors : List Sector)
+    (events : List ℕ) (low high : ℕ) (active : List Blocker) → IsWay scene p arc kept shown events
+    → IsGap events low high
     → low ≤ high → high ≤ end_place arc → IsUnderway scene p arc kept (start_place arc) before sectors low active
     → IsUnderway scene p arc kept (start_place arc) before sectors high active
 goes_on_or_stays scene p arc kept shown before sectors events low high active w gap le last u = by_lt low high
@@ -450,12 +466,14 @@ goes_on_or_stays scene p arc kept shown before sectors events low high active w 
 
 -- ---- the loop over the events
 
-rises : (scene : Scene) (p : Point) (arc : Arc) (kept shown : ℕ → Bool) (events : List ℕ) (i j : ℕ) → IsWay scene p arc kept shown events → i ≤ j
+rises : (scene : Scene) (p : Point) (arc : Arc) (kept shown : ℕ → Bool) (events : List ℕ) (i j : ℕ)
+    → IsWay scene p arc kept shown events → i ≤ j
     → j < length events → place_at (get_or events i 0) ≤ place_at (get_or events j 0)
 rises scene p arc kept shown events i j w le lt = places_rise (get_or events i 0) (get_or events j 0)
     (w.events_are.sorted i j 0 le lt)
 
-pub place_in : (scene : Scene) (p : Point) (arc : Arc) (kept shown : ℕ → Bool) (events : List ℕ) (i : ℕ) → IsWay scene p arc kept shown events
+pub place_in : (scene : Scene) (p : Point) (arc : Arc) (kept shown : ℕ → Bool) (events : List ℕ) (i : ℕ)
+    → IsWay scene p arc kept shown events
     → i < length events → (start_place arc ≤ place_at (get_or events i 0))
     × (place_at (get_or events i 0) < end_place arc)
 place_in scene p arc kept shown events i w lt =
@@ -466,7 +484,8 @@ place_in scene p arc kept shown events i w lt =
       subst (λ n. n < end_place arc) (sym e.place) (in_arc_below arc v w.is_arc v_in e.directed e.in_arc),
     )
 
-pub going_begins : (scene : Scene) (p : Point) (arc : Arc) (kept shown : ℕ → Bool) (before : Option Front) (sectors : List Sector)
+pub going_begins : (scene : Scene) (p : Point) (arc : Arc) (kept shown : ℕ → Bool) (before : Option Front)
+    (sectors : List Sector)
     (events : List ℕ) (active : List Blocker) → IsWay scene p arc kept shown events → start_place arc ≤ end_place arc
     → IsUnderway scene p arc kept (start_place arc) before sectors (start_place arc) active
     → IsGoing scene p arc kept before sectors events 0 0 active
@@ -481,7 +500,8 @@ going_begins scene p arc kept shown before sectors events active w le u = record
   all_passed = λ h. refl;
 }
 
-pub going_more : (scene : Scene) (p : Point) (arc : Arc) (kept : ℕ → Bool) (before : Option Front) (sectors : List Sector)
+pub going_more : (scene : Scene) (p : Point) (arc : Arc) (kept : ℕ → Bool) (before : Option Front)
+    (sectors : List Sector)
     (events : List ℕ) (from k : ℕ) (active : List Blocker) → k + 1 < length events
     → place_at (get_or events k 0) ≡ place_at (get_or events (k + 1) 0)
     → IsGoing scene p arc kept before sectors events from k active
@@ -501,7 +521,8 @@ going_more scene p arc kept before sectors events from k active more e g = recor
 }
 
 -- the run that ends at k
-pub run_at : (scene : Scene) (p : Point) (arc : Arc) (kept shown : ℕ → Bool) (before : Option Front) (sectors : List Sector) (events : List ℕ)
+pub run_at : (scene : Scene) (p : Point) (arc : Arc) (kept shown : ℕ → Bool) (before : Option Front)
+    (sectors : List Sector) (events : List ℕ)
     (from k : ℕ) (active : List Blocker) → IsWay scene p arc kept shown events → k < length events
     → (k + 1 < length events → place_at (get_or events k 0) ≢ place_at (get_or events (k + 1) 0))
     → IsGoing scene p arc kept before sectors events from k active
@@ -516,7 +537,8 @@ run_at scene p arc kept shown before sectors events from k active w inside other
       let more : k + 1 < length events = above (k + 1) i (length events) ge lt in
       beyond (place_at (get_or events from 0)) (place_at (get_or events k 0)) (place_at (get_or events (k + 1) 0))
       (place_at (get_or events i 0))
-      (g.same k g.order (omega arith) inside) (rises scene p arc kept shown events k (k + 1) w (omega arith) more) (other more)
+      (g.same k g.order (omega arith) inside) (rises scene p arc kept shown events k (k + 1) w (omega arith) more)
+      (other more)
       (rises scene p arc kept shown events (k + 1) i w ge lt);
 }
   where
@@ -556,7 +578,8 @@ run_gap events from upto low place r passed = record {
     beyond a b h k = omega (arith, h, k)
 
 -- before the group is passed
-pub going_to : (scene : Scene) (p : Point) (arc : Arc) (kept shown : ℕ → Bool) (before : Option Front) (sectors : List Sector)
+pub going_to : (scene : Scene) (p : Point) (arc : Arc) (kept shown : ℕ → Bool) (before : Option Front)
+    (sectors : List Sector)
     (events : List ℕ) (from k : ℕ) (active : List Blocker) → IsWay scene p arc kept shown events → k < length events
     → IsRun events from (k + 1) (place_at (get_or events from 0))
     → IsGoing scene p arc kept before sectors events from k active
@@ -574,7 +597,8 @@ going_to scene p arc kept shown before sectors events from k active w inside r g
     at_most a b h = omega (arith, h)
 
 -- after it
-pub going_past : (scene : Scene) (p : Point) (arc : Arc) (kept shown : ℕ → Bool) (before : Option Front) (sectors : List Sector)
+pub going_past : (scene : Scene) (p : Point) (arc : Arc) (kept shown : ℕ → Bool) (before : Option Front)
+    (sectors : List Sector)
     (events : List ℕ) (from k : ℕ) (active : List Blocker) → IsWay scene p arc kept shown events → k < length events
     → from ≤ k → IsRun events from (k + 1) (place_at (get_or events from 0))
     → IsUnderway scene p arc kept (start_place arc) before sectors (place_at (get_or events from 0) + 1) active
@@ -607,7 +631,8 @@ going_past scene p arc kept shown before sectors events from k active w inside l
     between : (i k : ℕ) → i ≤ k → k ≤ i → i ≡ k
     between i k h j = omega (arith, h, j)
 
-pub going_ends : (scene : Scene) (p : Point) (arc : Arc) (kept shown : ℕ → Bool) (before : Option Front) (sectors : List Sector)
+pub going_ends : (scene : Scene) (p : Point) (arc : Arc) (kept shown : ℕ → Bool) (before : Option Front)
+    (sectors : List Sector)
     (events : List ℕ) (from k : ℕ) (active : List Blocker) → IsWay scene p arc kept shown events → length events ≤ k
     → IsGoing scene p arc kept before sectors events from k active
     → IsUnderway scene p arc kept (start_place arc) before sectors (end_place arc) active

@@ -75,7 +75,8 @@ all_and corners p arc shown number events all k lt inside own some within = by_l
 
 -- ---- both
 
-pub no_events : (corners : List Corner) (p : Point) (arc : Arc) (shown : ℕ → Bool) → AreFirstEvents corners p arc shown 0 []
+pub no_events : (corners : List Corner) (p : Point) (arc : Arc) (shown : ℕ → Bool)
+    → AreFirstEvents corners p arc shown 0 []
 no_events corners p arc shown = record {
   each = λ k d lt. absurd (omega (arith, lt));
   all = λ k lt inside own some within. absurd (omega (arith, lt));
@@ -90,10 +91,12 @@ next_not corners p arc shown number events out f = record {
       (λ own some within. clash (is_in_arc arc (way_at p corners number)) within (out own some)) f.all;
 }
 
-pub next_one : (corners : List Corner) (p : Point) (arc : Arc) (shown : ℕ → Bool) (number : ℕ) (events : List ℕ) → length corners ≤ 1024
+pub next_one : (corners : List Corner) (p : Point) (arc : Arc) (shown : ℕ → Bool) (number : ℕ) (events : List ℕ)
+    → length corners ≤ 1024
     → number < length corners → IsDirected (way_at p corners number) → is_in_arc arc (way_at p corners number) ≡ true
     → AreFirstEvents corners p arc shown number events
-    → AreFirstEvents corners p arc shown (number + 1) (events ++ (place_of (way_at p corners number) * 2048 + number) ∷ [])
+    → AreFirstEvents corners p arc shown (number + 1) (events ++ (place_of (way_at p corners number) * 2048 + number)
+    ∷ [])
 next_one corners p arc shown number events few lt some within f = record {
   each = All-push (IsEvent corners p arc) events (place_of (way_at p corners number) * 2048 + number) f.each
       (event_listed corners p arc number few lt some within);
@@ -102,7 +105,8 @@ next_one corners p arc shown number events few lt some within f = record {
 
 pub sorted_events : (corners : List Corner) (p : Point) (arc : Arc) (shown : ℕ → Bool) (events sorted : List ℕ)
     → IsPermutation events sorted
-    → IsNonDecreasing sorted → AreFirstEvents corners p arc shown (length corners) events → AreEvents corners p arc shown sorted
+    → IsNonDecreasing sorted → AreFirstEvents corners p arc shown (length corners) events
+    → AreEvents corners p arc shown sorted
 sorted_events corners p arc shown events sorted same order f = record {
   sorted = order;
   each = All-permutation (IsEvent corners p arc) events sorted same f.each;
@@ -110,7 +114,8 @@ sorted_events corners p arc shown events sorted same order f = record {
       (f.all k lt lt own some within);
 }
 
-pub all_listed : (corners : List Corner) (p : Point) (arc : Arc) (shown : ℕ → Bool) (count : ℕ) (events : List ℕ) → length corners ≤ count
+pub all_listed : (corners : List Corner) (p : Point) (arc : Arc) (shown : ℕ → Bool) (count : ℕ) (events : List ℕ)
+    → length corners ≤ count
     → AreFirstEvents corners p arc shown count events → AreFirstEvents corners p arc shown (length corners) events
 all_listed corners p arc shown count events end f = record {
   each = f.each;

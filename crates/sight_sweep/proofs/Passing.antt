@@ -65,14 +65,17 @@ place_of_event scene p v arc kept shown place group g h =
     ap place_of (points_same v (way_at p scene.corners (corner_of (get_or group s.place 0))) s.holds)
     ∙ sym (g.each s.place 0 s.within).place ∙ g.places s.place 0 s.within
 
-ends_where : (scene : Scene) (p : Point) (arc : Arc) (kept shown : ℕ → Bool) (place : ℕ) (group : List ℕ) (n : ℕ) (s : Seen)
+ends_where : (scene : Scene) (p : Point) (arc : Arc) (kept shown : ℕ → Bool) (place : ℕ) (group : List ℕ) (n : ℕ)
+    (s : Seen)
     → IsGroup scene p arc kept shown place group → n < length (blockers_of_scene scene) → kept n ≡ true
     → seen_at p (blockers_of_scene scene) n ≡ Some s → ends_among p scene.corners group s ≡ (to_place s == place)
-ends_where scene p arc kept shown place group n s g within own is = is_same (ends_among p scene.corners group s) (to_place s == place)
+ends_where scene p arc kept shown place group n s g within own is = is_same (ends_among p scene.corners group s)
+    (to_place s == place)
     (λ h. same_number_is (to_place s) place (place_of_event scene p s.to arc kept shown place group g h))
     (λ h. g.ends n s within own is (tested_same_number (to_place s) place h))
 
-begins_where : (scene : Scene) (p : Point) (arc : Arc) (kept shown : ℕ → Bool) (place : ℕ) (group : List ℕ) (n : ℕ) (s : Seen)
+begins_where : (scene : Scene) (p : Point) (arc : Arc) (kept shown : ℕ → Bool) (place : ℕ) (group : List ℕ) (n : ℕ)
+    (s : Seen)
     → IsGroup scene p arc kept shown place group → n < length (blockers_of_scene scene) → kept n ≡ true
     → seen_at p (blockers_of_scene scene) n ≡ Some s → begins_among p scene.corners group s ≡ (from_place s == place)
 begins_where scene p arc kept shown place group n s g within own is = is_same (begins_among p scene.corners group s)
@@ -81,7 +84,8 @@ begins_where scene p arc kept shown place group n s g within own is = is_same (b
     (λ h. g.begins n s within own is (tested_same_number (from_place s) place h))
 
 -- once all that end there are out, the list holds what is spanned there
-pub held_within : (scene : Scene) (p : Point) (arc : Arc) (kept shown : ℕ → Bool) (start place : ℕ) (group : List ℕ) (active : List Blocker)
+pub held_within : (scene : Scene) (p : Point) (arc : Arc) (kept shown : ℕ → Bool) (start place : ℕ) (group : List ℕ)
+    (active : List Blocker)
     → AreWalls scene p → IsGroup scene p arc kept shown place group
     → IsActive scene p kept (λ n s. is_held_at start (from_place s) (to_place s) place
     && not (ends_among p scene.corners group s)) active
@@ -107,7 +111,8 @@ held_within scene p arc kept shown start place group active walls g a =
     by_end false t q e f = refl
 
 -- once all that begin there are in, it holds what is open just after
-pub held_next : (scene : Scene) (p : Point) (arc : Arc) (kept shown : ℕ → Bool) (start place : ℕ) (group : List ℕ) (active : List Blocker)
+pub held_next : (scene : Scene) (p : Point) (arc : Arc) (kept shown : ℕ → Bool) (start place : ℕ) (group : List ℕ)
+    (active : List Blocker)
     → AreWalls scene p → IsGroup scene p arc kept shown place group
     → IsActive scene p kept (λ n s. is_spanned_at (from_place s) (to_place s) place
     || begins_among p scene.corners group s) active
@@ -146,7 +151,8 @@ spanned_next scene p v kept place walls v_in v_some e n s within own is h =
     spans_goes_on v s v_in v_some (walls.blockers n s within is)
     (subst (λ m. is_spanned_at (from_place s) (to_place s) m ≡ true) (sym e) h)
 
-pub begun_next : (scene : Scene) (p v : Point) (arc : Arc) (kept shown : ℕ → Bool) (place : ℕ) (group : List ℕ) → AreWalls scene p
+pub begun_next : (scene : Scene) (p v : Point) (arc : Arc) (kept shown : ℕ → Bool) (place : ℕ) (group : List ℕ)
+    → AreWalls scene p
     → IsGroup scene p arc kept shown place group → IsDirection v → IsDirected v → place_of v ≡ place
     → SpansAll scene p kept (λ n s. begins_among p scene.corners group s) (just_after v)
 begun_next scene p v arc kept shown place group walls g v_in v_some e n s within own is h =
@@ -427,7 +433,8 @@ group_hidden scene p d arc kept shown place group active g d_in d_some e ways is
 
 -- ---- the group is passed
 
-pub passed_with_sector : (scene : Scene) (p : Point) (arc : Arc) (kept shown : ℕ → Bool) (start : ℕ) (before : Option Front)
+pub passed_with_sector : (scene : Scene) (p : Point) (arc : Arc) (kept shown : ℕ → Bool) (start : ℕ)
+    (before : Option Front)
     (sectors : List Sector) (s : Sector) (group : List ℕ) (active at after : List Blocker)
     → AreWalls scene p → ((k : ℕ) → k < length scene.corners → IsDirection (way_at p scene.corners k))
     → AreLeftOut scene p arc kept shown → IsGroup scene p arc kept shown s.place group
@@ -438,7 +445,8 @@ pub passed_with_sector : (scene : Scene) (p : Point) (arc : Arc) (kept shown : �
     → s.ahead ≡ least_from (leads_ahead p scene.corners) (far_of p scene.corners) None group
     → s.behind ≡ least_from (leads_behind p scene.corners) (far_of p scene.corners) None group
     → IsUnderway scene p arc kept start before (sectors ++ s ∷ []) (s.place + 1) after
-passed_with_sector scene p arc kept shown start before sectors s group active at after walls ways left g u held_at held_after on_is
+passed_with_sector scene p arc kept shown start before sectors s group active at after walls ways left g u held_at
+    held_after on_is
     after_is way_is ahead_is behind_is = record {
       radials = (sector_added scene p arc kept before sectors s (map numbered active) (map numbered at)
           (map numbered after) walls left.covered u.radials held_at.held held_after.held
@@ -466,7 +474,8 @@ passed_with_sector scene p arc kept shown start before sectors s group active at
     more : (start place : ℕ) → start ≤ place → start ≤ place + 1
     more start place h = omega (arith, h)
 
-pub passed_without_sector : (scene : Scene) (p : Point) (arc : Arc) (kept shown : ℕ → Bool) (start place : ℕ) (before : Option Front)
+pub passed_without_sector : (scene : Scene) (p : Point) (arc : Arc) (kept shown : ℕ → Bool) (start place : ℕ)
+    (before : Option Front)
     (sectors : List Sector) (group : List ℕ) (active at after : List Blocker)
     → AreWalls scene p → ((k : ℕ) → k < length scene.corners → IsDirection (way_at p scene.corners k))
     → AreLeftOut scene p arc kept shown → IsGroup scene p arc kept shown place group
@@ -477,7 +486,8 @@ pub passed_without_sector : (scene : Scene) (p : Point) (arc : Arc) (kept shown 
     → number_in (option_map front (first_of at)) ≡ number_in (option_map front (first_of after))
     → All (λ e. is_past (first_of at) (way_at p scene.corners (corner_of e)) ≡ true) group
     → IsUnderway scene p arc kept start before sectors (place + 1) after
-passed_without_sector scene p arc kept shown start place before sectors group active at after walls ways left g u held_at held_after
+passed_without_sector scene p arc kept shown start place before sectors group active at after walls ways left g u
+    held_at held_after
     same same_after past = record {
       radials = (no_sector_added scene p arc kept before sectors place (map numbered active) (map numbered at)
           (map numbered after) walls left.covered u.radials held_at.held held_after.held
@@ -520,7 +530,8 @@ list_at scene p arc kept shown start place before sectors group active at statio
     held_within scene p arc kept shown start place group at station.walls g
     (taken kept (λ n s. is_held_at start (from_place s) (to_place s) place) u.holds)
 
-pub list_after : (scene : Scene) (p : Point) (arc : Arc) (kept shown : ℕ → Bool) (start place : ℕ) (group : List ℕ) (at after : List Blocker)
+pub list_after : (scene : Scene) (p : Point) (arc : Arc) (kept shown : ℕ → Bool) (start place : ℕ) (group : List ℕ)
+    (at after : List Blocker)
     → IsStation scene p → IsGroup scene p arc kept shown place group
     → IsActive scene p kept (λ n s. is_spanned_at (from_place s) (to_place s) place) at
     → PutsIn scene p kept group at after
@@ -535,7 +546,8 @@ list_after scene p arc kept shown start place group at after station g held put 
     (spanned_next scene p v kept place station.walls v_in e.directed v_place)
     (begun_next scene p v arc kept shown place group station.walls g v_in e.directed v_place))
 
-pub pass_silently : (scene : Scene) (p : Point) (arc : Arc) (kept shown : ℕ → Bool) (start place : ℕ) (before : Option Front)
+pub pass_silently : (scene : Scene) (p : Point) (arc : Arc) (kept shown : ℕ → Bool) (start place : ℕ)
+    (before : Option Front)
     (sectors : List Sector) (group : List ℕ) (active at after : List Blocker) → IsStation scene p
     → AreLeftOut scene p arc kept shown
     → IsGroup scene p arc kept shown place group → IsUnderway scene p arc kept start before sectors place active
@@ -544,9 +556,11 @@ pub pass_silently : (scene : Scene) (p : Point) (arc : Arc) (kept shown : ℕ �
     → number_in (option_map front (first_of at)) ≡ number_in (option_map front (first_of after))
     → All (λ e. is_past (first_of at) (way_at p scene.corners (corner_of e)) ≡ true) group
     → IsUnderway scene p arc kept start before sectors (place + 1) after
-pass_silently scene p arc kept shown start place before sectors group active at after station left g u taken put same same_after past =
+pass_silently scene p arc kept shown start place before sectors group active at after station left g u taken put same
+    same_after past =
     let held_at = list_at scene p arc kept shown start place before sectors group active at station g u taken in
-    passed_without_sector scene p arc kept shown start place before sectors group active at after station.walls station.ways left g u
+    passed_without_sector scene p arc kept shown start place before sectors group active at after station.walls
+    station.ways left g u
     held_at
     (list_after scene p arc kept shown start place group at after station g held_at put) same same_after past
 
@@ -559,19 +573,22 @@ pub record TellsOf (scene : Scene) (p : Point) (group : List ℕ) (at after : Li
   pub ahead : s.ahead ≡ least_from (leads_ahead p scene.corners) (far_of p scene.corners) None group
   pub behind : s.behind ≡ least_from (leads_behind p scene.corners) (far_of p scene.corners) None group
 
-pub pass_telling : (scene : Scene) (p : Point) (arc : Arc) (kept shown : ℕ → Bool) (start place : ℕ) (before : Option Front)
+pub pass_telling : (scene : Scene) (p : Point) (arc : Arc) (kept shown : ℕ → Bool) (start place : ℕ)
+    (before : Option Front)
     (sectors : List Sector) (s : Sector) (group : List ℕ) (active at after : List Blocker) → IsStation scene p
     → AreLeftOut scene p arc kept shown
     → IsGroup scene p arc kept shown place group → IsUnderway scene p arc kept start before sectors place active
     → TakesOut scene p group active at → PutsIn scene p kept group at after → TellsOf scene p group at after s
     → IsUnderway scene p arc kept start before (sectors ++ s ∷ []) (place + 1) after
-pass_telling scene p arc kept shown start place before sectors s group active at after station left g u taken put tells =
+pass_telling scene p arc kept shown start place before sectors s group active at after station left g u taken put
+    tells =
     let held_at = list_at scene p arc kept shown start place before sectors group active at station g u taken in
     let held_after = list_after scene p arc kept shown start place group at after station g held_at put in
     let e = g.each 0 0 g.some in
     let own : s.place ≡ place = tells.place ∙ g.places 0 0 g.some in
     subst (λ n. IsUnderway scene p arc kept start before (sectors ++ s ∷ []) (n + 1) after) own
-    (passed_with_sector scene p arc kept shown start before sectors s group active at after station.walls station.ways left
+    (passed_with_sector scene p arc kept shown start before sectors s group active at after station.walls station.ways
+    left
     (subst (λ n. IsGroup scene p arc kept shown n group) (sym own) g)
     (subst (λ n. IsUnderway scene p arc kept start before sectors n active) (sym own) u)
     (subst (λ n. IsActive scene p kept (λ m t. is_spanned_at (from_place t) (to_place t) n) at) (sym own) held_at)

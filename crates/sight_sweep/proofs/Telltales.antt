@@ -128,7 +128,8 @@ was_false old new n stays h = by_cases (is_set old n)
     (λ f. f)
 
 -- a cover that hides the corner, where all flags of what ends there are false
-pub corner_hidden : (scene : Scene) (p v : Point) (covers : List Blocker) (kept : List Bool) (numbers : List ℕ) (k at : ℕ)
+pub corner_hidden : (scene : Scene) (p v : Point) (covers : List Blocker) (kept : List Bool) (numbers : List ℕ)
+    (k at : ℕ)
     → v ≡ way_at p scene.corners k → AreAround scene (get_or scene.corners k no_corner).here numbers
     → All (λ n. is_set kept n ≡ false) numbers → IsHiddenAt covers at v → IsCornerHidden scene p covers kept k
 corner_hidden scene p v covers kept numbers k at way around none h = record {

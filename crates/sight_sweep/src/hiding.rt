@@ -18,7 +18,7 @@ ghost use Rattle.sight_spec.specs.Scene.{blockers_of_scene};
 ghost use Rattle.front_laws.specs.Seen.{nowhere};
 ghost use Rattle.sight_sweep.specs.Arcs.{IsArc};
 ghost use Rattle.sight_sweep.specs.LeftOut as words;
-ghost use Rattle.sight_sweep.specs.LeftOut.{AreLeftOut, AreLineFlags, AreLinesHidden, AreCornerFlags, AreCornersHidden};
+ghost use Rattle.sight_sweep.specs.LeftOut.{AreLeftOut, AreLinesHidden, AreCornersHidden};
 ghost use Rattle.sight_sweep.specs.LeftOut.{AreCoversKept, IsLineHidden, IsCornerHidden};
 
 use crate::arcs::is_in_arc;
@@ -27,7 +27,7 @@ use crate::blocker::Blocker;
 use crate::covers::{cover_of_both, cover_of_point, covers_of};
 use crate::flags::{is_set, set};
 use crate::left_out::LeftOut;
-use crate::nearest::{is_below, nearest};
+use crate::nearest::{is_outside, nearest};
 use crate::push::{push, with_room};
 use crate::table::SceneTable;
 use exact_geom::vector;
@@ -47,12 +47,13 @@ fn cover_of_line(
     number: u32,
 ) -> Option<usize>
     requires p_in { InRange p }
+    requires arc { IsArc arc }
     requires within { number < length (blockers_of_scene table.now) }
     ensures { IfSome result (λ at. IsLineHidden p covers.now (get_or (blockers_of_scene table.now) number nowhere)) }
 {
     let line = table.line(number);
     let (a, b) = (vector(p, line.a), vector(p, line.b));
-    if is_below(arc, a, b) {
+    if is_outside(arc, a, b) {
         return None;
     }
     cover_of_both(covers, bins, last, a, b)
@@ -68,6 +69,7 @@ fn line_flags(
     bins: &[u8],
 ) -> Result<Vec<bool>, NoMemory>
     requires p_in { InRange p }
+    requires arc { IsArc arc }
     ensures { IfOk result (λ kept. AreLinesHidden table.now p covers.now kept.items) }
 {
     let count = table.count();
@@ -105,6 +107,7 @@ fn kept_lines(
     bins: &[u8],
 ) -> Result<Vec<bool>, NoMemory>
     requires p_in { InRange p }
+    requires arc { IsArc arc }
     ensures hidden { IfOk result (λ kept. AreLinesHidden table.now p covers.now kept.items) }
     ensures covers { IfOk result (λ kept. AreCoversKept covers.now kept.items) }
 {

@@ -112,8 +112,9 @@ fn view_from(alloc: Global, table: &SceneTable, p: Point, arc: Arc) -> Result<Vi
 /// What is seen from `p` in the directions of the arc: what is seen first in each, and the nearest corners that lead
 /// into what is blocked, told in sectors. Counts one sweep, whatever it answers.
 ///
-/// Cost: one sort of the directions of the corners in the arc, and then for each of them a step whose cost grows with
-/// the number of walls that one direction spans.
+/// Cost: a few products for each wall and screen, to leave out what near walls hide; one sort of the directions of the
+/// corners in the arc that are left, and for each of them a step whose cost grows with the number of walls that one
+/// direction spans.
 ///
 /// Source: the plane sweep by angle after Lee (1978) and Asano (1985); the rules at corners and walls are those of
 /// sight.

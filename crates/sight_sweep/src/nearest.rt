@@ -1,10 +1,11 @@
 //! The walls and screens that are nearest to the station, as numbers that are sorted.
 //!
-//! They are only proposed: what is left out is told by what they hide, whichever they are.
+//! They are only proposed as covers: what is left out is told by what they hide, whichever they are.
 
 ghost use Rattle.std.specs.Prelude.{◌≡◌, ◌≤◌, ◌<◌, length};
 ghost use Rattle.plane_spec.specs.Vectors.{InRange, IsDirection};
 ghost use Rattle.sight_spec.specs.Scene.{blockers_of_scene};
+ghost use Rattle.sight_sweep.specs.Arcs.{IsArc};
 
 use crate::corners::length;
 use crate::products::{is_left, is_negative};
@@ -19,12 +20,39 @@ use view_laws::Arc;
 /// So many are proposed at most.
 const MANY: usize = 32;
 
-/// Whether nothing between the two can be in the arc, since both lead down and the arc is a half turn.
-pub(crate) fn is_below(arc: Arc, a: Point, b: Point) -> bool {
+/// Whether nothing between the two is in the arc, since both lie below it, before it or after it.
+pub(crate) fn is_outside(arc: Arc, a: Point, b: Point) -> bool
+    requires arc { IsArc arc }
+    requires a_in { IsDirection a }
+    requires b_in { IsDirection b }
+{
     match arc {
         Arc::All => false,
-        _ => is_negative(a.y) && is_negative(b.y),
+        Arc::Later => are_below(a, b),
+        Arc::Between(first, last) => {
+            are_below(a, b) || are_left(a, b, last) || are_right(a, b, first)
+        }
     }
+}
+
+fn are_below(a: Point, b: Point) -> bool {
+    is_negative(a.y) && is_negative(b.y)
+}
+
+fn are_left(a: Point, b: Point, d: Point) -> bool
+    requires a_in { IsDirection a }
+    requires b_in { IsDirection b }
+    requires d_in { IsDirection d }
+{
+    is_left(d, a) && is_left(d, b)
+}
+
+fn are_right(a: Point, b: Point, d: Point) -> bool
+    requires a_in { IsDirection a }
+    requires b_in { IsDirection b }
+    requires d_in { IsDirection d }
+{
+    is_left(a, d) && is_left(b, d)
 }
 
 /// How far the farther one leads.
@@ -73,11 +101,12 @@ fn put_if_near(
     number: u32,
 ) -> Result<(), NoMemory>
     requires p_in { InRange p }
+    requires arc { IsArc arc }
     requires within { number < length (blockers_of_scene table.now) }
 {
     let line = table.line(number);
     let (a, b) = (vector(p, line.a), vector(p, line.b));
-    if is_below(arc, a, b) || !is_left(b, a) {
+    if is_outside(arc, a, b) || !is_left(b, a) {
         return Ok(());
     }
     put_near(near, key(farther(a, b), number))
@@ -91,6 +120,7 @@ pub(crate) fn nearest(
     arc: Arc,
 ) -> Result<Vec<u64>, NoMemory>
     requires p_in { InRange p }
+    requires arc { IsArc arc }
 {
     let mut near = with_room(alloc, MANY + 1)?;
     for number in 0..table.count() {

@@ -103,8 +103,8 @@ pub struct Sighting {
 }
 
 /// What a view from `p` tells of a point in its arc: whether it is seen. The answer doesn't hang on the bearing nor on
-/// `near`, but comes sooner where the bearing is that of the point's direction, and `near` that of an answer for a point
-/// beside it. It also gives the `near` of this point: how many of the sectors have a place up to that of its direction.
+/// `near`, but comes sooner where the bearing is that of the point's direction, and `near` that of an answer for a
+/// point beside it. It also gives the `near` of this point: how many sectors have a place up to that of its direction.
 ///
 /// Cost: constant where both are so, and otherwise a division and a search in the sectors.
 pub fn sight_by(

@@ -14,5 +14,6 @@ loop-number-preserved c = c.in_ok-push_if_in_arc.ensures c.loop-number.invariant
 pub returns-clause-listed : goal.returns-clause-listed
 returns-clause-listed c =
     let end : length c.args.table.now.corners ≤ c.loop-number.number = search rules in
-    all_listed c.args.table.now.corners c.args.p c.args.arc (is_set c.args.shown.now) c.loop-number.number c.loop-number.events.items end
+    all_listed c.args.table.now.corners c.args.p c.args.arc (is_set c.args.shown.now) c.loop-number.number
+    c.loop-number.events.items end
     c.loop-number.invariant

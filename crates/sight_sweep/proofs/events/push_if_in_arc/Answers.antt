@@ -36,7 +36,8 @@ returns c first =
     on_ok_weaker c.push.result
     (λ pushed. subst (AreFirstEvents corners c.args.p c.args.arc (is_set c.args.shown.now) (number + 1))
     (sym (pushed ∙ ap (λ e. c.args.events.now.items ++ e ∷ []) event_is))
-    (next_one corners c.args.p c.args.arc (is_set c.args.shown.now) number c.args.events.now.items c.requires.few c.requires.within
+    (next_one corners c.args.p c.args.arc (is_set c.args.shown.now) number c.args.events.now.items c.requires.few
+    c.requires.within
     (subst IsDirected c.way-way.ensures.way (c.is_way_in.ensures.directed yes))
     (subst (λ v. is_in_arc c.args.arc v ≡ true) c.way-way.ensures.way (c.is_way_in.ensures.in_arc yes)) first))
     c.push.ensures.pushed

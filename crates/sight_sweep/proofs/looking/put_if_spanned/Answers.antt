@@ -33,7 +33,8 @@ returns c a =
     let spanned = sym c.is_spanned.ensures ∙ c.if-not-is_spanned.false in
     let number = c.in-Some.ensures.number in
     on_ok_weaker c.put_in.result
-    (λ active. spanned_next_one c.args.table.now c.args.p c.args.d (is_set c.args.kept.now) c.args.number c.put_in.new.active.items
+    (λ active. spanned_next_one c.args.table.now c.args.p c.args.d (is_set c.args.kept.now) c.args.number
+    c.put_in.new.active.items
     (seen c.in-Some.blocker) known spanned
     (subst (λ n. IsActive c.args.table.now c.args.p (is_set c.args.kept.now)
     (beside n (spanned_so_far c.args.d c.args.number)) c.put_in.new.active.items) number active))

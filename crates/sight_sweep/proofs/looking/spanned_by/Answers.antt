@@ -16,5 +16,6 @@ loop-number-preserved c = c.in_ok-put_if_spanned.ensures c.loop-number.invariant
 pub returns : goal.returns
 returns c =
     let end : length (blockers_of_scene c.args.table.now) ≤ c.loop-number.number = search rules in
-    spanned_whole c.args.table.now c.args.p c.args.d (is_set c.args.kept.now) c.loop-number.number c.loop-number.active.items end
+    spanned_whole c.args.table.now c.args.p c.args.d (is_set c.args.kept.now) c.loop-number.number
+    c.loop-number.active.items end
     c.loop-number.invariant

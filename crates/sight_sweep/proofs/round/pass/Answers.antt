@@ -15,7 +15,8 @@ returns-then-is_silent c = record {
       let was = c.first_of-before.ensures ∙ ap (λ xs. option_map front (first_of xs)) c.deref.ensures.value in
       let on = c.first_of-on.ensures ∙ ap (λ xs. option_map front (first_of xs)) c.deref-2.ensures.value in
       let next = c.first_of-after.ensures ∙ ap (λ xs. option_map front (first_of xs)) c.deref-4.ensures.value in
-      pass_silently c.args.table.now c.args.p arc (is_set c.args.kept.now) shown start place before c.args.sectors.now.items c.args.group.now
+      pass_silently c.args.table.now c.args.p arc (is_set c.args.kept.now) shown start place before
+      c.args.sectors.now.items c.args.group.now
       c.args.active.now.items c.take_all_ended.new.active.items c.put_all_begun.new.active.items
       c.requires.station left g u c.take_all_ended.ensures.taken
       (λ test way a old new. c.in_ok-put_all_begun.ensures.put test way a old new)
@@ -34,7 +35,8 @@ returns c = record {
       on_ok_weaker c.push.result
       (λ items. subst (λ xs. IsUnderway c.args.table.now c.args.p arc (is_set c.args.kept.now) start before xs
       (place + 1) c.put_all_begun.new.active.items) (sym items)
-      (pass_telling c.args.table.now c.args.p arc (is_set c.args.kept.now) shown start place before c.args.sectors.now.items c.sector_of.result
+      (pass_telling c.args.table.now c.args.p arc (is_set c.args.kept.now) shown start place before
+      c.args.sectors.now.items c.sector_of.result
       c.args.group.now c.args.active.now.items c.take_all_ended.new.active.items c.put_all_begun.new.active.items
       c.requires.station left g u c.take_all_ended.ensures.taken
       (λ test way a old new. c.in_ok-put_all_begun.ensures.put test way a old new)

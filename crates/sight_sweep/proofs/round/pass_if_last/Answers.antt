@@ -11,7 +11,8 @@ returns-then-not-is_last-clause-going c arc shown before is_arc left events g =
     let es = c.args.events.now in let k = c.args.k in
     let more = not_at_end k (length es) c.is_last.result c.requires.inside c.if-not-is_last.true c.is_last.ensures.end
     in
-    going_more c.args.table.now c.args.p arc (is_set c.args.kept.now) before c.args.sectors.now.items es c.args.from k c.args.active.now.items
+    going_more c.args.table.now c.args.p arc (is_set c.args.kept.now) before c.args.sectors.now.items es c.args.from k
+    c.args.active.now.items
     more
     (not_last_so (place_at (get_or es k 0)) (place_at (get_or es (k + 1) 0)) c.is_last.result c.if-not-is_last.true
     (c.is_last.ensures.on more)) g
@@ -27,9 +28,11 @@ returns c = record {
       let run = run_at scene p arc kept shown before sectors es from k active w c.requires.inside
       (λ more. last_so (place_at (get_or es k 0))
       (place_at (get_or es (k + 1) 0)) c.is_last.result c.if-not-is_last.false (c.is_last.ensures.on more)) g in
-      let low = place_in scene p arc kept shown es from w (below from k (length es) c.requires.order c.requires.inside) in
+      let low = place_in scene p arc kept shown es from w (below from k (length es) c.requires.order
+      c.requires.inside) in
       let place = place_at (get_or es from 0) in
-      going_past scene p arc kept shown before c.pass.new.sectors.items es from k c.pass.new.active.items w c.requires.inside
+      going_past scene p arc kept shown before c.pass.new.sectors.items es from k c.pass.new.active.items w
+      c.requires.inside
       c.requires.order run
       (c.in_ok-pass.ensures.passed arc shown (start_place arc) before place left
       (group_of scene p arc kept shown es from (k + 1) place w run low.0 low.1)

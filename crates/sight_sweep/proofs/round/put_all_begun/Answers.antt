@@ -23,6 +23,7 @@ pub returns : goal.returns
 returns c = record {
   put = λ test way a old new.
       let end : length c.args.group.now ≤ c.loop-k.k = search rules in
-      begun_group_all c.args.table.now c.args.p (is_set c.args.kept.now) test c.args.group.now c.loop-k.k c.loop-k.active.items end
+      begun_group_all c.args.table.now c.args.p (is_set c.args.kept.now) test c.args.group.now c.loop-k.k
+      c.loop-k.active.items end
       (c.loop-k.invariant test way a old new);
 }

@@ -8,7 +8,8 @@ use Rattle.sight_sweep.specs.Rounds.{begins_among}
 use Rattle.sight_sweep.proofs.round.put_all_begun.Given as goal
 
 abbrev pub invariant-loop-k : goal.invariant-loop-k
-invariant-loop-k l = (test : ℕ → Seen → Bool) (way : Point) → IsActive l.table l.p (is_set l.kept) test l.fn.active.items
+invariant-loop-k l = (test : ℕ → Seen → Bool) (way : Point) → IsActive l.table l.p (is_set l.kept) test
+    l.fn.active.items
     → SpansAll l.table l.p (is_set l.kept) test way
     → SpansAll l.table l.p (is_set l.kept) (λ n s. begins_among l.p l.table.corners l.group s) way
     → IsActive l.table l.p (is_set l.kept)
