@@ -1,12 +1,15 @@
 -- How a round begins, and the view at its end.
+use Rattle.std.proofs.lemmas.Int.{ints}
 use Rattle.std.proofs.Common.{◌≡◌, ℕ, ◌+◌, ◌<◌, ◌≤◌, ◌==◌, arith, ap, sym, ◌∙◌, subst, List, [], length}
 use Rattle.std.specs.Prelude.{Bool, true, false, ◌&&◌, ◌||◌, not, nat_lt, Option, Some}
 use Rattle.std.specs.Option.{option_map}
 use Rattle.plane_spec.specs.declared.Point.{Point}
-use Rattle.plane_spec.specs.Vectors.{IsDirection, IsDirected}
+use Rattle.plane_spec.specs.declared.Segment.{Segment}
+use Rattle.plane_spec.specs.Vectors.{vector, turns_left, IsDirection, IsDirected}
 use Rattle.sight_spec.specs.Scene.{Scene, blockers_of_scene}
-use Rattle.front_laws.specs.Seen.{Seen, seen_at, spans}
-use Rattle.front_laws.proofs.Tests.{by_cases, clash, tested_same_number, own_number, some_same}
+use Rattle.front_laws.specs.Seen.{Seen, seen_of, seen_at, spans}
+use Rattle.apart_laws.proofs.Through.{by_ends}
+use Rattle.front_laws.proofs.Tests.{by_cases, both_of, clash, tested_same_number, own_number, some_same}
 use Rattle.turn_laws.specs.Places.{place_of}
 use Rattle.sweep_laws.specs.Parts.{begins_blocked}
 use Rattle.view_laws.specs.declared.view.Arc.{Arc}
@@ -18,7 +21,7 @@ use Rattle.round_laws.proofs.Steps.{spans_at, spanned_of_open, differ}
 use Rattle.sight_sweep.specs.declared.blocker.Blocker.{Blocker}
 use Rattle.sight_sweep.specs.Actives.{front, first_of, IsActive, SpansAll, beside}
 use Rattle.sight_sweep.specs.Arcs.{IsArc, start_of, start_place, end_place}
-use Rattle.sight_sweep.specs.Rounds.{is_held_at, IsUnderway, spanned_so_far}
+use Rattle.sight_sweep.specs.Rounds.{are_beside, is_held_at, IsUnderway, spanned_so_far}
 use Rattle.sight_sweep.proofs.Actives.{active_so}
 use Rattle.sight_sweep.proofs.Passing.{first_front}
 use Rattle.sight_sweep.proofs.Going.{in_arc_from, in_arc_below}
@@ -31,6 +34,35 @@ spanned_all_so_far scene p d kept count n s within own is h = first (spans d s) 
   where
     first : (a b : Bool) → (a && b) ≡ true → a ≡ true
     first a b h = grind arith
+
+-- a direction spans nothing that lies beside it
+pub beside_unspanned : (p d : Point) (w : Segment) (s : Seen) → seen_of p w ≡ Some s
+    → are_beside d (vector p w.a) (vector p w.b) ≡ true → spans d s ≡ false
+beside_unspanned p d w s seen h = by_cases (turns_left d (vector p w.a) && turns_left d (vector p w.b))
+    (λ left.
+    let two = both_of (turns_left d (vector p w.a)) (turns_left d (vector p w.b)) left in
+    let e = by_ends (λ v. turns_left d v ≡ true) p w s two.0 two.1 seen in
+    first_fails (turns_left s.from d) (turns_left d s.to) (turned d s.from e.0))
+    (λ other.
+    let two = both_of (turns_left (vector p w.a) d) (turns_left (vector p w.b) d)
+    (rest (turns_left d (vector p w.a) && turns_left d (vector p w.b)) _ other h) in
+    let e = by_ends (λ v. turns_left v d ≡ true) p w s two.0 two.1 seen in
+    second_fails (turns_left s.from d) (turns_left d s.to) (turned s.to d e.1))
+  where
+    first_fails : (a b : Bool) → a ≡ false → (a && b) ≡ false
+    first_fails a b h = grind arith
+
+    second_fails : (a b : Bool) → b ≡ false → (a && b) ≡ false
+    second_fails a b h = grind arith
+
+    rest : (a b : Bool) → a ≡ false → (a || b) ≡ true → b ≡ true
+    rest a b h k = grind arith
+
+    turned : (a b : Point) → turns_left a b ≡ true → turns_left b a ≡ false
+    turned a b h = by_cases (turns_left b a) (λ k. absurd (never a b h k)) (λ k. k)
+      where
+        never : (a b : Point) → turns_left a b ≡ true → turns_left b a ≡ true → ⊥
+        never a b h k = omega (arith, ints, h, k)
 
 -- the next one isn't spanned, or isn't seen
 pub spanned_other : (scene : Scene) (p d : Point) (kept : ℕ → Bool) (count : ℕ) (active : List Blocker)

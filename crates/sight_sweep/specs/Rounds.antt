@@ -1,11 +1,11 @@
 -- The round, between two groups of corners and within one.
-use Rattle.std.specs.Prelude.{ℕ, ◌<◌, ◌≤◌, ◌==◌, ◌≡◌, Bool, true, false, ◌&&◌, not, nat_lt, if◌then◌else◌}
+use Rattle.std.specs.Prelude.{ℕ, ◌<◌, ◌≤◌, ◌==◌, ◌≡◌, Bool, true, false, ◌&&◌, ◌||◌, not, nat_lt, if◌then◌else◌}
 use Rattle.std.specs.Prelude.{int_lt, pos, List, [], ◌∷◌, map, length, Option, Some, None, All}
 use Rattle.std.specs.List.{list_any}
 use Rattle.std.proofs.Common.{get_or}
 use Rattle.plane_spec.specs.declared.Point.{Point}
 use Rattle.plane_spec.specs.declared.Corner.{Corner}
-use Rattle.plane_spec.specs.Vectors.{same_point, IsDirected}
+use Rattle.plane_spec.specs.Vectors.{same_point, turns_left, IsDirected}
 use Rattle.plane_spec.specs.Cones.{is_in_cone}
 use Rattle.sight_spec.specs.Scene.{Scene, blockers_of_scene}
 use Rattle.sweep_laws.specs.Groups.{no_corner, back_of}
@@ -106,6 +106,10 @@ is_past (Some b) v = int_lt (side_of (seen b) v) (pos 0)
 abbrev pub number_in : Option Front → Option ℕ
 number_in None = None
 number_in (Some f) = Some f.number
+
+-- both vectors lead to the left of the direction, or both to its right
+abbrev pub are_beside : Point → Point → Point → Bool
+are_beside d a b = (turns_left d a && turns_left d b) || (turns_left a d && turns_left b d)
 
 -- the direction spans it, and its number is below
 abbrev pub spanned_so_far : Point → ℕ → ℕ → Seen → Bool

@@ -80,7 +80,7 @@ pub(crate) fn cover_of_both(
         return Some(last);
     }
     let at = proposed(bins, v);
-    if are_hidden_at(covers, at, v, w) {
+    if at != last && are_hidden_at(covers, at, v, w) {
         return Some(at);
     }
     None

@@ -9,6 +9,7 @@ ghost use Rattle.station_laws.specs.Grounds.{IsGroundOf};
 ghost use Rattle.sight_sweep.specs.Actives.{seen, IsActive};
 ghost use Rattle.sight_sweep.specs.Arcs.{IsArc};
 ghost use Rattle.sight_sweep.specs.LeftOut.{is_set};
+ghost use Rattle.sight_sweep.specs.Rounds as words;
 ghost use Rattle.sight_sweep.specs.Rounds.{spanned_so_far};
 ghost use Rattle.sight_sweep.specs.Stations.{IsStation};
 ghost use Rattle.sight_sweep.specs.Steps.{one_more};
@@ -25,6 +26,7 @@ use crate::products::is_left;
 use crate::push::with_room;
 use crate::round::{first_of, go_round};
 use crate::table::SceneTable;
+use exact_geom::vector;
 use plane_spec::Point;
 use std::alloc::Global;
 use text_spec::NoMemory;
@@ -36,6 +38,16 @@ fn is_spanned(blocker: &Blocker, d: Point) -> bool
     ensures { result ≡ order.spans d (seen blocker.now) }
 {
     is_left(blocker.from, d) && is_left(d, blocker.to)
+}
+
+/// Whether both vectors lead to the left of the direction, or both to its right.
+fn are_beside(d: Point, a: Point, b: Point) -> bool
+    requires d_in { IsDirection d }
+    requires a_in { IsDirection a }
+    requires b_in { IsDirection b }
+    ensures { result ≡ words.are_beside d a b }
+{
+    (is_left(d, a) && is_left(d, b)) || (is_left(a, d) && is_left(b, d))
 }
 
 /// Puts the wall or screen of the number in, if it is kept and the direction spans it.
@@ -55,6 +67,10 @@ fn put_if_spanned(
         → IfOk result (λ u. IsActive table.now p (is_set kept.now) (spanned_so_far d (number + 1)) active.new.items) }
 {
     if !is_set(kept, number as usize) {
+        return Ok(());
+    }
+    let line = table.line(number);
+    if are_beside(d, vector(p, line.a), vector(p, line.b)) {
         return Ok(());
     }
     let Some(blocker) = table.seen(p, number) else {

@@ -77,8 +77,19 @@ pub(crate) fn number_of(key: u64) -> u32 {
     (key % 4_294_967_296) as u32
 }
 
+/// Whether there are as many already, and all are less.
+fn is_too_far(near: &[u64], key: u64) -> bool {
+    match near.get(MANY - 1) {
+        None => false,
+        Some(last) => *last < key,
+    }
+}
+
 /// Puts the number into its place, where it is one of the least.
 fn put_near(near: &mut Vec<u64>, key: u64) -> Result<(), NoMemory> {
+    if is_too_far(near, key) {
+        return Ok(());
+    }
     let place = near.partition_point(|other: &u64| *other < key);
     if MANY <= place {
         return Ok(());

@@ -282,7 +282,15 @@ fn what_a_box_hides_changes_no_answer(rt: HostRuntime) {
         (at(2, 5), at(3, 9)),
     ];
     let behind = scene(&rt, alloc, &boxes, &[(at(7, 6), at(8, 8))]);
-    let stations = [at(5, 2), at(5, 1), at(1, 3), at(0, 2), at(9, 9), at(5, 4), at(5, 7)];
+    let stations = [
+        at(5, 2),
+        at(5, 1),
+        at(1, 3),
+        at(0, 2),
+        at(9, 9),
+        at(5, 4),
+        at(5, 7),
+    ];
     sees_as_plain(&rt, alloc, &behind, &stations);
     reaches_as_plain(&rt, alloc, &behind, &stations);
 }
