@@ -1,12 +1,15 @@
 -- How a round begins, and the view at its end.
+use Rattle.std.proofs.lemmas.Int.{ints}
 use Rattle.std.proofs.Common.{◌≡◌, ℕ, ◌+◌, ◌<◌, ◌≤◌, ◌==◌, arith, ap, sym, ◌∙◌, subst, List, [], length}
 use Rattle.std.specs.Prelude.{Bool, true, false, ◌&&◌, ◌||◌, not, nat_lt, Option, Some}
 use Rattle.std.specs.Option.{option_map}
 use Rattle.plane_spec.specs.declared.Point.{Point}
-use Rattle.plane_spec.specs.Vectors.{IsDirection, IsDirected}
+use Rattle.plane_spec.specs.declared.Segment.{Segment}
+use Rattle.plane_spec.specs.Vectors.{vector, turns_left, IsDirection, IsDirected}
 use Rattle.sight_spec.specs.Scene.{Scene, blockers_of_scene}
-use Rattle.front_laws.specs.Seen.{Seen, seen_at, spans}
-use Rattle.front_laws.proofs.Tests.{by_cases, tested_same_number, own_number, some_same}
+use Rattle.front_laws.specs.Seen.{Seen, seen_of, seen_at, spans}
+use Rattle.apart_laws.proofs.Through.{by_ends}
+use Rattle.front_laws.proofs.Tests.{by_cases, both_of, clash, tested_same_number, own_number, some_same}
 use Rattle.turn_laws.specs.Places.{place_of}
 use Rattle.sweep_laws.specs.Parts.{begins_blocked}
 use Rattle.view_laws.specs.declared.view.Arc.{Arc}
@@ -18,26 +21,55 @@ use Rattle.round_laws.proofs.Steps.{spans_at, spanned_of_open, differ}
 use Rattle.sight_sweep.specs.declared.blocker.Blocker.{Blocker}
 use Rattle.sight_sweep.specs.Actives.{front, first_of, IsActive, SpansAll, beside}
 use Rattle.sight_sweep.specs.Arcs.{IsArc, start_of, start_place, end_place}
-use Rattle.sight_sweep.specs.Rounds.{all_kept, is_held_at, IsUnderway, spanned_so_far}
+use Rattle.sight_sweep.specs.Rounds.{are_beside, is_held_at, IsUnderway, spanned_so_far}
 use Rattle.sight_sweep.proofs.Actives.{active_so}
 use Rattle.sight_sweep.proofs.Passing.{first_front}
 use Rattle.sight_sweep.proofs.Going.{in_arc_from, in_arc_below}
 
 -- ---- the list at the start
 
-pub spanned_all_so_far : (scene : Scene) (p d : Point) (count : ℕ)
-    → SpansAll scene p all_kept (spanned_so_far d count) d
-spanned_all_so_far scene p d count n s within own is h = first (spans d s) (nat_lt n count) h
+pub spanned_all_so_far : (scene : Scene) (p d : Point) (kept : ℕ → Bool) (count : ℕ)
+    → SpansAll scene p kept (spanned_so_far d count) d
+spanned_all_so_far scene p d kept count n s within own is h = first (spans d s) (nat_lt n count) h
   where
     first : (a b : Bool) → (a && b) ≡ true → a ≡ true
     first a b h = grind arith
 
+-- a direction spans nothing that lies beside it
+pub beside_unspanned : (p d : Point) (w : Segment) (s : Seen) → seen_of p w ≡ Some s
+    → are_beside d (vector p w.a) (vector p w.b) ≡ true → spans d s ≡ false
+beside_unspanned p d w s seen h = by_cases (turns_left d (vector p w.a) && turns_left d (vector p w.b))
+    (λ left.
+    let two = both_of (turns_left d (vector p w.a)) (turns_left d (vector p w.b)) left in
+    let e = by_ends (λ v. turns_left d v ≡ true) p w s two.0 two.1 seen in
+    first_fails (turns_left s.from d) (turns_left d s.to) (turned d s.from e.0))
+    (λ other.
+    let two = both_of (turns_left (vector p w.a) d) (turns_left (vector p w.b) d)
+    (rest (turns_left d (vector p w.a) && turns_left d (vector p w.b)) _ other h) in
+    let e = by_ends (λ v. turns_left v d ≡ true) p w s two.0 two.1 seen in
+    second_fails (turns_left s.from d) (turns_left d s.to) (turned s.to d e.1))
+  where
+    first_fails : (a b : Bool) → a ≡ false → (a && b) ≡ false
+    first_fails a b h = grind arith
+
+    second_fails : (a b : Bool) → b ≡ false → (a && b) ≡ false
+    second_fails a b h = grind arith
+
+    rest : (a b : Bool) → a ≡ false → (a || b) ≡ true → b ≡ true
+    rest a b h k = grind arith
+
+    turned : (a b : Point) → turns_left a b ≡ true → turns_left b a ≡ false
+    turned a b h = by_cases (turns_left b a) (λ k. absurd (never a b h k)) (λ k. k)
+      where
+        never : (a b : Point) → turns_left a b ≡ true → turns_left b a ≡ true → ⊥
+        never a b h k = omega (arith, ints, h, k)
+
 -- the next one isn't spanned, or isn't seen
-pub spanned_other : (scene : Scene) (p d : Point) (count : ℕ) (active : List Blocker)
+pub spanned_other : (scene : Scene) (p d : Point) (kept : ℕ → Bool) (count : ℕ) (active : List Blocker)
     → ((s : Seen) → seen_at p (blockers_of_scene scene) count ≡ Some s → spans d s ≡ false)
-    → IsActive scene p all_kept (spanned_so_far d count) active
-    → IsActive scene p all_kept (spanned_so_far d (count + 1)) active
-spanned_other scene p d count active other a = active_so scene p all_kept (spanned_so_far d count)
+    → IsActive scene p kept (spanned_so_far d count) active
+    → IsActive scene p kept (spanned_so_far d (count + 1)) active
+spanned_other scene p d kept count active other a = active_so scene p kept (spanned_so_far d count)
     (spanned_so_far d (count + 1)) active a
     (λ n s within own is. by_cases (count == n)
     (λ e. let none = other s (subst (λ m. seen_at p (blockers_of_scene scene) m ≡ Some s)
@@ -51,12 +83,25 @@ spanned_other scene p d count active other a = active_so scene p all_kept (spann
     stays : (n count : ℕ) → (count == n) ≡ false → nat_lt n count ≡ nat_lt n (count + 1)
     stays n count h = grind arith
 
+-- the next one is left out
+pub left_out_one : (scene : Scene) (p d : Point) (kept : ℕ → Bool) (count : ℕ) (active : List Blocker)
+    → kept count ≡ false → IsActive scene p kept (spanned_so_far d count) active
+    → IsActive scene p kept (spanned_so_far d (count + 1)) active
+left_out_one scene p d kept count active out a = active_so scene p kept (spanned_so_far d count)
+    (spanned_so_far d (count + 1)) active a
+    (λ n s within own is. by_cases (count == n)
+    (λ e. absurd (clash (kept n) own (subst (λ m. kept m ≡ false) (tested_same_number count n e) out)))
+    (λ e. ap (λ t. spans d s && t) (stays n count e)))
+  where
+    stays : (n count : ℕ) → (count == n) ≡ false → nat_lt n count ≡ nat_lt n (count + 1)
+    stays n count h = grind arith
+
 -- the next one is spanned, and is in
-pub spanned_next_one : (scene : Scene) (p d : Point) (count : ℕ) (active : List Blocker) (t : Seen)
+pub spanned_next_one : (scene : Scene) (p d : Point) (kept : ℕ → Bool) (count : ℕ) (active : List Blocker) (t : Seen)
     → seen_at p (blockers_of_scene scene) count ≡ Some t → spans d t ≡ true
-    → IsActive scene p all_kept (beside count (spanned_so_far d count)) active
-    → IsActive scene p all_kept (spanned_so_far d (count + 1)) active
-spanned_next_one scene p d count active t known spanned a = active_so scene p all_kept
+    → IsActive scene p kept (beside count (spanned_so_far d count)) active
+    → IsActive scene p kept (spanned_so_far d (count + 1)) active
+spanned_next_one scene p d kept count active t known spanned a = active_so scene p kept
     (beside count (spanned_so_far d count)) (spanned_so_far d (count + 1)) active a
     (λ n s within own is. by_cases (count == n)
     (λ e. let same : t ≡ s = some_same t s
@@ -78,8 +123,8 @@ spanned_next_one scene p d count active t known spanned a = active_so scene p al
     stays : (n count : ℕ) → (count == n) ≡ false → nat_lt n count ≡ nat_lt n (count + 1)
     stays n count h = grind arith
 
-pub spanned_none : (scene : Scene) (p d : Point) → IsActive scene p all_kept (spanned_so_far d 0) []
-spanned_none scene p d = record {
+pub spanned_none : (scene : Scene) (p d : Point) (kept : ℕ → Bool) → IsActive scene p kept (spanned_so_far d 0) []
+spanned_none scene p d kept = record {
   held = record {
     order = λ i j e lt within. absurd (omega arith);
     known = λ k e lt. absurd (omega arith);
@@ -93,10 +138,10 @@ spanned_none scene p d = record {
     none : (a : Bool) (n : ℕ) → false ≡ (a && nat_lt n 0)
     none a n = grind arith
 
-pub spanned_whole : (scene : Scene) (p d : Point) (count : ℕ) (active : List Blocker)
+pub spanned_whole : (scene : Scene) (p d : Point) (kept : ℕ → Bool) (count : ℕ) (active : List Blocker)
     → length (blockers_of_scene scene) ≤ count
-    → IsActive scene p all_kept (spanned_so_far d count) active → IsActive scene p all_kept (λ n s. spans d s) active
-spanned_whole scene p d count active end a = active_so scene p all_kept (spanned_so_far d count)
+    → IsActive scene p kept (spanned_so_far d count) active → IsActive scene p kept (λ n s. spans d s) active
+spanned_whole scene p d kept count active end a = active_so scene p kept (spanned_so_far d count)
     (λ n s. spans d s) active a
     (λ n s within own is. whole (spans d s) n (length (blockers_of_scene scene)) count within end)
   where
@@ -105,12 +150,13 @@ spanned_whole scene p d count active end a = active_so scene p all_kept (spanned
 
 -- ---- how the round begins
 
-pub underway_at_start : (scene : Scene) (p : Point) (arc : Arc) (before : Option Front) (active : List Blocker)
+pub underway_at_start : (scene : Scene) (p : Point) (arc : Arc) (kept : ℕ → Bool) (before : Option Front)
+    (active : List Blocker)
     → AreWalls scene p → IsArc arc → IsDirection (start_of arc) → IsDirected (start_of arc)
-    → IsActive scene p all_kept (λ n s. spans (start_of arc) s) active → before ≡ option_map front (first_of active)
-    → IsUnderway scene p arc (start_place arc) before [] (start_place arc) active
+    → IsActive scene p kept (λ n s. spans (start_of arc) s) active → before ≡ option_map front (first_of active)
+    → IsUnderway scene p arc kept (start_place arc) before [] (start_place arc) active
 unfolding front_after
-underway_at_start scene p arc before active walls is_arc d_in d_some a before_is = record {
+underway_at_start scene p arc kept before active walls is_arc d_in d_some a before_is = record {
   radials = record {
     tells = λ d d_in d_some within lt. absurd
         (never (place_of d) (start_place arc) lt (in_arc_from arc d is_arc d_in d_some within));
@@ -118,7 +164,7 @@ underway_at_start scene p arc before active walls is_arc d_in d_some a before_is
     below = λ k d lt. absurd (omega arith);
     front = before_is ∙ first_front scene p active a.known;
   };
-  holds = active_so scene p all_kept (λ n s. spans (start_of arc) s)
+  holds = active_so scene p kept (λ n s. spans (start_of arc) s)
       (λ n s. is_held_at (start_place arc) (from_place s) (to_place s) (start_place arc)) active a
       (λ n s within own is. let b = walls.blockers n s within is in
       spans_at (start_of arc) s d_in d_some b
@@ -140,11 +186,12 @@ underway_at_start scene p arc before active walls is_arc d_in d_some a before_is
 
 -- ---- the view at its end
 
-pub view_at_end : (scene : Scene) (p : Point) (arc : Arc) (view : View) (active : List Blocker) → IsArc arc
-    → IsUnderway scene p arc (start_place arc) view.before view.sectors.items (end_place arc) active
+pub view_at_end : (scene : Scene) (p : Point) (arc : Arc) (kept : ℕ → Bool) (view : View) (active : List Blocker)
+    → IsArc arc
+    → IsUnderway scene p arc kept (start_place arc) view.before view.sectors.items (end_place arc) active
     → ((d : Point) → IsDirection d → IsDirected d → begins_blocked scene p d ≡ is_led_into view.ground d)
     → IsViewOf scene p arc view
-view_at_end scene p arc view active is_arc u ground = record {
+view_at_end scene p arc kept view active is_arc u ground = record {
   ground = ground;
   tells = λ d d_in d_some within. u.radials.tells d d_in d_some within (in_arc_below arc d is_arc d_in d_some within);
   order = u.radials.order;

@@ -1,7 +1,7 @@
 -- From one group of corners to the next.
 use Rattle.std.proofs.Common.{◌≡◌, ◌≢◌, ℕ, zero, suc, ◌+◌, ◌-◌, ◌*◌, ◌/◌, ◌%◌, ◌<◌, ◌≤◌, ◌==◌, arith, ap, refl, sym}
 use Rattle.std.proofs.Common.{◌∙◌, subst, List, [], ◌∷◌, length, get_or, map}
-use Rattle.std.specs.Prelude.{Bool, true, false, ◌&&◌, not, nat_lt, pos, Option, Some}
+use Rattle.std.specs.Prelude.{Bool, true, false, ◌&&◌, not, nat_lt, pos, Option}
 use Rattle.std.specs.List.{list_any, slice_range}
 use Rattle.std.proofs.lemmas.List.Edits.{get_or-between, length-between}
 use Rattle.std.proofs.lemmas.Int.{ints}
@@ -9,7 +9,6 @@ use Rattle.plane_spec.specs.declared.Point.{Point}
 use Rattle.plane_spec.specs.Vectors.{point, same_point, turns_before, turns_left, turns_by, is_upper}
 use Rattle.plane_spec.specs.Vectors.{IsDirection, IsDirected}
 use Rattle.sight_spec.specs.Scene.{Scene, blockers_of_scene}
-use Rattle.front_laws.specs.Seen.{Seen, seen_at}
 use Rattle.front_laws.proofs.Tests.{by_cases, by_lt, both_of, both_true, tested_same_number, own_number, clash}
 use Rattle.front_laws.proofs.Tests.{number_not_less, number_less_tested, tested_number_less, tested_number_not_less}
 use Rattle.front_laws.proofs.Lists.{any_at, some_of}
@@ -21,21 +20,23 @@ use Rattle.view_laws.specs.declared.view.Front.{Front}
 use Rattle.view_laws.specs.declared.view.Sector.{Sector}
 use Rattle.view_laws.specs.Views.{is_in_arc}
 use Rattle.view_laws.proofs.Arcs.{arc_places}
-use Rattle.view_laws.proofs.Answers.{ahead_along, behind_along}
-use Rattle.round_laws.specs.Rounds.{is_open_at, from_place, to_place, EndNowhere, AreWalls}
+use Rattle.round_laws.specs.Rounds.{is_open_at, from_place, to_place, first_held, EndNowhere, AreWalls}
 use Rattle.round_laws.proofs.Sectors.{round_goes_on}
-use Rattle.round_laws.proofs.Endings.{along_some}
+use Rattle.round_laws.proofs.Steps.{first_between}
+use Rattle.round_laws.proofs.Without.{first_without}
+use Rattle.sweep_laws.specs.First.{IsFirst}
 use Rattle.sweep_laws.specs.Groups.{no_corner, stands_in}
 use Rattle.sweep_laws.proofs.Grouped.{stands_where}
 use Rattle.sight_sweep.specs.declared.blocker.Blocker.{Blocker}
 use Rattle.sight_sweep.specs.Arcs.{IsArc, start_place, end_place}
-use Rattle.sight_sweep.specs.Stations.{HasCornerAt, IsStation}
+use Rattle.sight_sweep.specs.LeftOut.{HasShownCorner, AreLeftOut}
+use Rattle.sight_sweep.specs.Stations.{IsStation}
 use Rattle.sight_sweep.specs.Events.{way_at, corner_of, place_at, IsEvent, AreEvents}
 use Rattle.sight_sweep.specs.Actives.{numbered, IsActive}
 use Rattle.sight_sweep.proofs.Actives.{active_so}
-use Rattle.sight_sweep.proofs.Passing.{held_as_open, covered_all}
+use Rattle.sight_sweep.proofs.Passing.{held_as_open, hidden_if_shown}
 use Rattle.sight_sweep.specs.Rounds.{is_held_at, IsGoing}
-use Rattle.sight_sweep.specs.Rounds.{all_kept, IsGroup, IsUnderway}
+use Rattle.sight_sweep.specs.Rounds.{IsGroup, IsUnderway}
 
 -- ---- arcs by places
 
@@ -122,15 +123,13 @@ places_rise : (a b : ℕ) → a ≤ b → a / 2048 ≤ b / 2048
 places_rise a b h = omega (arith, h)
 
 -- all that is known on the way round
-pub record IsWay (scene : Scene) (p : Point) (arc : Arc) (events : List ℕ) : Type 0 where
+pub record IsWay (scene : Scene) (p : Point) (arc : Arc) (kept shown : ℕ → Bool) (events : List ℕ) : Type 0 where
   pub is_arc : IsArc arc
   pub walls : AreWalls scene p
-  pub corners : (n : ℕ) (s : Seen) → n < length (blockers_of_scene scene) → seen_at p (blockers_of_scene scene) n
-      ≡ Some s
-      → HasCornerAt p scene.corners s.from × HasCornerAt p scene.corners s.to
   pub few : length scene.corners ≤ 1024
   pub ways : (k : ℕ) → k < length scene.corners → IsDirection (way_at p scene.corners k)
-  pub events_are : AreEvents scene.corners p arc events
+  pub left : AreLeftOut scene p arc kept shown
+  pub events_are : AreEvents scene.corners p arc shown events
 
 -- where the event of a corner is that leads in a direction of the arc
 pub record IsEventAt (events : List ℕ) (place number : ℕ) : Type 0 where
@@ -139,12 +138,13 @@ pub record IsEventAt (events : List ℕ) (place number : ℕ) : Type 0 where
   pub place_is : place_at (get_or events at 0) ≡ place
   pub number_is : corner_of (get_or events at 0) ≡ number
 
-event_at : (scene : Scene) (p : Point) (arc : Arc) (events : List ℕ) (k : ℕ) → IsWay scene p arc events
-    → k < length scene.corners → IsDirected (way_at p scene.corners k)
+event_at : (scene : Scene) (p : Point) (arc : Arc) (kept shown : ℕ → Bool) (events : List ℕ) (k : ℕ)
+    → IsWay scene p arc kept shown events
+    → k < length scene.corners → shown k ≡ true → IsDirected (way_at p scene.corners k)
     → start_place arc ≤ place_of (way_at p scene.corners k) → place_of (way_at p scene.corners k) < end_place arc
     → IsEventAt events (place_of (way_at p scene.corners k)) k
-event_at scene p arc events k w lt some low high =
-    let c = w.events_are.all k lt some
+event_at scene p arc kept shown events k w lt own some low high =
+    let c = w.events_are.all k lt own some
     (arc_by_place arc (way_at p scene.corners k) w.is_arc (w.ways k lt) some low high) in
     let place = place_of (way_at p scene.corners k) in
     let small : k < 2048 = fits k (length scene.corners) lt w.few in
@@ -211,42 +211,46 @@ same_itself : (x : Point) → same_point x x ≡ true
 same_itself x = grind (arith, ints)
 
 -- the event of the corner at v
-met_event : (scene : Scene) (p v : Point) (arc : Arc) (events : List ℕ) → IsWay scene p arc events
-    → (m : HasCornerAt p scene.corners v) → IsDirected v → start_place arc ≤ place_of v → place_of v < end_place arc
-    → IsEventAt events (place_of v) m.number
-met_event scene p v arc events w m some low high =
-    subst (λ n. IsEventAt events n m.number) (ap place_of m.there)
-    (event_at scene p arc events m.number w m.within (subst IsDirected (sym m.there) some)
-    (subst (λ t. start_place arc ≤ place_of t) (sym m.there) low)
-    (subst (λ t. place_of t < end_place arc) (sym m.there) high))
+met_event : (scene : Scene) (p v : Point) (arc : Arc) (kept shown : ℕ → Bool) (events : List ℕ)
+    → IsWay scene p arc kept shown events
+    → (m : HasShownCorner p scene.corners shown v) → IsDirected v → start_place arc ≤ place_of v
+    → place_of v < end_place arc → IsEventAt events (place_of v) m.corner.number
+met_event scene p v arc kept shown events w m some low high =
+    let c = m.corner in
+    subst (λ n. IsEventAt events n c.number) (ap place_of c.there)
+    (event_at scene p arc kept shown events c.number w c.within m.is_shown (subst IsDirected (sym c.there) some)
+    (subst (λ t. start_place arc ≤ place_of t) (sym c.there) low)
+    (subst (λ t. place_of t < end_place arc) (sym c.there) high))
 
 -- it is among the run's corners
-met_among : (scene : Scene) (p v : Point) (arc : Arc) (events : List ℕ) (from upto place : ℕ)
-    → IsWay scene p arc events → IsRun events from upto place → HasCornerAt p scene.corners v → IsDirected v
+met_among : (scene : Scene) (p v : Point) (arc : Arc) (kept shown : ℕ → Bool) (events : List ℕ) (from upto place : ℕ)
+    → IsWay scene p arc kept shown events → IsRun events from upto place → HasShownCorner p scene.corners shown v
+    → IsDirected v
     → place_of v ≡ place
     → start_place arc ≤ place → place < end_place arc
     → list_any (λ e. same_point v (way_at p scene.corners (corner_of e))) (slice_range events from upto) ≡ true
-met_among scene p v arc events from upto place w r m some is low high =
-    let e = subst (λ n. IsEventAt events n m.number) is
-    (met_event scene p v arc events w m some (subst (λ n. start_place arc ≤ n) (sym is) low)
+met_among scene p v arc kept shown events from upto place w r m some is low high =
+    let e = subst (λ n. IsEventAt events n m.corner.number) is
+    (met_event scene p v arc kept shown events w m some (subst (λ n. start_place arc ≤ n) (sym is) low)
     (subst (λ n. n < end_place arc) (sym is) high)) in
-    let found = some_of (λ t. corner_of t == m.number) (slice_range events from upto) 0
-    (run_has events from upto place m.number r e) in
+    let found = some_of (λ t. corner_of t == m.corner.number) (slice_range events from upto) 0
+    (run_has events from upto place m.corner.number r e) in
     let same : corner_of (get_or (slice_range events from upto) found.place 0)
-    ≡ m.number = tested_same_number _ m.number found.holds in
+    ≡ m.corner.number = tested_same_number _ m.corner.number found.holds in
     any_at (λ t. same_point v (way_at p scene.corners (corner_of t))) (slice_range events from upto) 0 (record {
       place = found.place;
       within = found.within;
       holds = subst (λ k. same_point v (way_at p scene.corners k) ≡ true) (sym same)
-          (subst (λ t. same_point v t ≡ true) (sym m.there) (same_itself v));
+          (subst (λ t. same_point v t ≡ true) (sym m.corner.there) (same_itself v));
     })
 
 -- ---- a run is a group
 
-pub group_of : (scene : Scene) (p : Point) (arc : Arc) (events : List ℕ) (from upto place : ℕ)
-    → IsWay scene p arc events → IsRun events from upto place → start_place arc ≤ place → place < end_place arc
-    → IsGroup scene p arc place (slice_range events from upto)
-group_of scene p arc events from upto place w r low high = record {
+pub group_of : (scene : Scene) (p : Point) (arc : Arc) (kept shown : ℕ → Bool) (events : List ℕ) (from upto place : ℕ)
+    → IsWay scene p arc kept shown events → IsRun events from upto place → start_place arc ≤ place
+    → place < end_place arc
+    → IsGroup scene p arc kept shown place (slice_range events from upto)
+group_of scene p arc kept shown events from upto place w r low high = record {
   some = subst (λ n. 0 < n) (sym (length-between events from upto r.within)) (up from upto r.some);
   each = λ i d lt. let j = inner i lt in subst (IsEvent scene.corners p arc)
       (sym (get_or-between events from upto i d j))
@@ -254,12 +258,14 @@ group_of scene p arc events from upto place w r low high = record {
   places = λ i d lt. let j = inner i lt in ap place_at (get_or-between events from upto i d j)
       ∙ ap place_at (default events (from + i) d 0 (short (from + i) upto (length events) j r.within))
       ∙ r.same (from + i) (after from i) j;
-  ends = λ n s within is e. let b = w.walls.blockers n s within is in met_among scene p s.to arc events from upto
-      place w r (w.corners n s within is).1 b.to_some e low high;
-  begins = λ n s within is e. let b = w.walls.blockers n s within is in met_among scene p s.from arc events from upto
-      place w r (w.corners n s within is).0 b.from_some e low high;
-  corners = λ k lt some e. run_has events from upto place k r (subst (λ n. IsEventAt events n k) e
-      (event_at scene p arc events k w lt some (subst (λ n. start_place arc ≤ n) (sym e) low)
+  ends = λ n s within own is e. let b = w.walls.blockers n s within is in
+      met_among scene p s.to arc kept shown events from upto
+      place w r (w.left.ends n s within own is).1 b.to_some e low high;
+  begins = λ n s within own is e. let b = w.walls.blockers n s within is in
+      met_among scene p s.from arc kept shown events from upto
+      place w r (w.left.ends n s within own is).0 b.from_some e low high;
+  corners = λ k lt own some e. run_has events from upto place k r (subst (λ n. IsEventAt events n k) e
+      (event_at scene p arc kept shown events k w lt own some (subst (λ n. start_place arc ≤ n) (sym e) low)
       (subst (λ n. n < end_place arc) (sym e) high)));
 }
   where
@@ -297,12 +303,13 @@ no_end_test x low high le none = by_lt x low
     (λ lt. absurd (none ge lt))
     (λ far. number_not_less x low ge ∙ sym (number_not_less x high far)))
 
-pub gap_ends_nowhere : (scene : Scene) (p : Point) (arc : Arc) (events : List ℕ) (low high : ℕ)
-    → IsWay scene p arc events → IsGap events low high → low ≤ high → start_place arc ≤ low → high ≤ end_place arc
-    → EndNowhere p (blockers_of_scene scene) all_kept low high
-gap_ends_nowhere scene p arc events low high w gap le first last n s within own is =
+pub gap_ends_nowhere : (scene : Scene) (p : Point) (arc : Arc) (kept shown : ℕ → Bool) (events : List ℕ) (low high : ℕ)
+    → IsWay scene p arc kept shown events → IsGap events low high → low ≤ high → start_place arc ≤ low
+    → high ≤ end_place arc
+    → EndNowhere p (blockers_of_scene scene) kept low high
+gap_ends_nowhere scene p arc kept shown events low high w gap le first last n s within own is =
     let b = w.walls.blockers n s within is in
-    let m = w.corners n s within is in
+    let m = w.left.ends n s within own is in
     record {
       no_from = no_end_test (from_place s) low high le (λ h k. away s.from m.0 b.from_some h k);
       no_to = no_end_test (to_place s) low high le (λ h k. away s.to m.1 b.to_some h k);
@@ -314,36 +321,40 @@ gap_ends_nowhere scene p arc events low high w gap le first last n s within own 
     to_high : (a b c : ℕ) → a < b → b ≤ c → a < c
     to_high a b c h k = omega (arith, h, k)
 
-    away : (v : Point) → HasCornerAt p scene.corners v → IsDirected v → low ≤ place_of v → place_of v < high → ⊥
+    away : (v : Point) → HasShownCorner p scene.corners shown v → IsDirected v → low ≤ place_of v
+        → place_of v < high → ⊥
     away v m some h k =
-        let e = met_event scene p v arc events w m some (from_low (start_place arc) low (place_of v) first h)
+        let e = met_event scene p v arc kept shown events w m some (from_low (start_place arc) low (place_of v) first h)
         (to_high (place_of v) high (end_place arc) k last) in
         gap.none e.at e.within (subst (λ n. low ≤ n) (sym e.place_is) h) (subst (λ n. n < high) (sym e.place_is) k)
 
 -- ---- what is known of a station
 
-pub way_of : (scene : Scene) (p : Point) (arc : Arc) (events : List ℕ) → IsStation scene p → IsArc arc
-    → AreEvents scene.corners p arc events → IsWay scene p arc events
-way_of scene p arc events station is_arc events_are = record {
+pub way_of : (scene : Scene) (p : Point) (arc : Arc) (kept shown : ℕ → Bool) (events : List ℕ) → IsStation scene p
+    → IsArc arc → AreLeftOut scene p arc kept shown → AreEvents scene.corners p arc shown events
+    → IsWay scene p arc kept shown events
+way_of scene p arc kept shown events station is_arc left events_are = record {
   is_arc = is_arc;
   walls = station.walls;
-  corners = station.corners;
   few = station.few;
   ways = station.ways;
+  left = left;
   events_are = events_are;
 }
 
 -- ---- on to the next group
 
-event_in_gap : (scene : Scene) (p d : Point) (arc : Arc) (events : List ℕ) (low high : ℕ) (j : ℕ)
-    → IsWay scene p arc events → IsGap events low high → start_place arc ≤ low → high ≤ end_place arc
+event_in_gap : (scene : Scene) (p d : Point) (arc : Arc) (kept shown : ℕ → Bool) (events : List ℕ) (low high : ℕ)
+    (j : ℕ)
+    → IsWay scene p arc kept shown events → IsGap events low high → start_place arc ≤ low → high ≤ end_place arc
     → IsDirection d → IsDirected d → low ≤ place_of d → place_of d < high → j < length scene.corners
-    → stands_in p d (get_or scene.corners j no_corner).here ≡ true → IsDirected (way_at p scene.corners j) → ⊥
-event_in_gap scene p d arc events low high j w gap first last d_in d_some above below lt stands some =
+    → shown j ≡ true → stands_in p d (get_or scene.corners j no_corner).here ≡ true
+    → IsDirected (way_at p scene.corners j) → ⊥
+event_in_gap scene p d arc kept shown events low high j w gap first last d_in d_some above below lt own stands some =
     let same : place_of d ≡ place_of (way_at p scene.corners j) = tested_same_number (place_of d)
     (place_of (way_at p scene.corners j))
     (sym (stands_where p d (get_or scene.corners j no_corner).here d_in d_some (w.ways j lt) some) ∙ stands) in
-    let e = subst (λ n. IsEventAt events n j) (sym same) (event_at scene p arc events j w lt some
+    let e = subst (λ n. IsEventAt events n j) (sym same) (event_at scene p arc kept shown events j w lt own some
     (subst (λ n. start_place arc ≤ n) same (up (start_place arc) low (place_of d) first above))
     (subst (λ n. n < end_place arc) same (down (place_of d) high (end_place arc) below last))) in
     gap.none e.at e.within (subst (λ n. low ≤ n) (sym e.place_is) above) (subst (λ n. n < high) (sym e.place_is) below)
@@ -355,12 +366,12 @@ event_in_gap scene p d arc events low high j w gap first last d_in d_some above 
     down a b c h k = omega (arith, h, k)
 
 -- what is held is open, if nothing ends at the start
-held_open : (scene : Scene) (p : Point) (start low high : ℕ) (active : List Blocker) → low < high
-    → EndNowhere p (blockers_of_scene scene) all_kept low high
-    → IsActive scene p all_kept (λ n s. is_held_at start (from_place s) (to_place s) low) active
-    → IsActive scene p all_kept (λ n s. is_open_at (from_place s) (to_place s) low) active
-held_open scene p start low high active lt nowhere a =
-    active_so scene p all_kept (λ n s. is_held_at start (from_place s) (to_place s) low)
+held_open : (scene : Scene) (p : Point) (kept : ℕ → Bool) (start low high : ℕ) (active : List Blocker) → low < high
+    → EndNowhere p (blockers_of_scene scene) kept low high
+    → IsActive scene p kept (λ n s. is_held_at start (from_place s) (to_place s) low) active
+    → IsActive scene p kept (λ n s. is_open_at (from_place s) (to_place s) low) active
+held_open scene p kept start low high active lt nowhere a =
+    active_so scene p kept (λ n s. is_held_at start (from_place s) (to_place s) low)
     (λ n s. is_open_at (from_place s) (to_place s) low) active a
     (λ n s within own is. by_cases ((to_place s == start) && (low == start))
     (λ h. absurd (let two = both_of (to_place s == start) (low == start) h in
@@ -380,27 +391,55 @@ held_open scene p start low high active lt nowhere a =
     all_of : (o b : Bool) → b ≡ false → (o && not b) ≡ o
     all_of o b h = grind arith
 
-pub goes_on : (scene : Scene) (p : Point) (arc : Arc) (before : Option Front) (sectors : List Sector)
-    (events : List ℕ) (low high : ℕ) (active : List Blocker) → IsWay scene p arc events → IsGap events low high
-    → low < high → high ≤ end_place arc → IsUnderway scene p arc (start_place arc) before sectors low active
-    → IsUnderway scene p arc (start_place arc) before sectors high active
-goes_on scene p arc before sectors events low high active w gap lt last u =
+-- between two groups what the list has first is the first of all
+first_in_gap : (scene : Scene) (p d : Point) (arc : Arc) (kept shown : ℕ → Bool) (events : List ℕ) (low high : ℕ)
+    (active : List Blocker) → IsWay scene p arc kept shown events → IsGap events low high → low ≤ high
+    → start_place arc ≤ low → high ≤ end_place arc → IsDirection d → IsDirected d → is_in_arc arc d ≡ true
+    → low ≤ place_of d → place_of d < high
+    → IsActive scene p kept (λ n s. is_open_at (from_place s) (to_place s) low) active
+    → IsFirst scene p d (first_held (map numbered active))
+first_in_gap scene p d arc kept shown events low high active w gap le first last d_in d_some within above below opened =
+    first_without scene p d kept (first_held (map numbered active))
+    (first_between p d (blockers_of_scene scene) kept low (map numbered active) d_in d_some w.walls.blockers
+    (w.walls.apart d) opened.held
+    (gap_ends_nowhere scene p arc kept shown events low (place_of d + 1) w
+    (record {
+      none = λ i lt ge under. gap.none i lt ge (chain (place_at (get_or events i 0)) (place_of d) high under
+          below);
+    })
+    (up low (place_of d) above) first (most (place_of d) high (end_place arc) below last))
+    above) (w.left.covered d d_in d_some within)
+  where
+    chain : (a b c : ℕ) → a < b + 1 → b < c → a < c
+    chain a b c h k = omega (arith, h, k)
+
+    up : (a b : ℕ) → a ≤ b → a ≤ b + 1
+    up a b h = omega (arith, h)
+
+    most : (a b c : ℕ) → a < b → b ≤ c → a + 1 ≤ c
+    most a b c h k = omega (arith, h, k)
+
+pub goes_on : (scene : Scene) (p : Point) (arc : Arc) (kept shown : ℕ → Bool) (before : Option Front)
+    (sectors : List Sector)
+    (events : List ℕ) (low high : ℕ) (active : List Blocker) → IsWay scene p arc kept shown events
+    → IsGap events low high
+    → low < high → high ≤ end_place arc → IsUnderway scene p arc kept (start_place arc) before sectors low active
+    → IsUnderway scene p arc kept (start_place arc) before sectors high active
+goes_on scene p arc kept shown before sectors events low high active w gap lt last u =
     let le : low ≤ high = omega (arith, lt) in
-    let nowhere = gap_ends_nowhere scene p arc events low high w gap le u.since last in
-    let opened = held_open scene p (start_place arc) low high active lt nowhere u.holds in
-    let r = round_goes_on scene p arc all_kept before sectors low high (map numbered active) w.walls
-    (covered_all scene p arc) (record { radials = u.radials; held = opened.held }) le nowhere
-    (λ d d_in d_some within above below. record {
-      ahead = λ j j_in h. absurd (event_in_gap scene p d arc events low high j w gap u.since last d_in d_some
-          above below j_in (both_of _ _ h).0
-          (along_some d (way_at p scene.corners j) (ahead_along p d (get_or scene.corners j no_corner) h)));
-      behind = λ j j_in h. absurd (event_in_gap scene p d arc events low high j w gap u.since last d_in d_some
-          above below j_in (both_of _ _ h).0
-          (along_some d (way_at p scene.corners j) (behind_along p d (get_or scene.corners j no_corner) h)));
-    }) in
+    let nowhere = gap_ends_nowhere scene p arc kept shown events low high w gap le u.since last in
+    let opened = held_open scene p kept (start_place arc) low high active lt nowhere u.holds in
+    let r = round_goes_on scene p arc kept before sectors low high (map numbered active) w.walls
+    w.left.covered (record { radials = u.radials; held = opened.held }) le nowhere
+    (λ d d_in d_some within above below.
+    hidden_if_shown scene p d shown (first_held (map numbered active))
+    (first_in_gap scene p d arc kept shown events low high active w gap le u.since last d_in d_some within above below
+    opened) d_some (w.left.past d d_in d_some within)
+    (λ j j_in own stands some. absurd (event_in_gap scene p d arc kept shown events low high j w gap u.since last d_in
+    d_some above below j_in own stands some))) in
     record {
       radials = r.radials;
-      holds = held_as_open scene p (start_place arc) high active (unlike (start_place arc) low high u.since lt)
+      holds = held_as_open scene p kept (start_place arc) high active (unlike (start_place arc) low high u.since lt)
           (record { held = r.held; known = u.holds.known });
       ways = u.ways;
       since = up (start_place arc) low high u.since le;
@@ -412,28 +451,32 @@ goes_on scene p arc before sectors events low high active w gap lt last u =
     up : (a b c : ℕ) → a ≤ b → b ≤ c → a ≤ c
     up a b c h k = omega (arith, h, k)
 
-pub goes_on_or_stays : (scene : Scene) (p : Point) (arc : Arc) (before : Option Front) (sectors : List Sector)
-    (events : List ℕ) (low high : ℕ) (active : List Blocker) → IsWay scene p arc events → IsGap events low high
-    → low ≤ high → high ≤ end_place arc → IsUnderway scene p arc (start_place arc) before sectors low active
-    → IsUnderway scene p arc (start_place arc) before sectors high active
-goes_on_or_stays scene p arc before sectors events low high active w gap le last u = by_lt low high
-    (λ lt. goes_on scene p arc before sectors events low high active w gap lt last u)
-    (λ ge. subst (λ n. IsUnderway scene p arc (start_place arc) before sectors n active) (same low high le ge) u)
+pub goes_on_or_stays : (scene : Scene) (p : Point) (arc : Arc) (kept shown : ℕ → Bool) (before : Option Front)
+    (sectors : List Sector)
+    (events : List ℕ) (low high : ℕ) (active : List Blocker) → IsWay scene p arc kept shown events
+    → IsGap events low high
+    → low ≤ high → high ≤ end_place arc → IsUnderway scene p arc kept (start_place arc) before sectors low active
+    → IsUnderway scene p arc kept (start_place arc) before sectors high active
+goes_on_or_stays scene p arc kept shown before sectors events low high active w gap le last u = by_lt low high
+    (λ lt. goes_on scene p arc kept shown before sectors events low high active w gap lt last u)
+    (λ ge. subst (λ n. IsUnderway scene p arc kept (start_place arc) before sectors n active) (same low high le ge) u)
   where
     same : (low high : ℕ) → low ≤ high → high ≤ low → low ≡ high
     same low high h k = omega (arith, h, k)
 
 -- ---- the loop over the events
 
-rises : (scene : Scene) (p : Point) (arc : Arc) (events : List ℕ) (i j : ℕ) → IsWay scene p arc events → i ≤ j
+rises : (scene : Scene) (p : Point) (arc : Arc) (kept shown : ℕ → Bool) (events : List ℕ) (i j : ℕ)
+    → IsWay scene p arc kept shown events → i ≤ j
     → j < length events → place_at (get_or events i 0) ≤ place_at (get_or events j 0)
-rises scene p arc events i j w le lt = places_rise (get_or events i 0) (get_or events j 0)
+rises scene p arc kept shown events i j w le lt = places_rise (get_or events i 0) (get_or events j 0)
     (w.events_are.sorted i j 0 le lt)
 
-pub place_in : (scene : Scene) (p : Point) (arc : Arc) (events : List ℕ) (i : ℕ) → IsWay scene p arc events
+pub place_in : (scene : Scene) (p : Point) (arc : Arc) (kept shown : ℕ → Bool) (events : List ℕ) (i : ℕ)
+    → IsWay scene p arc kept shown events
     → i < length events → (start_place arc ≤ place_at (get_or events i 0))
     × (place_at (get_or events i 0) < end_place arc)
-place_in scene p arc events i w lt =
+place_in scene p arc kept shown events i w lt =
     let e = w.events_are.each i 0 lt in
     let v = way_at p scene.corners (corner_of (get_or events i 0)) in
     let v_in = w.ways (corner_of (get_or events i 0)) e.within in (
@@ -441,27 +484,29 @@ place_in scene p arc events i w lt =
       subst (λ n. n < end_place arc) (sym e.place) (in_arc_below arc v w.is_arc v_in e.directed e.in_arc),
     )
 
-pub going_begins : (scene : Scene) (p : Point) (arc : Arc) (before : Option Front) (sectors : List Sector)
-    (events : List ℕ) (active : List Blocker) → IsWay scene p arc events → start_place arc ≤ end_place arc
-    → IsUnderway scene p arc (start_place arc) before sectors (start_place arc) active
-    → IsGoing scene p arc before sectors events 0 0 active
-going_begins scene p arc before sectors events active w le u = record {
+pub going_begins : (scene : Scene) (p : Point) (arc : Arc) (kept shown : ℕ → Bool) (before : Option Front)
+    (sectors : List Sector)
+    (events : List ℕ) (active : List Blocker) → IsWay scene p arc kept shown events → start_place arc ≤ end_place arc
+    → IsUnderway scene p arc kept (start_place arc) before sectors (start_place arc) active
+    → IsGoing scene p arc kept before sectors events 0 0 active
+going_begins scene p arc kept shown before sectors events active w le u = record {
   place = start_place arc;
   underway = u;
   last = le;
   order = omega arith;
   passed = λ i lt. absurd (omega arith);
-  coming = λ i ge lt. (place_in scene p arc events i w lt).0;
+  coming = λ i ge lt. (place_in scene p arc kept shown events i w lt).0;
   same = λ i ge le lt. let e : i ≡ 0 = omega arith in ap (λ n. place_at (get_or events n 0)) e;
   all_passed = λ h. refl;
 }
 
-pub going_more : (scene : Scene) (p : Point) (arc : Arc) (before : Option Front) (sectors : List Sector)
+pub going_more : (scene : Scene) (p : Point) (arc : Arc) (kept : ℕ → Bool) (before : Option Front)
+    (sectors : List Sector)
     (events : List ℕ) (from k : ℕ) (active : List Blocker) → k + 1 < length events
     → place_at (get_or events k 0) ≡ place_at (get_or events (k + 1) 0)
-    → IsGoing scene p arc before sectors events from k active
-    → IsGoing scene p arc before sectors events from (k + 1) active
-going_more scene p arc before sectors events from k active more e g = record {
+    → IsGoing scene p arc kept before sectors events from k active
+    → IsGoing scene p arc kept before sectors events from (k + 1) active
+going_more scene p arc kept before sectors events from k active more e g = record {
   place = g.place;
   underway = g.underway;
   last = g.last;
@@ -476,12 +521,13 @@ going_more scene p arc before sectors events from k active more e g = record {
 }
 
 -- the run that ends at k
-pub run_at : (scene : Scene) (p : Point) (arc : Arc) (before : Option Front) (sectors : List Sector) (events : List ℕ)
-    (from k : ℕ) (active : List Blocker) → IsWay scene p arc events → k < length events
+pub run_at : (scene : Scene) (p : Point) (arc : Arc) (kept shown : ℕ → Bool) (before : Option Front)
+    (sectors : List Sector) (events : List ℕ)
+    (from k : ℕ) (active : List Blocker) → IsWay scene p arc kept shown events → k < length events
     → (k + 1 < length events → place_at (get_or events k 0) ≢ place_at (get_or events (k + 1) 0))
-    → IsGoing scene p arc before sectors events from k active
+    → IsGoing scene p arc kept before sectors events from k active
     → IsRun events from (k + 1) (place_at (get_or events from 0))
-run_at scene p arc before sectors events from k active w inside other g = record {
+run_at scene p arc kept shown before sectors events from k active w inside other g = record {
   some = let h = g.order in omega (arith, h);
   within = omega (arith, inside);
   same = λ i ge lt. g.same i ge (omega (arith, lt)) (short i k (length events) lt inside);
@@ -491,8 +537,9 @@ run_at scene p arc before sectors events from k active w inside other g = record
       let more : k + 1 < length events = above (k + 1) i (length events) ge lt in
       beyond (place_at (get_or events from 0)) (place_at (get_or events k 0)) (place_at (get_or events (k + 1) 0))
       (place_at (get_or events i 0))
-      (g.same k g.order (omega arith) inside) (rises scene p arc events k (k + 1) w (omega arith) more) (other more)
-      (rises scene p arc events (k + 1) i w ge lt);
+      (g.same k g.order (omega arith) inside) (rises scene p arc kept shown events k (k + 1) w (omega arith) more)
+      (other more)
+      (rises scene p arc kept shown events (k + 1) i w ge lt);
 }
   where
     short : (i k n : ℕ) → i < k + 1 → k < n → i < n
@@ -531,16 +578,17 @@ run_gap events from upto low place r passed = record {
     beyond a b h k = omega (arith, h, k)
 
 -- before the group is passed
-pub going_to : (scene : Scene) (p : Point) (arc : Arc) (before : Option Front) (sectors : List Sector)
-    (events : List ℕ) (from k : ℕ) (active : List Blocker) → IsWay scene p arc events → k < length events
+pub going_to : (scene : Scene) (p : Point) (arc : Arc) (kept shown : ℕ → Bool) (before : Option Front)
+    (sectors : List Sector)
+    (events : List ℕ) (from k : ℕ) (active : List Blocker) → IsWay scene p arc kept shown events → k < length events
     → IsRun events from (k + 1) (place_at (get_or events from 0))
-    → IsGoing scene p arc before sectors events from k active
-    → IsUnderway scene p arc (start_place arc) before sectors (place_at (get_or events from 0)) active
-going_to scene p arc before sectors events from k active w inside r g =
+    → IsGoing scene p arc kept before sectors events from k active
+    → IsUnderway scene p arc kept (start_place arc) before sectors (place_at (get_or events from 0)) active
+going_to scene p arc kept shown before sectors events from k active w inside r g =
     let lt : from < length events = within from k (length events) g.order inside in
-    goes_on_or_stays scene p arc before sectors events g.place (place_at (get_or events from 0)) active w
+    goes_on_or_stays scene p arc kept shown before sectors events g.place (place_at (get_or events from 0)) active w
     (run_gap events from (k + 1) g.place (place_at (get_or events from 0)) r g.passed)
-    (g.coming from (omega arith) lt) (at_most _ _ (place_in scene p arc events from w lt).1) g.underway
+    (g.coming from (omega arith) lt) (at_most _ _ (place_in scene p arc kept shown events from w lt).1) g.underway
   where
     within : (from k n : ℕ) → from ≤ k → k < n → from < n
     within from k n h j = omega (arith, h, j)
@@ -549,15 +597,16 @@ going_to scene p arc before sectors events from k active w inside r g =
     at_most a b h = omega (arith, h)
 
 -- after it
-pub going_past : (scene : Scene) (p : Point) (arc : Arc) (before : Option Front) (sectors : List Sector)
-    (events : List ℕ) (from k : ℕ) (active : List Blocker) → IsWay scene p arc events → k < length events
+pub going_past : (scene : Scene) (p : Point) (arc : Arc) (kept shown : ℕ → Bool) (before : Option Front)
+    (sectors : List Sector)
+    (events : List ℕ) (from k : ℕ) (active : List Blocker) → IsWay scene p arc kept shown events → k < length events
     → from ≤ k → IsRun events from (k + 1) (place_at (get_or events from 0))
-    → IsUnderway scene p arc (start_place arc) before sectors (place_at (get_or events from 0) + 1) active
-    → IsGoing scene p arc before sectors events (k + 1) (k + 1) active
-going_past scene p arc before sectors events from k active w inside le r u = record {
+    → IsUnderway scene p arc kept (start_place arc) before sectors (place_at (get_or events from 0) + 1) active
+    → IsGoing scene p arc kept before sectors events (k + 1) (k + 1) active
+going_past scene p arc kept shown before sectors events from k active w inside le r u = record {
   place = place_at (get_or events from 0) + 1;
   underway = u;
-  last = more _ _ (place_in scene p arc events from w (within from k (length events) le inside)).1;
+  last = more _ _ (place_in scene p arc kept shown events from w (within from k (length events) le inside)).1;
   order = omega arith;
   passed = λ i lt. by_lt i from
       (λ early. low _ _ (r.before i early))
@@ -582,12 +631,13 @@ going_past scene p arc before sectors events from k active w inside le r u = rec
     between : (i k : ℕ) → i ≤ k → k ≤ i → i ≡ k
     between i k h j = omega (arith, h, j)
 
-pub going_ends : (scene : Scene) (p : Point) (arc : Arc) (before : Option Front) (sectors : List Sector)
-    (events : List ℕ) (from k : ℕ) (active : List Blocker) → IsWay scene p arc events → length events ≤ k
-    → IsGoing scene p arc before sectors events from k active
-    → IsUnderway scene p arc (start_place arc) before sectors (end_place arc) active
-going_ends scene p arc before sectors events from k active w end g =
-    goes_on_or_stays scene p arc before sectors events g.place (end_place arc) active w
+pub going_ends : (scene : Scene) (p : Point) (arc : Arc) (kept shown : ℕ → Bool) (before : Option Front)
+    (sectors : List Sector)
+    (events : List ℕ) (from k : ℕ) (active : List Blocker) → IsWay scene p arc kept shown events → length events ≤ k
+    → IsGoing scene p arc kept before sectors events from k active
+    → IsUnderway scene p arc kept (start_place arc) before sectors (end_place arc) active
+going_ends scene p arc kept shown before sectors events from k active w end g =
+    goes_on_or_stays scene p arc kept shown before sectors events g.place (end_place arc) active w
     (record {
       none = λ i lt ge below. absurd
           (never (place_at (get_or events i 0)) g.place

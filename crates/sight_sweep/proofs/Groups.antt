@@ -10,7 +10,7 @@ use Rattle.plane_spec.specs.Vectors.{same_point, vector}
 use Rattle.sight_spec.specs.Scene.{Scene, blockers_of_scene}
 use Rattle.front_laws.specs.Seen.{Seen, seen_of}
 use Rattle.front_laws.specs.Seen.{seen_at}
-use Rattle.front_laws.proofs.Tests.{by_cases, tested_same_number, own_number, some_same, mapped_at, either_first}
+use Rattle.front_laws.proofs.Tests.{by_cases, clash, tested_same_number, own_number, some_same, mapped_at, either_first}
 use Rattle.front_laws.proofs.Tests.{either_second, guarded}
 use Rattle.front_laws.proofs.Lists.{any_at}
 use Rattle.apart_laws.proofs.Through.{by_ends}
@@ -471,4 +471,17 @@ begun_now scene p v kept test active number t known here a = active_so scene p k
     both_of_them t y b h = grind arith
 
     none_of : (t y b : Bool) → y ≡ false → (t || y) ≡ (t || (y && b))
+    none_of t y b h = grind arith
+
+-- it is left out
+pub begun_left_out : (scene : Scene) (p v : Point) (kept : ℕ → Bool) (test : ℕ → Seen → Bool) (active : List Blocker)
+    (number : ℕ) → kept number ≡ false → IsActive scene p kept test active
+    → IsActive scene p kept (λ n s. test n s || ((number == n) && same_point s.from v)) active
+begun_left_out scene p v kept test active number out a = active_so scene p kept test
+    (λ n s. test n s || ((number == n) && same_point s.from v)) active a
+    (λ n s within own is. by_cases (number == n)
+    (λ e. absurd (clash (kept n) own (subst (λ m. kept m ≡ false) (tested_same_number number n e) out)))
+    (λ e. none_of (test n s) (number == n) (same_point s.from v) e))
+  where
+    none_of : (t y b : Bool) → y ≡ false → t ≡ (t || (y && b))
     none_of t y b h = grind arith

@@ -3,6 +3,8 @@ mod Seeing
 mod Groups
 mod Passing
 mod Going
+mod LeavingOut
+mod Telltales
 mod Beginnings
 mod Listing
 mod Tables

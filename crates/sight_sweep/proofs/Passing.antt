@@ -14,30 +14,34 @@ use Rattle.plane_spec.specs.Vectors.{vector, cross_of, dot_of, same_point, IsDir
 use Rattle.sight_spec.specs.Scene.{Scene, blockers_of_scene}
 use Rattle.front_laws.specs.Seen.{Seen, seen_at}
 use Rattle.front_laws.proofs.Tests.{by_cases, tested_same_number, own_number, both_of, both_true}
-use Rattle.front_laws.proofs.Tests.{either_first, some_same}
+use Rattle.front_laws.proofs.Tests.{either_first, either_second, some_same}
 use Rattle.front_laws.proofs.Lists.{some_of}
 use Rattle.turn_laws.specs.Places.{place_of}
 use Rattle.turn_laws.specs.Turns.{just_after}
 use Rattle.apart_laws.proofs.Plans.{points_same}
+use Rattle.sweep_laws.specs.First.{IsFirst}
 use Rattle.sweep_laws.specs.Groups.{no_corner, back_of, stands_in, is_ahead, is_behind}
 use Rattle.sweep_laws.proofs.Grouped.{stands_where}
 use Rattle.view_laws.specs.declared.view.Arc.{Arc}
 use Rattle.view_laws.specs.declared.view.Front.{Front}
 use Rattle.view_laws.specs.declared.view.Sector.{Sector}
-use Rattle.view_laws.specs.Views.{front_of, length_of, is_from, is_past_first, IsSoFarOrNone, IsReached}
+use Rattle.view_laws.specs.Views.{is_in_arc, front_of, length_of, is_from, is_past_first, IsSoFarOrNone, IsReached}
 use Rattle.view_laws.specs.Views.{IsAlong}
 use Rattle.view_laws.proofs.Answers.{ahead_along, behind_along}
 use Rattle.round_laws.specs.Rounds.{is_open_at, is_spanned_at, from_place, to_place, first_held}
-use Rattle.round_laws.specs.Rounds.{AreWalls, AreHidden, AreCoveredIn}
-use Rattle.round_laws.proofs.Steps.{spanned_of_open, open_of_spanned, differ}
+use Rattle.round_laws.specs.Rounds.{AreWalls, AreHidden, HoldsAt}
+use Rattle.round_laws.specs.Kept.{ArePast}
+use Rattle.round_laws.proofs.Without.{first_without, behind_first}
+use Rattle.round_laws.proofs.Steps.{spanned_of_open, open_of_spanned, differ, first_at}
 use Rattle.round_laws.proofs.Placing.{cone_along, cone_back, spans_goes_on, spans_begun}
 use Rattle.round_laws.proofs.Endings.{along_some}
 use Rattle.round_laws.proofs.Sectors.{sector_added, no_sector_added}
 use Rattle.sight_sweep.specs.declared.blocker.Blocker.{Blocker}
 use Rattle.sight_sweep.specs.Actives.{seen, front, numbered, first_of, IsOf, IsActive, SpansAll}
 use Rattle.sight_sweep.specs.Events.{way_at, corner_of, place_at}
-use Rattle.sight_sweep.specs.Rounds.{all_kept, is_held_at, IsUnderway, ends_among, begins_among, IsGroup, leads_ahead}
+use Rattle.sight_sweep.specs.Rounds.{is_held_at, IsUnderway, ends_among, begins_among, IsGroup, leads_ahead}
 use Rattle.sight_sweep.specs.Rounds.{leads_behind, far_of, lesser_of, least_from, is_past, number_in}
+use Rattle.sight_sweep.specs.LeftOut.{AreLeftOut}
 use Rattle.sight_sweep.specs.Stations.{IsStation}
 use Rattle.sight_sweep.proofs.Actives.{active_so}
 
@@ -53,41 +57,45 @@ same_number_is : (m n : ℕ) → m ≡ n → (m == n) ≡ true
 same_number_is m n e = subst (λ k. (m == k) ≡ true) e (own_number m)
 
 -- a direction that leads to an event's corner has the group's place
-place_of_event : (scene : Scene) (p v : Point) (arc : Arc) (place : ℕ) (group : List ℕ)
-    → IsGroup scene p arc place group
+place_of_event : (scene : Scene) (p v : Point) (arc : Arc) (kept shown : ℕ → Bool) (place : ℕ) (group : List ℕ)
+    → IsGroup scene p arc kept shown place group
     → list_any (λ e. same_point v (way_at p scene.corners (corner_of e))) group ≡ true → place_of v ≡ place
-place_of_event scene p v arc place group g h =
+place_of_event scene p v arc kept shown place group g h =
     let s = some_of (λ e. same_point v (way_at p scene.corners (corner_of e))) group 0 h in
     ap place_of (points_same v (way_at p scene.corners (corner_of (get_or group s.place 0))) s.holds)
     ∙ sym (g.each s.place 0 s.within).place ∙ g.places s.place 0 s.within
 
-ends_where : (scene : Scene) (p : Point) (arc : Arc) (place : ℕ) (group : List ℕ) (n : ℕ) (s : Seen)
-    → IsGroup scene p arc place group → n < length (blockers_of_scene scene)
+ends_where : (scene : Scene) (p : Point) (arc : Arc) (kept shown : ℕ → Bool) (place : ℕ) (group : List ℕ) (n : ℕ)
+    (s : Seen)
+    → IsGroup scene p arc kept shown place group → n < length (blockers_of_scene scene) → kept n ≡ true
     → seen_at p (blockers_of_scene scene) n ≡ Some s → ends_among p scene.corners group s ≡ (to_place s == place)
-ends_where scene p arc place group n s g within is = is_same (ends_among p scene.corners group s) (to_place s == place)
-    (λ h. same_number_is (to_place s) place (place_of_event scene p s.to arc place group g h))
-    (λ h. g.ends n s within is (tested_same_number (to_place s) place h))
+ends_where scene p arc kept shown place group n s g within own is = is_same (ends_among p scene.corners group s)
+    (to_place s == place)
+    (λ h. same_number_is (to_place s) place (place_of_event scene p s.to arc kept shown place group g h))
+    (λ h. g.ends n s within own is (tested_same_number (to_place s) place h))
 
-begins_where : (scene : Scene) (p : Point) (arc : Arc) (place : ℕ) (group : List ℕ) (n : ℕ) (s : Seen)
-    → IsGroup scene p arc place group → n < length (blockers_of_scene scene)
+begins_where : (scene : Scene) (p : Point) (arc : Arc) (kept shown : ℕ → Bool) (place : ℕ) (group : List ℕ) (n : ℕ)
+    (s : Seen)
+    → IsGroup scene p arc kept shown place group → n < length (blockers_of_scene scene) → kept n ≡ true
     → seen_at p (blockers_of_scene scene) n ≡ Some s → begins_among p scene.corners group s ≡ (from_place s == place)
-begins_where scene p arc place group n s g within is = is_same (begins_among p scene.corners group s)
+begins_where scene p arc kept shown place group n s g within own is = is_same (begins_among p scene.corners group s)
     (from_place s == place)
-    (λ h. same_number_is (from_place s) place (place_of_event scene p s.from arc place group g h))
-    (λ h. g.begins n s within is (tested_same_number (from_place s) place h))
+    (λ h. same_number_is (from_place s) place (place_of_event scene p s.from arc kept shown place group g h))
+    (λ h. g.begins n s within own is (tested_same_number (from_place s) place h))
 
 -- once all that end there are out, the list holds what is spanned there
-pub held_within : (scene : Scene) (p : Point) (arc : Arc) (start place : ℕ) (group : List ℕ) (active : List Blocker)
-    → AreWalls scene p → IsGroup scene p arc place group
-    → IsActive scene p all_kept (λ n s. is_held_at start (from_place s) (to_place s) place
+pub held_within : (scene : Scene) (p : Point) (arc : Arc) (kept shown : ℕ → Bool) (start place : ℕ) (group : List ℕ)
+    (active : List Blocker)
+    → AreWalls scene p → IsGroup scene p arc kept shown place group
+    → IsActive scene p kept (λ n s. is_held_at start (from_place s) (to_place s) place
     && not (ends_among p scene.corners group s)) active
-    → IsActive scene p all_kept (λ n s. is_spanned_at (from_place s) (to_place s) place) active
-held_within scene p arc start place group active walls g a =
-    active_so scene p all_kept (λ n s. is_held_at start (from_place s) (to_place s) place
+    → IsActive scene p kept (λ n s. is_spanned_at (from_place s) (to_place s) place) active
+held_within scene p arc kept shown start place group active walls g a =
+    active_so scene p kept (λ n s. is_held_at start (from_place s) (to_place s) place
     && not (ends_among p scene.corners group s)) (λ n s. is_spanned_at (from_place s) (to_place s) place) active a
     (λ n s within own is.
     ap (λ t. is_held_at start (from_place s) (to_place s) place && not t)
-    (ends_where scene p arc place group n s g within is)
+    (ends_where scene p arc kept shown place group n s g within own is)
     ∙ by_end (is_open_at (from_place s) (to_place s) place) (to_place s == start) (place == start)
     (to_place s == place) (λ h k. at_start (to_place s) start place h k)
     ∙ sym (spanned_of_open (from_place s) (to_place s) place (differ s (walls.blockers n s within is))))
@@ -103,25 +111,27 @@ held_within scene p arc start place group active walls g a =
     by_end false t q e f = refl
 
 -- once all that begin there are in, it holds what is open just after
-pub held_next : (scene : Scene) (p : Point) (arc : Arc) (start place : ℕ) (group : List ℕ) (active : List Blocker)
-    → AreWalls scene p → IsGroup scene p arc place group
-    → IsActive scene p all_kept (λ n s. is_spanned_at (from_place s) (to_place s) place
+pub held_next : (scene : Scene) (p : Point) (arc : Arc) (kept shown : ℕ → Bool) (start place : ℕ) (group : List ℕ)
+    (active : List Blocker)
+    → AreWalls scene p → IsGroup scene p arc kept shown place group
+    → IsActive scene p kept (λ n s. is_spanned_at (from_place s) (to_place s) place
     || begins_among p scene.corners group s) active
-    → IsActive scene p all_kept (λ n s. is_open_at (from_place s) (to_place s) (place + 1)) active
-held_next scene p arc start place group active walls g a =
-    active_so scene p all_kept (λ n s. is_spanned_at (from_place s) (to_place s) place
+    → IsActive scene p kept (λ n s. is_open_at (from_place s) (to_place s) (place + 1)) active
+held_next scene p arc kept shown start place group active walls g a =
+    active_so scene p kept (λ n s. is_spanned_at (from_place s) (to_place s) place
     || begins_among p scene.corners group s) (λ n s. is_open_at (from_place s) (to_place s) (place + 1)) active a
     (λ n s within own is.
     ap (λ t. is_spanned_at (from_place s) (to_place s) place || t)
-    (begins_where scene p arc place group n s g within is)
+    (begins_where scene p arc kept shown place group n s g within own is)
     ∙ sym (open_of_spanned (from_place s) (to_place s) place (differ s (walls.blockers n s within is))))
 
 -- after the start what is open is held
-pub held_as_open : (scene : Scene) (p : Point) (start place : ℕ) (active : List Blocker) → place ≢ start
-    → IsActive scene p all_kept (λ n s. is_open_at (from_place s) (to_place s) place) active
-    → IsActive scene p all_kept (λ n s. is_held_at start (from_place s) (to_place s) place) active
-held_as_open scene p start place active other a =
-    active_so scene p all_kept (λ n s. is_open_at (from_place s) (to_place s) place)
+pub held_as_open : (scene : Scene) (p : Point) (kept : ℕ → Bool) (start place : ℕ) (active : List Blocker)
+    → place ≢ start
+    → IsActive scene p kept (λ n s. is_open_at (from_place s) (to_place s) place) active
+    → IsActive scene p kept (λ n s. is_held_at start (from_place s) (to_place s) place) active
+held_as_open scene p kept start place active other a =
+    active_so scene p kept (λ n s. is_open_at (from_place s) (to_place s) place)
     (λ n s. is_held_at start (from_place s) (to_place s) place) active a
     (λ n s within own is. away (is_open_at (from_place s) (to_place s) place) (to_place s == start) (place == start)
     (unlike place start other))
@@ -134,19 +144,20 @@ held_as_open scene p start place active other a =
 
 -- ---- one direction spans all of them just after the place
 
-pub spanned_next : (scene : Scene) (p v : Point) (place : ℕ) → AreWalls scene p → IsDirection v → IsDirected v
-    → place_of v ≡ place
-    → SpansAll scene p all_kept (λ n s. is_spanned_at (from_place s) (to_place s) place) (just_after v)
-spanned_next scene p v place walls v_in v_some e n s within own is h =
+pub spanned_next : (scene : Scene) (p v : Point) (kept : ℕ → Bool) (place : ℕ) → AreWalls scene p → IsDirection v
+    → IsDirected v → place_of v ≡ place
+    → SpansAll scene p kept (λ n s. is_spanned_at (from_place s) (to_place s) place) (just_after v)
+spanned_next scene p v kept place walls v_in v_some e n s within own is h =
     spans_goes_on v s v_in v_some (walls.blockers n s within is)
     (subst (λ m. is_spanned_at (from_place s) (to_place s) m ≡ true) (sym e) h)
 
-pub begun_next : (scene : Scene) (p v : Point) (arc : Arc) (place : ℕ) (group : List ℕ) → AreWalls scene p
-    → IsGroup scene p arc place group → IsDirection v → IsDirected v → place_of v ≡ place
-    → SpansAll scene p all_kept (λ n s. begins_among p scene.corners group s) (just_after v)
-begun_next scene p v arc place group walls g v_in v_some e n s within own is h =
+pub begun_next : (scene : Scene) (p v : Point) (arc : Arc) (kept shown : ℕ → Bool) (place : ℕ) (group : List ℕ)
+    → AreWalls scene p
+    → IsGroup scene p arc kept shown place group → IsDirection v → IsDirected v → place_of v ≡ place
+    → SpansAll scene p kept (λ n s. begins_among p scene.corners group s) (just_after v)
+begun_next scene p v arc kept shown place group walls g v_in v_some e n s within own is h =
     spans_begun v s v_in v_some (walls.blockers n s within is)
-    (place_of_event scene p s.from arc place group g h ∙ sym e)
+    (place_of_event scene p s.from arc kept shown place group g h ∙ sym e)
 
 -- ---- the least length
 
@@ -214,14 +225,53 @@ least_all test far least (e ∷ rest) (suc i) lt h = least_all test far
 
 -- ---- corners of the direction
 
+-- a corner that isn't shown is behind what is first
+pub untold_past : (scene : Scene) (p d : Point) (shown : ℕ → Bool) (first : Option (ℕ × Seen)) (j : ℕ)
+    → IsFirst scene p d first → IsDirected d → ArePast scene p d shown → j < length scene.corners → shown j ≡ false
+    → stands_in p d (get_or scene.corners j no_corner).here ≡ true → IsAlong d (way_at p scene.corners j)
+    → is_past_first first (way_at p scene.corners j) ≡ true
+untold_past scene p d shown first j is d_some past lt out stands along =
+    let c = past j lt out stands in
+    behind_first scene p d (way_at p scene.corners j) first c.number c.cover is d_some along c.within c.seen c.spanned
+    c.past
+
+-- so all corners of the direction are behind the first, if those are that are shown
+pub hidden_if_shown : (scene : Scene) (p d : Point) (shown : ℕ → Bool) (first : Option (ℕ × Seen))
+    → IsFirst scene p d first → IsDirected d → ArePast scene p d shown
+    → ((j : ℕ) → j < length scene.corners → shown j ≡ true
+    → stands_in p d (get_or scene.corners j no_corner).here ≡ true → IsDirected (way_at p scene.corners j)
+    → is_past_first first (way_at p scene.corners j) ≡ true)
+    → AreHidden scene p d first
+hidden_if_shown scene p d shown first is d_some past told = record {
+  ahead = λ j lt h. each j lt (both_of _ _ h).0 (ahead_along p d (get_or scene.corners j no_corner) h);
+  behind = λ j lt h. each j lt (both_of _ _ h).0 (behind_along p d (get_or scene.corners j no_corner) h);
+}
+  where
+    each : (j : ℕ) → j < length scene.corners → stands_in p d (get_or scene.corners j no_corner).here ≡ true
+        → IsAlong d (way_at p scene.corners j) → is_past_first first (way_at p scene.corners j) ≡ true
+    each j lt stands along = by_cases (shown j)
+        (λ own. told j lt own stands (along_some d (way_at p scene.corners j) along))
+        (λ out. untold_past scene p d shown first j is d_some past lt out stands along)
+
+-- what the list has first in the group's direction is the first of all
+pub first_of_all : (scene : Scene) (p d : Point) (arc : Arc) (kept shown : ℕ → Bool) (place : ℕ) (at : List Blocker)
+    → AreWalls scene p → AreLeftOut scene p arc kept shown → IsDirection d → IsDirected d → is_in_arc arc d ≡ true
+    → place_of d ≡ place → IsActive scene p kept (λ n s. is_spanned_at (from_place s) (to_place s) place) at
+    → IsFirst scene p d (first_held (map numbered at))
+first_of_all scene p d arc kept shown place at walls left d_in d_some within e held =
+    first_without scene p d kept (first_held (map numbered at))
+    (first_at p d (blockers_of_scene scene) kept (map numbered at) d_in d_some walls.blockers (walls.apart d)
+    (subst (λ n. HoldsAt p (blockers_of_scene scene) kept n (map numbered at)) (sym e) held.held))
+    (left.covered d d_in d_some within)
+
 -- a corner in the direction is one of the group
-in_group : (scene : Scene) (p d : Point) (arc : Arc) (place : ℕ) (group : List ℕ) (j : ℕ)
-    → IsGroup scene p arc place group → IsDirection d → IsDirected d → place_of d ≡ place
+in_group : (scene : Scene) (p d : Point) (arc : Arc) (kept shown : ℕ → Bool) (place : ℕ) (group : List ℕ) (j : ℕ)
+    → IsGroup scene p arc kept shown place group → IsDirection d → IsDirected d → place_of d ≡ place
     → ((k : ℕ) → k < length scene.corners → IsDirection (way_at p scene.corners k)) → j < length scene.corners
-    → stands_in p d (get_or scene.corners j no_corner).here ≡ true
+    → shown j ≡ true → stands_in p d (get_or scene.corners j no_corner).here ≡ true
     → IsDirected (way_at p scene.corners j) → list_any (λ e. corner_of e == j) group ≡ true
-in_group scene p d arc place group j g d_in d_some e ways lt stands some =
-    g.corners j lt some (sym (tested_same_number (place_of d) (place_of (way_at p scene.corners j))
+in_group scene p d arc kept shown place group j g d_in d_some e ways lt own stands some =
+    g.corners j lt own some (sym (tested_same_number (place_of d) (place_of (way_at p scene.corners j))
     (sym (stands_where p d (get_or scene.corners j no_corner).here d_in d_some (ways j lt) some) ∙ stands)) ∙ e)
 
 -- what the events of a group say of its corners
@@ -233,10 +283,10 @@ pub record Kind (p d : Point) (corners : List Corner) (test : Corner → Bool) (
   pub passes : (e : ℕ) → leads e ≡ true → stands_in p d (get_or corners (corner_of e) no_corner).here ≡ true
       → test (get_or corners (corner_of e) no_corner) ≡ true
 
-along_of : (p d : Point) (c : Corner) → stands_in p d c.here ≡ true → IsAlong d (vector p c.here)
-along_of p d c h =
+pub along_of : (p d x : Point) → stands_in p d x ≡ true → IsAlong d (vector p x)
+along_of p d x h =
     let two = both_of _ _ h in
-    record { line = zero_of (cross_of d (vector p c.here)) two.0; ahead = up_of (dot_of d (vector p c.here)) two.1 }
+    record { line = zero_of (cross_of d (vector p x)) two.0; ahead = up_of (dot_of d (vector p x)) two.1 }
   where
     zero_of : (z : ℤ) → int_eq z (pos 0) ≡ true → z ≡ pos 0
     zero_of z h = grind (arith, ints)
@@ -253,7 +303,7 @@ ahead_kind p d corners some = record {
       (ahead_along p d (get_or corners (corner_of e) no_corner) h) ∙ (both_of _ _ h).1;
   passes = λ e h s. both_true _ _ s
       (sym (cone_along (get_or corners (corner_of e) no_corner) d (way_at p corners (corner_of e)) some
-      (along_of p d (get_or corners (corner_of e) no_corner) s)) ∙ h);
+      (along_of p d (get_or corners (corner_of e) no_corner).here s)) ∙ h);
 }
 
 back_some : (d : Point) → IsDirected d → IsDirected (back_of d)
@@ -272,7 +322,7 @@ behind_kind p d corners some = record {
       (back_some d some) (behind_along p d (get_or corners (corner_of e) no_corner) h) ∙ (both_of _ _ h).1;
   passes = λ e h s. both_true _ _ s
       (sym (cone_back (get_or corners (corner_of e) no_corner) d (way_at p corners (corner_of e)) (back_some d some)
-      (along_of p d (get_or corners (corner_of e) no_corner) s)) ∙ h);
+      (along_of p d (get_or corners (corner_of e) no_corner).here s)) ∙ h);
 }
 
 from_up_to : (told : Option ℕ) (v : Point) → is_up_to told (length_of v) ≡ true → is_from told v ≡ true
@@ -280,13 +330,14 @@ from_up_to None v h = h
 from_up_to (Some far) v h = h
 
 -- the least of the group is what is reached
-pub group_reached : (scene : Scene) (p d : Point) (arc : Arc) (place : ℕ) (group : List ℕ) (test : Corner → Bool)
-    (leads : ℕ → Bool) (first : Option (ℕ × Seen))
-    → IsGroup scene p arc place group → IsDirection d → IsDirected d → place_of d ≡ place
+pub group_reached : (scene : Scene) (p d : Point) (arc : Arc) (kept shown : ℕ → Bool) (place : ℕ) (group : List ℕ)
+    (test : Corner → Bool) (leads : ℕ → Bool) (first : Option (ℕ × Seen))
+    → IsGroup scene p arc kept shown place group → IsDirection d → IsDirected d → place_of d ≡ place
     → ((k : ℕ) → k < length scene.corners → IsDirection (way_at p scene.corners k))
+    → IsFirst scene p d first → ArePast scene p d shown
     → Kind p d scene.corners test leads
     → IsReached p test scene.corners first (least_from leads (far_of p scene.corners) None group)
-group_reached scene p d arc place group test leads first g d_in d_some e ways k = record {
+group_reached scene p d arc kept shown place group test leads first g d_in d_some e ways is past k = record {
   some = least_keeps (IsSoFarOrNone p test scene.corners) leads (far_of p scene.corners) None group refl
       (λ i lt h. let event = get_or group i 0 in let own = g.each i 0 lt in
       record {
@@ -299,20 +350,29 @@ group_reached scene p d arc place group test leads first g d_in d_some e ways k 
             (e ∙ sym (g.places i 0 lt) ∙ own.place));
         far_is = refl;
       });
-  all = λ j lt h.
-      let found = some_of (λ event. corner_of event == j) group 0
-      (in_group scene p d arc place group j g d_in d_some e ways lt (k.stands j h)
-      (along_some d (way_at p scene.corners j) (k.along j h))) in
-      let event = get_or group found.place 0 in
-      let same : corner_of event ≡ j = tested_same_number (corner_of event) j found.holds in
-      let led : leads event ≡ true = k.led event
-      (subst (λ n. test (get_or scene.corners n no_corner) ≡ true) (sym same) h) in
-      either_first _ (is_past_first first (way_at p scene.corners j))
-      (from_up_to (least_from leads (far_of p scene.corners) None group) (way_at p scene.corners j)
-      (subst (λ n. is_up_to (least_from leads (far_of p scene.corners) None group)
-      (length_of (way_at p scene.corners n)) ≡ true) same
-      (least_all leads (far_of p scene.corners) None group found.place found.within led)));
+  all = λ j lt h. by_cases (shown j)
+      (λ own. told j lt h own)
+      (λ out. either_second (is_from (least_from leads (far_of p scene.corners) None group) (way_at p scene.corners j))
+      (is_past_first first (way_at p scene.corners j))
+      (untold_past scene p d shown first j is d_some past lt out (k.stands j h) (k.along j h)));
 }
+  where
+    told : (j : ℕ) → j < length scene.corners → test (get_or scene.corners j no_corner) ≡ true → shown j ≡ true
+        → (is_from (least_from leads (far_of p scene.corners) None group) (way_at p scene.corners j)
+        || is_past_first first (way_at p scene.corners j)) ≡ true
+    told j lt h own =
+        let found = some_of (λ event. corner_of event == j) group 0
+        (in_group scene p d arc kept shown place group j g d_in d_some e ways lt own (k.stands j h)
+        (along_some d (way_at p scene.corners j) (k.along j h))) in
+        let event = get_or group found.place 0 in
+        let same : corner_of event ≡ j = tested_same_number (corner_of event) j found.holds in
+        let led : leads event ≡ true = k.led event
+        (subst (λ n. test (get_or scene.corners n no_corner) ≡ true) (sym same) h) in
+        either_first _ (is_past_first first (way_at p scene.corners j))
+        (from_up_to (least_from leads (far_of p scene.corners) None group) (way_at p scene.corners j)
+        (subst (λ n. is_up_to (least_from leads (far_of p scene.corners) None group)
+        (length_of (way_at p scene.corners n)) ≡ true) same
+        (least_all leads (far_of p scene.corners) None group found.place found.within led)))
 
 -- ---- what is first
 
@@ -354,58 +414,56 @@ past_first [] v = refl
 past_first (b ∷ rest) v = refl
 
 -- all corners of the direction are behind the first, if those of the group are
-pub group_hidden : (scene : Scene) (p d : Point) (arc : Arc) (place : ℕ) (group : List ℕ) (active : List Blocker)
-    → IsGroup scene p arc place group → IsDirection d → IsDirected d → place_of d ≡ place
+pub group_hidden : (scene : Scene) (p d : Point) (arc : Arc) (kept shown : ℕ → Bool) (place : ℕ) (group : List ℕ)
+    (active : List Blocker) → IsGroup scene p arc kept shown place group → IsDirection d → IsDirected d
+    → place_of d ≡ place
     → ((k : ℕ) → k < length scene.corners → IsDirection (way_at p scene.corners k))
+    → IsFirst scene p d (first_held (map numbered active)) → ArePast scene p d shown
     → All (λ e. is_past (first_of active) (way_at p scene.corners (corner_of e)) ≡ true) group
     → AreHidden scene p d (first_held (map numbered active))
-group_hidden scene p d arc place group active g d_in d_some e ways past = record {
-  ahead = λ j lt h. at j lt (both_of _ _ h).0 (ahead_along p d (get_or scene.corners j no_corner) h);
-  behind = λ j lt h. at j lt (both_of _ _ h).0 (behind_along p d (get_or scene.corners j no_corner) h);
-}
-  where
-    at : (j : ℕ) → j < length scene.corners → stands_in p d (get_or scene.corners j no_corner).here ≡ true
-        → IsAlong d (way_at p scene.corners j)
-        → is_past_first (first_held (map numbered active)) (way_at p scene.corners j) ≡ true
-    at j lt stands along =
-        let found = some_of (λ event. corner_of event == j) group 0
-        (in_group scene p d arc place group j g d_in d_some e ways lt stands
-        (along_some d (way_at p scene.corners j) along)) in
-        let event = get_or group found.place 0 in
-        let same : corner_of event ≡ j = tested_same_number (corner_of event) j found.holds in
-        subst (λ n. is_past_first (first_held (map numbered active)) (way_at p scene.corners n) ≡ true) same
-        (sym (past_first active (way_at p scene.corners (corner_of event))) ∙ past found.place 0 found.within)
+group_hidden scene p d arc kept shown place group active g d_in d_some e ways is untold past =
+    hidden_if_shown scene p d shown (first_held (map numbered active)) is d_some untold
+    (λ j lt own stands some.
+    let found = some_of (λ event. corner_of event == j) group 0
+    (in_group scene p d arc kept shown place group j g d_in d_some e ways lt own stands some) in
+    let event = get_or group found.place 0 in
+    let same : corner_of event ≡ j = tested_same_number (corner_of event) j found.holds in
+    subst (λ n. is_past_first (first_held (map numbered active)) (way_at p scene.corners n) ≡ true) same
+    (sym (past_first active (way_at p scene.corners (corner_of event))) ∙ past found.place 0 found.within))
 
 -- ---- the group is passed
 
-pub covered_all : (scene : Scene) (p : Point) (arc : Arc) → AreCoveredIn scene p arc all_kept
-covered_all scene p arc d d_in d_some within j t j_in left = absurd (grind arith)
-
-pub passed_with_sector : (scene : Scene) (p : Point) (arc : Arc) (start : ℕ) (before : Option Front)
+pub passed_with_sector : (scene : Scene) (p : Point) (arc : Arc) (kept shown : ℕ → Bool) (start : ℕ)
+    (before : Option Front)
     (sectors : List Sector) (s : Sector) (group : List ℕ) (active at after : List Blocker)
     → AreWalls scene p → ((k : ℕ) → k < length scene.corners → IsDirection (way_at p scene.corners k))
-    → IsGroup scene p arc s.place group
-    → IsUnderway scene p arc start before sectors s.place active
-    → IsActive scene p all_kept (λ n s'. is_spanned_at (from_place s') (to_place s') s.place) at
-    → IsActive scene p all_kept (λ n s'. is_open_at (from_place s') (to_place s') (s.place + 1)) after
+    → AreLeftOut scene p arc kept shown → IsGroup scene p arc kept shown s.place group
+    → IsUnderway scene p arc kept start before sectors s.place active
+    → IsActive scene p kept (λ n s'. is_spanned_at (from_place s') (to_place s') s.place) at
+    → IsActive scene p kept (λ n s'. is_open_at (from_place s') (to_place s') (s.place + 1)) after
     → s.on ≡ option_map front (first_of at) → s.after ≡ option_map front (first_of after) → place_of s.way ≡ s.place
     → s.ahead ≡ least_from (leads_ahead p scene.corners) (far_of p scene.corners) None group
     → s.behind ≡ least_from (leads_behind p scene.corners) (far_of p scene.corners) None group
-    → IsUnderway scene p arc start before (sectors ++ s ∷ []) (s.place + 1) after
-passed_with_sector scene p arc start before sectors s group active at after walls ways g u held_at held_after on_is
+    → IsUnderway scene p arc kept start before (sectors ++ s ∷ []) (s.place + 1) after
+passed_with_sector scene p arc kept shown start before sectors s group active at after walls ways left g u held_at
+    held_after on_is
     after_is way_is ahead_is behind_is = record {
-      radials = (sector_added scene p arc all_kept before sectors s (map numbered active) (map numbered at)
-          (map numbered after) walls (covered_all scene p arc) u.radials held_at.held held_after.held
+      radials = (sector_added scene p arc kept before sectors s (map numbered active) (map numbered at)
+          (map numbered after) walls left.covered u.radials held_at.held held_after.held
           (on_is ∙ first_front scene p at held_at.known) (after_is ∙ first_front scene p after held_after.known)
           (λ d d_in d_some within e. subst (IsReached p (is_ahead p d) scene.corners (first_held (map numbered at)))
           (sym ahead_is)
-          (group_reached scene p d arc s.place group (is_ahead p d) (leads_ahead p scene.corners)
-          (first_held (map numbered at)) g d_in d_some e ways (ahead_kind p d scene.corners d_some)))
+          (group_reached scene p d arc kept shown s.place group (is_ahead p d) (leads_ahead p scene.corners)
+          (first_held (map numbered at)) g d_in d_some e ways
+          (first_of_all scene p d arc kept shown s.place at walls left d_in d_some within e held_at)
+          (left.past d d_in d_some within) (ahead_kind p d scene.corners d_some)))
           (λ d d_in d_some within e. subst (IsReached p (is_behind p d) scene.corners (first_held (map numbered at)))
           (sym behind_is)
-          (group_reached scene p d arc s.place group (is_behind p d) (leads_behind p scene.corners)
-          (first_held (map numbered at)) g d_in d_some e ways (behind_kind p d scene.corners d_some)))).radials;
-      holds = held_as_open scene p start (s.place + 1) after (later start s.place u.since) held_after;
+          (group_reached scene p d arc kept shown s.place group (is_behind p d) (leads_behind p scene.corners)
+          (first_held (map numbered at)) g d_in d_some e ways
+          (first_of_all scene p d arc kept shown s.place at walls left d_in d_some within e held_at)
+          (left.past d d_in d_some within) (behind_kind p d scene.corners d_some)))).radials;
+      holds = held_as_open scene p kept start (s.place + 1) after (later start s.place u.since) held_after;
       ways = All-push (λ t. place_of t.way ≡ t.place) sectors s u.ways way_is;
       since = more start s.place u.since;
     }
@@ -416,25 +474,29 @@ passed_with_sector scene p arc start before sectors s group active at after wall
     more : (start place : ℕ) → start ≤ place → start ≤ place + 1
     more start place h = omega (arith, h)
 
-pub passed_without_sector : (scene : Scene) (p : Point) (arc : Arc) (start place : ℕ) (before : Option Front)
+pub passed_without_sector : (scene : Scene) (p : Point) (arc : Arc) (kept shown : ℕ → Bool) (start place : ℕ)
+    (before : Option Front)
     (sectors : List Sector) (group : List ℕ) (active at after : List Blocker)
     → AreWalls scene p → ((k : ℕ) → k < length scene.corners → IsDirection (way_at p scene.corners k))
-    → IsGroup scene p arc place group
-    → IsUnderway scene p arc start before sectors place active
-    → IsActive scene p all_kept (λ n s. is_spanned_at (from_place s) (to_place s) place) at
-    → IsActive scene p all_kept (λ n s. is_open_at (from_place s) (to_place s) (place + 1)) after
+    → AreLeftOut scene p arc kept shown → IsGroup scene p arc kept shown place group
+    → IsUnderway scene p arc kept start before sectors place active
+    → IsActive scene p kept (λ n s. is_spanned_at (from_place s) (to_place s) place) at
+    → IsActive scene p kept (λ n s. is_open_at (from_place s) (to_place s) (place + 1)) after
     → number_in (option_map front (first_of active)) ≡ number_in (option_map front (first_of at))
     → number_in (option_map front (first_of at)) ≡ number_in (option_map front (first_of after))
     → All (λ e. is_past (first_of at) (way_at p scene.corners (corner_of e)) ≡ true) group
-    → IsUnderway scene p arc start before sectors (place + 1) after
-passed_without_sector scene p arc start place before sectors group active at after walls ways g u held_at held_after
+    → IsUnderway scene p arc kept start before sectors (place + 1) after
+passed_without_sector scene p arc kept shown start place before sectors group active at after walls ways left g u
+    held_at held_after
     same same_after past = record {
-      radials = (no_sector_added scene p arc all_kept before sectors place (map numbered active) (map numbered at)
-          (map numbered after) walls (covered_all scene p arc) u.radials held_at.held held_after.held
+      radials = (no_sector_added scene p arc kept before sectors place (map numbered active) (map numbered at)
+          (map numbered after) walls left.covered u.radials held_at.held held_after.held
           (sym (first_same scene p active at u.holds.known held_at.known same))
           (sym (first_same scene p active after u.holds.known held_after.known (same ∙ same_after)))
-          (λ d d_in d_some within e. group_hidden scene p d arc place group at g d_in d_some e ways past)).radials;
-      holds = held_as_open scene p start (place + 1) after (later start place u.since) held_after;
+          (λ d d_in d_some within e. group_hidden scene p d arc kept shown place group at g d_in d_some e ways
+          (first_of_all scene p d arc kept shown place at walls left d_in d_some within e held_at)
+          (left.past d d_in d_some within) past)).radials;
+      holds = held_as_open scene p kept start (place + 1) after (later start place u.since) held_after;
       ways = u.ways;
       since = more start place u.since;
     }
@@ -453,49 +515,54 @@ TakesOut scene p group active at = (kept : ℕ → Bool) (test : ℕ → Seen �
     → IsActive scene p kept (λ n s. test n s && not (ends_among p scene.corners group s)) at
 
 -- all that begin there are put in, if one direction spans all of them
-abbrev pub PutsIn : Scene → Point → List ℕ → List Blocker → List Blocker → Type 0
-PutsIn scene p group at after = (test : ℕ → Seen → Bool) (way : Point) → IsActive scene p all_kept test at
-    → SpansAll scene p all_kept test way
-    → SpansAll scene p all_kept (λ n s. begins_among p scene.corners group s) way
-    → IsActive scene p all_kept (λ n s. test n s || begins_among p scene.corners group s) after
+abbrev pub PutsIn : Scene → Point → (ℕ → Bool) → List ℕ → List Blocker → List Blocker → Type 0
+PutsIn scene p kept group at after = (test : ℕ → Seen → Bool) (way : Point) → IsActive scene p kept test at
+    → SpansAll scene p kept test way
+    → SpansAll scene p kept (λ n s. begins_among p scene.corners group s) way
+    → IsActive scene p kept (λ n s. test n s || begins_among p scene.corners group s) after
 
-pub list_at : (scene : Scene) (p : Point) (arc : Arc) (start place : ℕ) (before : Option Front)
+pub list_at : (scene : Scene) (p : Point) (arc : Arc) (kept shown : ℕ → Bool) (start place : ℕ) (before : Option Front)
     (sectors : List Sector) (group : List ℕ) (active at : List Blocker) → IsStation scene p
-    → IsGroup scene p arc place group → IsUnderway scene p arc start before sectors place active
+    → IsGroup scene p arc kept shown place group → IsUnderway scene p arc kept start before sectors place active
     → TakesOut scene p group active at
-    → IsActive scene p all_kept (λ n s. is_spanned_at (from_place s) (to_place s) place) at
-list_at scene p arc start place before sectors group active at station g u taken =
-    held_within scene p arc start place group at station.walls g
-    (taken all_kept (λ n s. is_held_at start (from_place s) (to_place s) place) u.holds)
+    → IsActive scene p kept (λ n s. is_spanned_at (from_place s) (to_place s) place) at
+list_at scene p arc kept shown start place before sectors group active at station g u taken =
+    held_within scene p arc kept shown start place group at station.walls g
+    (taken kept (λ n s. is_held_at start (from_place s) (to_place s) place) u.holds)
 
-pub list_after : (scene : Scene) (p : Point) (arc : Arc) (start place : ℕ) (group : List ℕ) (at after : List Blocker)
-    → IsStation scene p → IsGroup scene p arc place group
-    → IsActive scene p all_kept (λ n s. is_spanned_at (from_place s) (to_place s) place) at
-    → PutsIn scene p group at after
-    → IsActive scene p all_kept (λ n s. is_open_at (from_place s) (to_place s) (place + 1)) after
-list_after scene p arc start place group at after station g held put =
+pub list_after : (scene : Scene) (p : Point) (arc : Arc) (kept shown : ℕ → Bool) (start place : ℕ) (group : List ℕ)
+    (at after : List Blocker)
+    → IsStation scene p → IsGroup scene p arc kept shown place group
+    → IsActive scene p kept (λ n s. is_spanned_at (from_place s) (to_place s) place) at
+    → PutsIn scene p kept group at after
+    → IsActive scene p kept (λ n s. is_open_at (from_place s) (to_place s) (place + 1)) after
+list_after scene p arc kept shown start place group at after station g held put =
     let e = g.each 0 0 g.some in
     let v = way_at p scene.corners (corner_of (get_or group 0 0)) in
     let v_in = station.ways (corner_of (get_or group 0 0)) e.within in
     let v_place : place_of v ≡ place = sym e.place ∙ g.places 0 0 g.some in
-    held_next scene p arc start place group after station.walls g
+    held_next scene p arc kept shown start place group after station.walls g
     (put (λ n s. is_spanned_at (from_place s) (to_place s) place) (just_after v) held
-    (spanned_next scene p v place station.walls v_in e.directed v_place)
-    (begun_next scene p v arc place group station.walls g v_in e.directed v_place))
+    (spanned_next scene p v kept place station.walls v_in e.directed v_place)
+    (begun_next scene p v arc kept shown place group station.walls g v_in e.directed v_place))
 
-pub pass_silently : (scene : Scene) (p : Point) (arc : Arc) (start place : ℕ) (before : Option Front)
+pub pass_silently : (scene : Scene) (p : Point) (arc : Arc) (kept shown : ℕ → Bool) (start place : ℕ)
+    (before : Option Front)
     (sectors : List Sector) (group : List ℕ) (active at after : List Blocker) → IsStation scene p
-    → IsGroup scene p arc place group → IsUnderway scene p arc start before sectors place active
-    → TakesOut scene p group active at → PutsIn scene p group at after
+    → AreLeftOut scene p arc kept shown
+    → IsGroup scene p arc kept shown place group → IsUnderway scene p arc kept start before sectors place active
+    → TakesOut scene p group active at → PutsIn scene p kept group at after
     → number_in (option_map front (first_of active)) ≡ number_in (option_map front (first_of at))
     → number_in (option_map front (first_of at)) ≡ number_in (option_map front (first_of after))
     → All (λ e. is_past (first_of at) (way_at p scene.corners (corner_of e)) ≡ true) group
-    → IsUnderway scene p arc start before sectors (place + 1) after
-pass_silently scene p arc start place before sectors group active at after station g u taken put same same_after past =
-    let held_at = list_at scene p arc start place before sectors group active at station g u taken in
-    passed_without_sector scene p arc start place before sectors group active at after station.walls station.ways g u
+    → IsUnderway scene p arc kept start before sectors (place + 1) after
+pass_silently scene p arc kept shown start place before sectors group active at after station left g u taken put same
+    same_after past =
+    let held_at = list_at scene p arc kept shown start place before sectors group active at station g u taken in
+    passed_without_sector scene p arc kept shown start place before sectors group active at after station.walls
+    station.ways left g u
     held_at
-    (list_after scene p arc start place group at after station g held_at put) same same_after past
+    (list_after scene p arc kept shown start place group at after station g held_at put) same same_after past
 
 -- what a sector tells of a group
 pub record TellsOf (scene : Scene) (p : Point) (group : List ℕ) (at after : List Blocker) (s : Sector) : Type 0 where
@@ -506,21 +573,25 @@ pub record TellsOf (scene : Scene) (p : Point) (group : List ℕ) (at after : Li
   pub ahead : s.ahead ≡ least_from (leads_ahead p scene.corners) (far_of p scene.corners) None group
   pub behind : s.behind ≡ least_from (leads_behind p scene.corners) (far_of p scene.corners) None group
 
-pub pass_telling : (scene : Scene) (p : Point) (arc : Arc) (start place : ℕ) (before : Option Front)
+pub pass_telling : (scene : Scene) (p : Point) (arc : Arc) (kept shown : ℕ → Bool) (start place : ℕ)
+    (before : Option Front)
     (sectors : List Sector) (s : Sector) (group : List ℕ) (active at after : List Blocker) → IsStation scene p
-    → IsGroup scene p arc place group → IsUnderway scene p arc start before sectors place active
-    → TakesOut scene p group active at → PutsIn scene p group at after → TellsOf scene p group at after s
-    → IsUnderway scene p arc start before (sectors ++ s ∷ []) (place + 1) after
-pass_telling scene p arc start place before sectors s group active at after station g u taken put tells =
-    let held_at = list_at scene p arc start place before sectors group active at station g u taken in
-    let held_after = list_after scene p arc start place group at after station g held_at put in
+    → AreLeftOut scene p arc kept shown
+    → IsGroup scene p arc kept shown place group → IsUnderway scene p arc kept start before sectors place active
+    → TakesOut scene p group active at → PutsIn scene p kept group at after → TellsOf scene p group at after s
+    → IsUnderway scene p arc kept start before (sectors ++ s ∷ []) (place + 1) after
+pass_telling scene p arc kept shown start place before sectors s group active at after station left g u taken put
+    tells =
+    let held_at = list_at scene p arc kept shown start place before sectors group active at station g u taken in
+    let held_after = list_after scene p arc kept shown start place group at after station g held_at put in
     let e = g.each 0 0 g.some in
     let own : s.place ≡ place = tells.place ∙ g.places 0 0 g.some in
-    subst (λ n. IsUnderway scene p arc start before (sectors ++ s ∷ []) (n + 1) after) own
-    (passed_with_sector scene p arc start before sectors s group active at after station.walls station.ways
-    (subst (λ n. IsGroup scene p arc n group) (sym own) g)
-    (subst (λ n. IsUnderway scene p arc start before sectors n active) (sym own) u)
-    (subst (λ n. IsActive scene p all_kept (λ m t. is_spanned_at (from_place t) (to_place t) n) at) (sym own) held_at)
-    (subst (λ n. IsActive scene p all_kept (λ m t. is_open_at (from_place t) (to_place t) (n + 1)) after)
+    subst (λ n. IsUnderway scene p arc kept start before (sectors ++ s ∷ []) (n + 1) after) own
+    (passed_with_sector scene p arc kept shown start before sectors s group active at after station.walls station.ways
+    left
+    (subst (λ n. IsGroup scene p arc kept shown n group) (sym own) g)
+    (subst (λ n. IsUnderway scene p arc kept start before sectors n active) (sym own) u)
+    (subst (λ n. IsActive scene p kept (λ m t. is_spanned_at (from_place t) (to_place t) n) at) (sym own) held_at)
+    (subst (λ n. IsActive scene p kept (λ m t. is_open_at (from_place t) (to_place t) (n + 1)) after)
     (sym own) held_after)
     tells.on tells.next (ap place_of tells.way ∙ sym e.place ∙ sym tells.place) tells.ahead tells.behind)

@@ -10,7 +10,7 @@ use Rattle.sight_core.proofs.Seen.{corners-in_range}
 use Rattle.sight_core.proofs.Counts.{few_corners}
 use Rattle.front_laws.specs.Seen.{Seen, seen_at}
 use Rattle.sweep_laws.specs.Groups.{no_corner}
-use Rattle.station_laws.specs.Grounds as grounds
+use Rattle.station_laws.specs.Grounds.{HasCornerAt, IsGroundOf}
 use Rattle.station_laws.proofs.Ranges.{walls_of_sound}
 use Rattle.station_laws.proofs.Ends.{corners_at_ends}
 use Rattle.round_laws.specs.Rounds.{AreWalls}
@@ -18,7 +18,7 @@ use Rattle.sweep_laws.specs.Parts.{begins_blocked}
 use Rattle.view_laws.specs.declared.view.Ground.{Ground}
 use Rattle.view_laws.specs.Views.{is_led_into}
 use Rattle.station_laws.proofs.Law.{ground_decides}
-use Rattle.sight_sweep.specs.Stations.{HasCornerAt, IsStation}
+use Rattle.sight_sweep.specs.Stations.{IsStation}
 
 vector_in : (p x : Point) → InRange p → InRange x → IsDirection (vector p x)
 vector_in p x p_in x_in = record { x = between p.x x.x p_in.x x_in.x; y = between p.y x.y p_in.y x_in.y }
@@ -31,10 +31,7 @@ station_of scene p of p_in = record {
   walls = subst (λ t. AreWalls t p) (sym of.seen) (walls_of_sound of.plan p of.sound p_in);
   corners = subst (λ t. (n : ℕ) (s : Seen) → n < length (blockers_of_scene t) → seen_at p (blockers_of_scene t) n
       ≡ Some s → HasCornerAt p t.corners s.from × HasCornerAt p t.corners s.to) (sym of.seen)
-      (λ n s within is. let two = corners_at_ends of.plan p n s within is in (
-        record { number = two.0.number; within = two.0.within; there = two.0.there },
-        record { number = two.1.number; within = two.1.within; there = two.1.there },
-      ));
+      (corners_at_ends of.plan p);
   few = few_corners scene of;
   ways = λ k lt. vector_in p (get_or scene.corners k no_corner).here p_in
       ((corners-in_range scene of) k no_corner lt).here;
@@ -42,7 +39,7 @@ station_of scene p of p_in = record {
 
 -- what the station stands on decides which directions begin blocked
 pub ground_tells : (scene : Scene) (p d : Point) (under : Ground) → IsOfSoundPlan scene
-    → grounds.IsGroundOf scene p under
+    → IsGroundOf scene p under
     → begins_blocked scene p d ≡ is_led_into under d
 ground_tells scene p d under of g = subst (λ t. begins_blocked t p d ≡ is_led_into under d) (sym of.seen)
-    (ground_decides of.plan p d under of.sound (subst (λ t. grounds.IsGroundOf t p under) of.seen g))
+    (ground_decides of.plan p d under of.sound (subst (λ t. IsGroundOf t p under) of.seen g))

@@ -1,5 +1,5 @@
 -- The corners of an arc, in the order of their directions.
-use Rattle.std.specs.Prelude.{ℕ, ◌<◌, ◌+◌, ◌*◌, ◌/◌, ◌%◌, ◌≡◌, true, List, length, All}
+use Rattle.std.specs.Prelude.{ℕ, ◌<◌, ◌+◌, ◌*◌, ◌/◌, ◌%◌, ◌≡◌, Bool, true, List, length, All}
 use Rattle.std.specs.List.{Contains}
 use Rattle.std.specs.List.Sorted.{IsNonDecreasing}
 use Rattle.std.proofs.Common.{get_or}
@@ -30,20 +30,23 @@ pub record IsEvent (corners : List Corner) (p : Point) (arc : Arc) (event : ℕ)
   pub in_arc : is_in_arc arc (way_at p corners (corner_of event)) ≡ true
   pub place : place_at event ≡ place_of (way_at p corners (corner_of event))
 
--- each of the first so many corners that is in the arc has its event
-abbrev pub HasAll : List Corner → Point → Arc → ℕ → List ℕ → Type 0
-HasAll corners p arc count events = (k : ℕ) → k < count → k < length corners → IsDirected (way_at p corners k)
-    → is_in_arc arc (way_at p corners k) ≡ true
+-- each of the first so many corners that is in the arc and shown has its event
+abbrev pub HasAll : List Corner → Point → Arc → (ℕ → Bool) → ℕ → List ℕ → Type 0
+HasAll corners p arc shown count events = (k : ℕ) → k < count → k < length corners → shown k ≡ true
+    → IsDirected (way_at p corners k) → is_in_arc arc (way_at p corners k) ≡ true
     → Contains events (place_of (way_at p corners k) * 2048 + k)
 
--- events of corners, among them those of the first so many corners that are in the arc
-pub record AreFirstEvents (corners : List Corner) (p : Point) (arc : Arc) (count : ℕ) (events : List ℕ) : Type 0 where
+-- events of corners, among them those of the first so many corners that are in the arc and shown
+pub record AreFirstEvents (corners : List Corner) (p : Point) (arc : Arc) (shown : ℕ → Bool) (count : ℕ)
+    (events : List ℕ) : Type 0 where
   pub each : All (IsEvent corners p arc) events
-  pub all : HasAll corners p arc count events
+  pub all : HasAll corners p arc shown count events
 
--- all corners of the arc, in the order of their directions
-pub record AreEvents (corners : List Corner) (p : Point) (arc : Arc) (events : List ℕ) : Type 0 where
+-- corners of the arc, among them all that are shown, in the order of their directions
+pub record AreEvents (corners : List Corner) (p : Point) (arc : Arc) (shown : ℕ → Bool) (events : List ℕ)
+    : Type 0 where
   pub sorted : IsNonDecreasing events
   pub each : All (IsEvent corners p arc) events
-  pub all : (k : ℕ) → k < length corners → IsDirected (way_at p corners k) → is_in_arc arc (way_at p corners k) ≡ true
+  pub all : (k : ℕ) → k < length corners → shown k ≡ true → IsDirected (way_at p corners k)
+      → is_in_arc arc (way_at p corners k) ≡ true
       → Contains events (place_of (way_at p corners k) * 2048 + k)

@@ -3,6 +3,7 @@ pub mod Actives
 pub mod Events
 pub mod Tables
 pub mod Rounds
+pub mod LeftOut
 pub mod Arcs
 pub mod Stations
 pub mod Answers

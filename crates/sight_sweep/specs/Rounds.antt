@@ -1,11 +1,11 @@
 -- The round, between two groups of corners and within one.
-use Rattle.std.specs.Prelude.{ℕ, ◌<◌, ◌≤◌, ◌==◌, ◌≡◌, Bool, true, false, ◌&&◌, not, nat_lt, if◌then◌else◌}
+use Rattle.std.specs.Prelude.{ℕ, ◌<◌, ◌≤◌, ◌==◌, ◌≡◌, Bool, true, false, ◌&&◌, ◌||◌, not, nat_lt, if◌then◌else◌}
 use Rattle.std.specs.Prelude.{int_lt, pos, List, [], ◌∷◌, map, length, Option, Some, None, All}
 use Rattle.std.specs.List.{list_any}
 use Rattle.std.proofs.Common.{get_or}
 use Rattle.plane_spec.specs.declared.Point.{Point}
 use Rattle.plane_spec.specs.declared.Corner.{Corner}
-use Rattle.plane_spec.specs.Vectors.{same_point, IsDirected}
+use Rattle.plane_spec.specs.Vectors.{same_point, turns_left, IsDirected}
 use Rattle.plane_spec.specs.Cones.{is_in_cone}
 use Rattle.sight_spec.specs.Scene.{Scene, blockers_of_scene}
 use Rattle.sweep_laws.specs.Groups.{no_corner, back_of}
@@ -22,27 +22,23 @@ use Rattle.sight_sweep.specs.Actives.{seen, numbered, IsActive}
 use Rattle.sight_sweep.specs.Arcs.{start_place, end_place}
 use Rattle.sight_sweep.specs.Events.{way_at, corner_of, place_at, IsEvent}
 
--- nothing is left out
-abbrev pub all_kept : ℕ → Bool
-all_kept n = true
-
 -- open just before the place; at the start what ends there isn't with it
 abbrev pub is_held_at : ℕ → ℕ → ℕ → ℕ → Bool
 is_held_at start from to place = is_open_at from to place && not ((to == start) && (place == start))
 
 -- all below the place is told, and the list holds what is open there
-pub record IsUnderway (scene : Scene) (p : Point) (arc : Arc) (start : ℕ) (before : Option Front)
+pub record IsUnderway (scene : Scene) (p : Point) (arc : Arc) (kept : ℕ → Bool) (start : ℕ) (before : Option Front)
     (sectors : List Sector) (place : ℕ) (active : List Blocker) : Type 0 where
   pub radials : AreRadialsBelow scene p arc before sectors place (map numbered active)
-  pub holds : IsActive scene p all_kept (λ n s. is_held_at start (from_place s) (to_place s) place) active
+  pub holds : IsActive scene p kept (λ n s. is_held_at start (from_place s) (to_place s) place) active
   pub ways : All (λ s. place_of s.way ≡ s.place) sectors
   pub since : start ≤ place
 
 -- where the loop stands: all below a place is told, and the next group begins at `from`
-pub record IsGoing (scene : Scene) (p : Point) (arc : Arc) (before : Option Front) (sectors : List Sector)
-    (events : List ℕ) (from k : ℕ) (active : List Blocker) : Type 0 where
+pub record IsGoing (scene : Scene) (p : Point) (arc : Arc) (kept : ℕ → Bool) (before : Option Front)
+    (sectors : List Sector) (events : List ℕ) (from k : ℕ) (active : List Blocker) : Type 0 where
   pub place : ℕ
-  pub underway : IsUnderway scene p arc (start_place arc) before sectors place active
+  pub underway : IsUnderway scene p arc kept (start_place arc) before sectors place active
   pub last : place ≤ end_place arc
   pub order : from ≤ k
   pub passed : (i : ℕ) → i < from → place_at (get_or events i 0) < place
@@ -61,16 +57,18 @@ ends_among p corners events s = list_any (λ e. same_point s.to (way_at p corner
 abbrev pub begins_among : Point → List Corner → List ℕ → Seen → Bool
 begins_among p corners events s = list_any (λ e. same_point s.from (way_at p corners (corner_of e))) events
 
--- the events are all corners of the arc at the place
-pub record IsGroup (scene : Scene) (p : Point) (arc : Arc) (place : ℕ) (group : List ℕ) : Type 0 where
+-- the events are all corners of the arc at the place that are shown, and what is kept ends and begins there at them
+pub record IsGroup (scene : Scene) (p : Point) (arc : Arc) (kept shown : ℕ → Bool) (place : ℕ) (group : List ℕ)
+    : Type 0 where
   pub some : 0 < length group
   pub each : All (IsEvent scene.corners p arc) group
   pub places : All (λ e. place_at e ≡ place) group
-  pub ends : (n : ℕ) (s : Seen) → n < length (blockers_of_scene scene) → seen_at p (blockers_of_scene scene) n
-      ≡ Some s → to_place s ≡ place → ends_among p scene.corners group s ≡ true
-  pub begins : (n : ℕ) (s : Seen) → n < length (blockers_of_scene scene) → seen_at p (blockers_of_scene scene) n
-      ≡ Some s → from_place s ≡ place → begins_among p scene.corners group s ≡ true
-  pub corners : (k : ℕ) → k < length scene.corners → IsDirected (way_at p scene.corners k)
+  pub ends : (n : ℕ) (s : Seen) → n < length (blockers_of_scene scene) → kept n ≡ true
+      → seen_at p (blockers_of_scene scene) n ≡ Some s → to_place s ≡ place → ends_among p scene.corners group s ≡ true
+  pub begins : (n : ℕ) (s : Seen) → n < length (blockers_of_scene scene) → kept n ≡ true
+      → seen_at p (blockers_of_scene scene) n ≡ Some s → from_place s ≡ place
+      → begins_among p scene.corners group s ≡ true
+  pub corners : (k : ℕ) → k < length scene.corners → shown k ≡ true → IsDirected (way_at p scene.corners k)
       → place_of (way_at p scene.corners k) ≡ place
       → list_any (λ e. corner_of e == k) group ≡ true
 
@@ -108,6 +106,10 @@ is_past (Some b) v = int_lt (side_of (seen b) v) (pos 0)
 abbrev pub number_in : Option Front → Option ℕ
 number_in None = None
 number_in (Some f) = Some f.number
+
+-- both vectors lead to the left of the direction, or both to its right
+abbrev pub are_beside : Point → Point → Point → Bool
+are_beside d a b = (turns_left d a && turns_left d b) || (turns_left a d && turns_left b d)
 
 -- the direction spans it, and its number is below
 abbrev pub spanned_so_far : Point → ℕ → ℕ → Seen → Bool

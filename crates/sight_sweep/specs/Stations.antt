@@ -1,18 +1,12 @@
 -- What is so of a station in a sound plan.
-use Rattle.std.specs.Prelude.{ℕ, ◌<◌, ◌≤◌, ◌≡◌, List, length, Some}
+use Rattle.std.specs.Prelude.{ℕ, ◌<◌, ◌≤◌, ◌≡◌, length, Some}
 use Rattle.plane_spec.specs.declared.Point.{Point}
-use Rattle.plane_spec.specs.declared.Corner.{Corner}
 use Rattle.plane_spec.specs.Vectors.{IsDirection}
 use Rattle.sight_spec.specs.Scene.{Scene, blockers_of_scene}
 use Rattle.front_laws.specs.Seen.{Seen, seen_at}
 use Rattle.round_laws.specs.Rounds.{AreWalls}
+use Rattle.station_laws.specs.Grounds.{HasCornerAt}
 use Rattle.sight_sweep.specs.Events.{way_at}
-
--- a corner stands where the vector leads from p
-pub record HasCornerAt (p : Point) (corners : List Corner) (v : Point) : Type 0 where
-  pub number : ℕ
-  pub within : number < length corners
-  pub there : way_at p corners number ≡ v
 
 -- its walls and screens are blockers, at both ends of each is a corner, and each corner is in a direction of a plan
 pub record IsStation (scene : Scene) (p : Point) : Type 0 where

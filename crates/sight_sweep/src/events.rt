@@ -6,8 +6,10 @@ ghost use Rattle.sight_core.specs.Scenes.{IsOfSoundPlan};
 ghost use Rattle.view_laws.specs.Views as views;
 ghost use Rattle.sight_sweep.specs.Arcs.{IsArc};
 ghost use Rattle.sight_sweep.specs.Events.{AreEvents, AreFirstEvents};
+ghost use Rattle.sight_sweep.specs.LeftOut.{is_set};
 
 use crate::arcs::is_in_arc;
+use crate::flags::is_set;
 use crate::places::place_of;
 use crate::products::is_directed;
 use crate::push::{push, with_room};
@@ -51,10 +53,11 @@ fn is_way_in(arc: Arc, way: Point) -> bool
     is_directed(way) && is_in_arc(arc, way)
 }
 
-/// Lists the corner of the number, if it is in the arc.
+/// Lists the corner of the number, if it is shown and in the arc.
 fn push_if_in_arc(
     events: &mut Vec<u64>,
     table: &SceneTable,
+    shown: &[bool],
     p: Point,
     arc: Arc,
     number: usize,
@@ -63,9 +66,12 @@ fn push_if_in_arc(
     requires few { length table.now.corners ≤ 1024 }
     requires arc { IsArc arc }
     requires within { number < length table.now.corners }
-    ensures { AreFirstEvents table.now.corners p arc number events.old.items
-        → IfOk result (λ u. AreFirstEvents table.now.corners p arc (number + 1) events.new.items) }
+    ensures { AreFirstEvents table.now.corners p arc (is_set shown.now) number events.old.items
+        → IfOk result (λ u. AreFirstEvents table.now.corners p arc (is_set shown.now) (number + 1) events.new.items) }
 {
+    if !is_set(shown, number) {
+        return Ok(());
+    }
     let way = table.way(p, number);
     if !is_way_in(arc, way) {
         return Ok(());
@@ -73,40 +79,42 @@ fn push_if_in_arc(
     push(events, event(place_of(way), number))
 }
 
-/// The corners of the arc, in their own order.
+/// The corners of the arc that are shown, in their own order.
 fn corner_events(
     alloc: Global,
     table: &SceneTable,
+    shown: &[bool],
     p: Point,
     arc: Arc,
 ) -> Result<Vec<u64>, NoMemory>
     requires p_in { InRange p }
     requires arc { IsArc arc }
-    ensures listed { IfOk result (λ events. AreFirstEvents table.now.corners p arc
+    ensures listed { IfOk result (λ events. AreFirstEvents table.now.corners p arc (is_set shown.now)
         (length table.now.corners) events.items) }
     ensures of_plan { IsOfSoundPlan table.now }
 {
     let count = table.corners().len();
     let mut events = with_room(alloc, count)?;
     for number in 0..count {
-        push_if_in_arc(&mut events, table, p, arc, number)?;
+        push_if_in_arc(&mut events, table, shown, p, arc, number)?;
     }
     Ok(events)
 }
 
-/// The corners of the arc, in the order of their directions.
+/// The corners of the arc that are shown, in the order of their directions.
 pub(crate) fn events_of(
     alloc: Global,
     table: &SceneTable,
+    shown: &[bool],
     p: Point,
     arc: Arc,
 ) -> Result<Vec<u64>, NoMemory>
     requires p_in { InRange p }
     requires arc { IsArc arc }
-    ensures listed { IfOk result (λ events. AreEvents table.now.corners p arc events.items) }
+    ensures listed { IfOk result (λ events. AreEvents table.now.corners p arc (is_set shown.now) events.items) }
     ensures of_plan { IsOfSoundPlan table.now }
 {
-    let mut events = corner_events(alloc, table, p, arc)?;
+    let mut events = corner_events(alloc, table, shown, p, arc)?;
     events.sort_unstable();
     Ok(events)
 }

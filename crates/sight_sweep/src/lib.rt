@@ -7,7 +7,8 @@
 //! | [`look`] | the view from a station |
 //! | [`Target`], [`Answer`] | a point or a ray that is asked for, and what is answered |
 //! | [`sweep`] | answers all targets from one point |
-//! | [`sight_by`], [`Sighting`], [`Bearing`], [`bearing_between`] | whether a view sees a point, asked of many points in turn |
+//! | [`sight_by`], [`Sighting`] | whether a view sees a point, asked of many points in turn |
+//! | [`Bearing`], [`bearing_between`] | the direction to such a point with its place, made beforehand |
 //! | [`place_of`] | the place of a direction on the circle, as a number |
 //! | [`Steps`] | how many sweeps were made |
 //! | [`types_are_shared`] | all of these may be shared between threads |
@@ -24,6 +25,20 @@
 //!            \               \
 //!             p ------------- p
 //! ```
+//!
+//! What near walls hide is left out before, so that few corners are gone past. A wall or screen goes where one kept
+//! wall, its cover, has both of its ends between the directions to the cover's ends and behind the cover's line: each
+//! direction that meets it meets the cover first. A corner goes where a cover hides it and nothing ends there that is
+//! kept. What only several covers hide together stays:
+//!
+//! ```text
+//!        +--+      +--+
+//!        |A |      |B |        A is hidden whole by the cover. Of B the left wall is hidden and goes; its right wall
+//!        +--+      +--+        stays, and so do that wall's two corners.
+//!      ==============   cover
+//!
+//!             p
+//! ```
 #![tactic(auto)]
 
 mod active;
@@ -32,13 +47,19 @@ mod answers;
 mod arcs;
 mod around;
 mod bearing;
+mod bins;
 mod blocker;
 mod corners;
 mod count;
+mod covers;
 mod events;
+mod flags;
 mod grounds;
+mod hiding;
 mod hits;
+mod left_out;
 mod looking;
+mod nearest;
 mod places;
 mod products;
 mod push;

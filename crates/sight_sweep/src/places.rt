@@ -20,21 +20,21 @@ fn is_at_most_zero(z: i64) -> bool
 }
 
 /// Whether it leads to the right, and not down.
-fn is_first(d: Point) -> bool
+pub(crate) fn is_first(d: Point) -> bool
     ensures { result ≡ (int_lt (pos 0) d.x && int_le (pos 0) d.y) }
 {
     is_positive(d.x) && is_at_least_zero(d.y)
 }
 
 /// Whether it leads up, and not to the right.
-fn is_second(d: Point) -> bool
+pub(crate) fn is_second(d: Point) -> bool
     ensures { result ≡ (int_le d.x (pos 0) && int_lt (pos 0) d.y) }
 {
     is_at_most_zero(d.x) && is_positive(d.y)
 }
 
 /// Whether it leads to the left, and not up.
-fn is_third(d: Point) -> bool
+pub(crate) fn is_third(d: Point) -> bool
     ensures { result ≡ (int_lt d.x (pos 0) && int_le d.y (pos 0)) }
 {
     is_negative(d.x) && is_at_most_zero(d.y)

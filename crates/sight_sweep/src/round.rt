@@ -19,11 +19,13 @@ ghost use Rattle.sight_sweep.specs.Events.{way_at, AreEvents};
 ghost use Rattle.sight_sweep.specs.Rounds as rounds;
 ghost use Rattle.sight_sweep.specs.Rounds.{IsGroup, IsGoing, IsUnderway};
 ghost use Rattle.sight_sweep.specs.Arcs.{IsArc, start_place, end_place};
+ghost use Rattle.sight_sweep.specs.LeftOut.{is_set, AreLeftOut};
 
 use crate::active::{put_in, take_out};
 use crate::blocker::Blocker;
 use crate::corners::{ahead, behind};
 use crate::events::{corner_at, place_at};
+use crate::flags::is_set;
 use crate::products::is_negative;
 use crate::push::push;
 use crate::table::SceneTable;
@@ -62,10 +64,11 @@ fn take_ended(active: &mut Vec<Blocker>, table: &SceneTable, p: Point, corner: u
     }
 }
 
-/// Puts the wall or screen of the number in, if it begins at `v`.
+/// Puts the wall or screen of the number in, if it is kept and begins at `v`.
 fn put_if_begun(
     active: &mut Vec<Blocker>,
     table: &SceneTable,
+    kept: &[bool],
     p: Point,
     v: Point,
     number: u32,
@@ -73,14 +76,17 @@ fn put_if_begun(
     requires p_in { InRange p }
     requires station { IsStation table.now p }
     requires within { number < length (blockers_of_scene table.now) }
-    ensures put { (kept : ℕ → Bool) (test : ℕ → order.Seen → Bool) (way : Point)
-        → IsActive table.now p kept test active.old.items
-        → SpansAll table.now p kept test way
-        → ((s : order.Seen) → seen_at p (blockers_of_scene table.now) number ≡ Some s → same_point s.from v ≡ true
-        → (kept number ≡ true) × (order.spans way s ≡ true))
-        → IfOk result (λ u. IsActive table.now p kept
+    ensures put { (test : ℕ → order.Seen → Bool) (way : Point)
+        → IsActive table.now p (is_set kept.now) test active.old.items
+        → SpansAll table.now p (is_set kept.now) test way
+        → ((s : order.Seen) → is_set kept.now number ≡ true → seen_at p (blockers_of_scene table.now) number ≡ Some s
+        → same_point s.from v ≡ true → order.spans way s ≡ true)
+        → IfOk result (λ u. IsActive table.now p (is_set kept.now)
         (λ n s. test n s || ((number == n) && same_point s.from v)) active.new.items) }
 {
+    if !is_set(kept, number as usize) {
+        return Ok(());
+    }
     let Some(blocker) = table.seen(p, number) else {
         return Ok(());
     };
@@ -90,30 +96,28 @@ fn put_if_begun(
     put_in(active, blocker)
 }
 
-/// Puts in what begins at the corner.
+/// Puts in what is kept and begins at the corner.
 fn put_begun(
     active: &mut Vec<Blocker>,
     table: &SceneTable,
+    kept: &[bool],
     p: Point,
     corner: usize,
 ) -> Result<(), NoMemory>
     requires p_in { InRange p }
     requires station { IsStation table.now p }
     requires within { corner < length table.now.corners }
-    ensures put { (kept : ℕ → Bool) (test : ℕ → order.Seen → Bool) (way : Point)
-        → IsActive table.now p kept test active.old.items
-        → SpansAll table.now p kept test way
-        → SpansAll table.now p kept (λ n s. same_point s.from (way_at p table.now.corners corner)) way
-        → ((n : ℕ) (s : order.Seen) → n < length (blockers_of_scene table.now)
-        → seen_at p (blockers_of_scene table.now) n ≡ Some s → same_point s.from (way_at p table.now.corners corner)
-        ≡ true → kept n ≡ true)
-        → IfOk result (λ u. IsActive table.now p kept
+    ensures put { (test : ℕ → order.Seen → Bool) (way : Point)
+        → IsActive table.now p (is_set kept.now) test active.old.items
+        → SpansAll table.now p (is_set kept.now) test way
+        → SpansAll table.now p (is_set kept.now) (λ n s. same_point s.from (way_at p table.now.corners corner)) way
+        → IfOk result (λ u. IsActive table.now p (is_set kept.now)
         (or_begun (way_at p table.now.corners corner) test) active.new.items) }
 {
     let v = table.way(p, corner);
     let numbers = table.around(corner);
     for k in 0..numbers.len() {
-        put_if_begun(active, table, p, v, numbers[k])?;
+        put_if_begun(active, table, kept, p, v, numbers[k])?;
     }
     Ok(())
 }
@@ -208,10 +212,11 @@ fn take_all_ended(active: &mut Vec<Blocker>, table: &SceneTable, p: Point, group
     }
 }
 
-/// Puts in all that begin at the corners of the group.
+/// Puts in all that are kept and begin at the corners of the group.
 fn put_all_begun(
     active: &mut Vec<Blocker>,
     table: &SceneTable,
+    kept: &[bool],
     p: Point,
     group: &[u64],
 ) -> Result<(), NoMemory>
@@ -219,14 +224,14 @@ fn put_all_begun(
     requires station { IsStation table.now p }
     requires within { All (λ e. parts.corner_of e < length table.now.corners) group.now }
     ensures put { (test : ℕ → order.Seen → Bool) (way : Point)
-        → IsActive table.now p rounds.all_kept test active.old.items
-        → SpansAll table.now p rounds.all_kept test way
-        → SpansAll table.now p rounds.all_kept (λ n s. rounds.begins_among p table.now.corners group.now s) way
-        → IfOk result (λ u. IsActive table.now p rounds.all_kept
+        → IsActive table.now p (is_set kept.now) test active.old.items
+        → SpansAll table.now p (is_set kept.now) test way
+        → SpansAll table.now p (is_set kept.now) (λ n s. rounds.begins_among p table.now.corners group.now s) way
+        → IfOk result (λ u. IsActive table.now p (is_set kept.now)
         (λ n s. test n s || rounds.begins_among p table.now.corners group.now s) active.new.items) }
 {
     for k in 0..group.len() {
-        put_begun(active, table, p, corner_at(group[k]))?;
+        put_begun(active, table, kept, p, corner_at(group[k]))?;
     }
     Ok(())
 }
@@ -277,6 +282,7 @@ fn pass(
     active: &mut Vec<Blocker>,
     sectors: &mut Vec<Sector>,
     table: &SceneTable,
+    kept: &[bool],
     p: Point,
     group: &[u64],
 ) -> Result<(), NoMemory>
@@ -284,16 +290,18 @@ fn pass(
     requires station { IsStation table.now p }
     requires some { 0 < length group.now }
     requires within { All (λ e. parts.corner_of e < length table.now.corners) group.now }
-    ensures passed { (arc : Arc) (start : ℕ) (before : Option fronts.Front) (place : ℕ)
-        → IsGroup table.now p arc place group.now
-        → IsUnderway table.now p arc start before sectors.old.items place active.old.items
-        → IfOk result (λ u. IsUnderway table.now p arc start before sectors.new.items (place + 1) active.new.items) }
+    ensures passed { (arc : Arc) (shown : ℕ → Bool) (start : ℕ) (before : Option fronts.Front) (place : ℕ)
+        → AreLeftOut table.now p arc (is_set kept.now) shown
+        → IsGroup table.now p arc (is_set kept.now) shown place group.now
+        → IsUnderway table.now p arc (is_set kept.now) start before sectors.old.items place active.old.items
+        → IfOk result (λ u. IsUnderway table.now p arc (is_set kept.now) start before sectors.new.items (place + 1)
+        active.new.items) }
 {
     let before = first_of(active);
     take_all_ended(active, table, p, group);
     let on = first_of(active);
     let hidden = are_past(active, table, p, group);
-    put_all_begun(active, table, p, group)?;
+    put_all_begun(active, table, kept, p, group)?;
     let after = first_of(active);
     if is_silent(hidden, before, on, after) {
         return Ok(());
@@ -316,6 +324,7 @@ fn pass_if_last(
     active: &mut Vec<Blocker>,
     sectors: &mut Vec<Sector>,
     table: &SceneTable,
+    kept: &[bool],
     p: Point,
     events: &[u64],
     from: usize,
@@ -327,17 +336,18 @@ fn pass_if_last(
     requires inside { k < length events.now }
     requires within { All (λ e. parts.corner_of e < length table.now.corners) events.now }
     ensures next { IfOk result (λ next. next ≤ k + 1) }
-    ensures going { (arc : Arc) (before : Option fronts.Front) → IsArc arc
-        → AreEvents table.now.corners p arc events.now
-        → IsGoing table.now p arc before sectors.old.items events.now from k active.old.items
-        → IfOk result (λ next. IsGoing table.now p arc before sectors.new.items events.now next
+    ensures going { (arc : Arc) (shown : ℕ → Bool) (before : Option fronts.Front) → IsArc arc
+        → AreLeftOut table.now p arc (is_set kept.now) shown
+        → AreEvents table.now.corners p arc shown events.now
+        → IsGoing table.now p arc (is_set kept.now) before sectors.old.items events.now from k active.old.items
+        → IfOk result (λ next. IsGoing table.now p arc (is_set kept.now) before sectors.new.items events.now next
         (k + 1) active.new.items) }
 {
     if !is_last(events, k) {
         return Ok(from);
     }
     let group = &events[from..k + 1];
-    pass(active, sectors, table, p, group)?;
+    pass(active, sectors, table, kept, p, group)?;
     Ok(k + 1)
 }
 
@@ -346,21 +356,24 @@ pub(crate) fn go_round(
     active: &mut Vec<Blocker>,
     sectors: &mut Vec<Sector>,
     table: &SceneTable,
+    kept: &[bool],
     p: Point,
     events: &[u64],
 ) -> Result<(), NoMemory>
     requires p_in { InRange p }
     requires station { IsStation table.now p }
     requires within { All (λ e. parts.corner_of e < length table.now.corners) events.now }
-    ensures round { (arc : Arc) (before : Option fronts.Front) → IsArc arc
-        → AreEvents table.now.corners p arc events.now
-        → IsUnderway table.now p arc (start_place arc) before sectors.old.items (start_place arc) active.old.items
-        → IfOk result (λ u. IsUnderway table.now p arc (start_place arc) before sectors.new.items
+    ensures round { (arc : Arc) (shown : ℕ → Bool) (before : Option fronts.Front) → IsArc arc
+        → AreLeftOut table.now p arc (is_set kept.now) shown
+        → AreEvents table.now.corners p arc shown events.now
+        → IsUnderway table.now p arc (is_set kept.now) (start_place arc) before sectors.old.items (start_place arc)
+        active.old.items
+        → IfOk result (λ u. IsUnderway table.now p arc (is_set kept.now) (start_place arc) before sectors.new.items
         (end_place arc) active.new.items) }
 {
     let mut from = 0;
     for k in 0..events.len() {
-        from = pass_if_last(active, sectors, table, p, events, from, k)?;
+        from = pass_if_last(active, sectors, table, kept, p, events, from, k)?;
     }
     Ok(())
 }

@@ -5,6 +5,7 @@ ghost use Rattle.std.proofs.Common.{get_or};
 ghost use Rattle.plane_spec.specs.Vectors.{InRange, IsDirection, vector};
 ghost use Rattle.sight_core.specs.Scenes.{IsOfSoundPlan};
 ghost use Rattle.sight_spec.specs.Sight.{are_in_sight};
+ghost use Rattle.turn_laws.specs.Places.{place_of};
 ghost use Rattle.view_laws.specs.declared.view.Sector.{Sector};
 ghost use Rattle.view_laws.specs.Views as views;
 ghost use Rattle.view_laws.specs.Views.{AreInOrder, is_in_arc, radial_by};
@@ -102,8 +103,8 @@ pub struct Sighting {
 }
 
 /// What a view from `p` tells of a point in its arc: whether it is seen. The answer doesn't hang on the bearing nor on
-/// `near`, but comes sooner where the bearing is that of the point's direction, and `near` that of an answer for a point
-/// beside it.
+/// `near`, but comes sooner where the bearing is that of the point's direction, and `near` that of an answer for a
+/// point beside it. It also gives the `near` of this point: how many sectors have a place up to that of its direction.
 ///
 /// Cost: constant where both are so, and otherwise a division and a search in the sectors.
 pub fn sight_by(
@@ -120,7 +121,8 @@ pub fn sight_by(
     requires view { IsSeenFrom table.now p arc view.now }
     requires other { IsOther p q }
     requires in_arc { is_in_arc arc (vector p q) ≡ true }
-    ensures { result.is_seen ≡ are_in_sight table.now p q }
+    ensures seen { result.is_seen ≡ are_in_sight table.now p q }
+    ensures near { IsCount view.now.sectors.items (place_of (vector p q)) result.near }
 {
     let d = way_between(p, q);
     let place = place_by(bearing, d);

@@ -9,7 +9,7 @@ ghost use Rattle.plane_spec.specs.Vectors.{InRange, IsDirection};
 ghost use Rattle.plan_spec.specs.declared.limits.TheConstants.{MAX_CORNERS};
 ghost use Rattle.sight_core.specs.Scenes.{IsOfSoundPlan};
 ghost use Rattle.sight_spec.specs.Scene.{blockers_of_scene};
-ghost use Rattle.front_laws.specs.Seen.{seen_at};
+ghost use Rattle.front_laws.specs.Seen.{nowhere, seen_at};
 ghost use Rattle.sweep_laws.specs.Groups.{no_corner};
 ghost use Rattle.sight_sweep.specs.Actives.{seen, IsOf};
 ghost use Rattle.sight_sweep.specs.Events as parts;
@@ -103,6 +103,15 @@ impl SceneTable {
     {
         let range = self.ranges[corner];
         &self.numbers[range.from..range.upto]
+    }
+
+    /// The wall or screen of the number.
+    pub(crate) fn line(&self, number: u32) -> Wall
+        requires within { number < length (blockers_of_scene self.now) }
+        ensures line { result ≡ get_or (blockers_of_scene self.now) number nowhere }
+        ensures in_range { IsSegmentInRange result }
+    {
+        self.lines[number as usize]
     }
 
     /// The wall or screen of the number as it is seen from `p`, or `None` where it is in line with `p`.

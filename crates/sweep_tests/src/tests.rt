@@ -207,3 +207,26 @@ fn answers_are_those_of_the_plain_calls(rt: HostRuntime) {
     sees_as_plain(&rt, alloc, &mixed, &stations);
     reaches_as_plain(&rt, alloc, &mixed, &stations);
 }
+
+/// Boxes and a screen that a long box hides, whole or in part, from stations near it and round it.
+#[test]
+fn what_a_box_hides_changes_no_answer(rt: HostRuntime) {
+    let alloc = rt.alloc();
+    let boxes = [
+        (at(1, 3), at(9, 4)),
+        (at(4, 6), at(6, 8)),
+        (at(2, 5), at(3, 9)),
+    ];
+    let behind = scene(&rt, alloc, &boxes, &[(at(7, 6), at(8, 8))]);
+    let stations = [
+        at(5, 2),
+        at(5, 1),
+        at(1, 3),
+        at(0, 2),
+        at(9, 9),
+        at(5, 4),
+        at(5, 7),
+    ];
+    sees_as_plain(&rt, alloc, &behind, &stations);
+    reaches_as_plain(&rt, alloc, &behind, &stations);
+}

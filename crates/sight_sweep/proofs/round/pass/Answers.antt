@@ -3,6 +3,7 @@ use Rattle.std.specs.Prelude.{true, All}
 use Rattle.std.specs.Option.{option_map}
 use Rattle.sight_sweep.specs.Actives.{first_of, front}
 use Rattle.sight_sweep.specs.Events.{way_at, corner_of}
+use Rattle.sight_sweep.specs.LeftOut.{is_set}
 use Rattle.sight_sweep.specs.Rounds.{number_in, is_past, IsUnderway}
 use Rattle.sight_sweep.proofs.Passing.{pass_silently, pass_telling}
 use Rattle.std.proofs.lemmas.Result.{on_ok_weaker}
@@ -10,13 +11,14 @@ use Rattle.sight_sweep.proofs.round.pass.Goals as goal
 
 pub returns-then-is_silent : goal.returns-then-is_silent
 returns-then-is_silent c = record {
-  passed = λ arc start before place g u.
+  passed = λ arc shown start before place left g u.
       let was = c.first_of-before.ensures ∙ ap (λ xs. option_map front (first_of xs)) c.deref.ensures.value in
       let on = c.first_of-on.ensures ∙ ap (λ xs. option_map front (first_of xs)) c.deref-2.ensures.value in
       let next = c.first_of-after.ensures ∙ ap (λ xs. option_map front (first_of xs)) c.deref-4.ensures.value in
-      pass_silently c.args.table.now c.args.p arc start place before c.args.sectors.now.items c.args.group.now
+      pass_silently c.args.table.now c.args.p arc (is_set c.args.kept.now) shown start place before
+      c.args.sectors.now.items c.args.group.now
       c.args.active.now.items c.take_all_ended.new.active.items c.put_all_begun.new.active.items
-      c.requires.station g u c.take_all_ended.ensures.taken
+      c.requires.station left g u c.take_all_ended.ensures.taken
       (λ test way a old new. c.in_ok-put_all_begun.ensures.put test way a old new)
       (sym (ap number_in was) ∙ c.is_silent.ensures.on c.if-is_silent.true ∙ ap number_in on)
       (sym (ap number_in on) ∙ c.is_silent.ensures.after c.if-is_silent.true ∙ ap number_in next)
@@ -27,15 +29,16 @@ returns-then-is_silent c = record {
 
 pub returns : goal.returns
 returns c = record {
-  passed = λ arc start before place g u.
+  passed = λ arc shown start before place left g u.
       let on = c.first_of-on.ensures ∙ ap (λ xs. option_map front (first_of xs)) c.deref-2.ensures.value in
       let next = c.first_of-after.ensures ∙ ap (λ xs. option_map front (first_of xs)) c.deref-4.ensures.value in
       on_ok_weaker c.push.result
-      (λ items. subst (λ xs. IsUnderway c.args.table.now c.args.p arc start before xs
+      (λ items. subst (λ xs. IsUnderway c.args.table.now c.args.p arc (is_set c.args.kept.now) start before xs
       (place + 1) c.put_all_begun.new.active.items) (sym items)
-      (pass_telling c.args.table.now c.args.p arc start place before c.args.sectors.now.items c.sector_of.result
+      (pass_telling c.args.table.now c.args.p arc (is_set c.args.kept.now) shown start place before
+      c.args.sectors.now.items c.sector_of.result
       c.args.group.now c.args.active.now.items c.take_all_ended.new.active.items c.put_all_begun.new.active.items
-      c.requires.station g u c.take_all_ended.ensures.taken
+      c.requires.station left g u c.take_all_ended.ensures.taken
       (λ test way a old new. c.in_ok-put_all_begun.ensures.put test way a old new)
       (record {
         place = c.sector_of.ensures.place;

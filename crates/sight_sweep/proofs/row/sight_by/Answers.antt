@@ -1,6 +1,7 @@
 use Rattle.std.proofs.Common.{◌≡◌, ◌∙◌, sym, ap, subst}
 use Rattle.std.specs.Prelude.{true}
 use Rattle.plane_spec.specs.Vectors.{IsDirected, IsDirection}
+use Rattle.turn_laws.specs.Places.{place_of}
 use Rattle.view_laws.specs.Views.{AreInOrder, is_in_arc, is_led_into, is_seen_by, radial_of, radial_by}
 use Rattle.view_laws.proofs.Cursor.{sight_by_view}
 use Rattle.sight_sweep.specs.Told.{IsCount}
@@ -29,8 +30,15 @@ is_seen_after-requires-clause-told_in c told is =
     (subst (λ v. is_in_arc c.args.arc v ≡ true) (sym c.way_between-d.ensures.way) c.requires.in_arc)
     c.place_by-place.ensures is
 
-pub returns : goal.returns
-returns c =
+pub returns-clause-near : goal.returns-clause-near
+returns-clause-near c =
+    subst (λ n. IsCount c.args.view.now.sectors.items n c.count_near-count.result)
+    (c.place_by-place.ensures ∙ ap place_of c.way_between-d.ensures.way)
+    (subst (λ xs. IsCount xs c.place_by-place.result c.count_near-count.result) c.deref.ensures.value
+    c.count_near-count.ensures)
+
+pub returns-clause-seen : goal.returns-clause-seen
+returns-clause-seen c =
     let p = c.args.p in let view = c.args.view.now in
     let way = c.way_between-d.ensures.way in
     let d = c.way_between-d.result in

@@ -37,7 +37,7 @@ returns c =
     let plan = c.args.plan.now in
     let tested : c.args.grid.now.are_open ≡ openness_of plan (length (grid_points plan.grid)) = ap (λ g. g.are_open) c.requires.grid in
     let there_open : get_or c.args.grid.now.are_open c.args.j false ≡ true = sym c.is_open.ensures ∙ c.if-not-is_open.false in
-    let seen = rw (c.requires.scene, c.point-here.ensures.point, c.point-there.ensures.point, c.requires.grid) at c.sight_by.ensures in
+    let seen = rw (c.requires.scene, c.point-here.ensures.point, c.point-there.ensures.point, c.requires.grid) at c.sight_by.ensures.seen in
     visible_is plan c.args.grid.now.are_open c.args.i c.args.j c.sight_by.result.is_seen tested c.requires.later c.requires.j_in
     (rw (c.requires.looker_open, there_open) seen)
     ∙ sym (later_is_joined plan c.args.i c.args.j c.requires.later)
