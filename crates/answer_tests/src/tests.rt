@@ -1,7 +1,7 @@
 //! The replies to a script over a small plan, the tables of each mode, and a trial. What is expected is what an
 //! independent program prints.
 
-use dm_io::MemSink;
+use dm_io::{MemSink, NoGate};
 use options_spec::{Form, Mode};
 use plan_answers::{answer_line, put_mode, put_trial_of};
 use plan_check::check;
@@ -222,7 +222,7 @@ fn session_of(rt: &impl Abort, alloc: Global, plan: &str) -> Session {
     let Ok(plan) = check(alloc, &text.plan) else {
         panic!(rt; "the plan is accepted");
     };
-    match Session::begin(alloc, plan) {
+    match Session::begin(alloc, plan, 2) {
         Ok(session) => session,
         Err(_) => panic!(rt; "there is memory"),
     }
@@ -245,10 +245,10 @@ fn each_line_has_its_reply(rt: HostRuntime) -> Result<(), Fail> {
             alloc,
             &mut session,
             Form::Text,
-            2,
             number,
             shown,
             &mut out,
+            &NoGate,
         );
         assert!(&rt; out.bytes() == reply.as_bytes(), "{line}");
         assert!(&rt; answer == Ok(reply.starts_with("refused")), "{line}");
@@ -263,7 +263,7 @@ fn each_mode_has_its_tables(rt: HostRuntime) -> Result<(), Fail> {
     for (plan, mode, form, tables) in TABLES {
         let mut session = session_of(&rt, alloc, plan);
         let mut out = sink(alloc)?;
-        let answer = put_mode(&rt, alloc, &mut session, form, 2, mode, &mut out);
+        let answer = put_mode(&rt, alloc, &mut session, form, mode, &mut out, &NoGate);
         assert!(&rt; out.bytes() == tables.as_bytes());
         assert!(&rt; answer == Ok(false));
     }
@@ -274,7 +274,7 @@ fn each_mode_has_its_tables(rt: HostRuntime) -> Result<(), Fail> {
 fn a_trial_has_its_record(rt: HostRuntime) -> Result<(), Fail> {
     let alloc = rt.alloc();
     let mut out = sink(alloc)?;
-    assert!(&rt; put_trial_of(&rt, alloc, &mut out, Form::Csv, 2, 3).is_ok());
+    assert!(&rt; put_trial_of(&rt, alloc, &mut out, Form::Csv, 2, 3, &NoGate).is_ok());
     assert!(&rt; out.bytes() == b"trial,3,points,16,open,15,edges,65,depth,290\n".as_slice());
     Ok(())
 }

@@ -1,5 +1,5 @@
 -- The statuses: their numbers, and what each says on standard error.
-use Rattle.std.specs.Prelude.{◌≡◌, ◌⊎◌, ◌<◌, ℕ, Bool, List, Option, Some, None, if◌then◌else◌}
+use Rattle.std.specs.Prelude.{◌≡◌, ◌⊎◌, ◌+◌, ℕ, Bool, List, Option, Some, None, if◌then◌else◌}
 use Rattle.report_spec.specs.declared.reason.Reason.{Reason}
 use Rattle.report_spec.specs.Messages.{usage_message, plan_message, read_message, write_message, memory_message, length_message}
 use Rattle.dm_io.specs.Streams.{WritesPrefix, appended_to}
@@ -28,11 +28,11 @@ done_status refused = if refused then DoneWithRefusals else Done
 abbrev pub IsSilent : Option (List ℕ) → Option (List ℕ) → ℕ → ℕ → Type 0
 IsSilent before after faults faults_after = (after ≡ before) × (faults_after ≡ faults)
 
--- the message was written; or a prefix of it, and then the count of faults rose
+-- the message was written; or a prefix of it, and then standard error failed once
 abbrev pub IsSaid : Option (List ℕ) → Option (List ℕ) → ℕ → ℕ → List ℕ → Type 0
 IsSaid before after faults faults_after message =
     ((after ≡ appended_to before message) × (faults_after ≡ faults))
-    ⊎ (WritesPrefix before after message × (faults < faults_after))
+    ⊎ (WritesPrefix before after message × (faults_after ≡ faults + 1))
 
 -- the file was read to its end and holds no plan, by what is known of it and what is left; the line at fault was said with
 -- its reason

@@ -1,5 +1,5 @@
 -- What a run reads and writes: the plan's file, the script and the output.
-use Rattle.std.specs.Prelude.{◌≡◌, ◌<◌, ℕ, List, Option}
+use Rattle.std.specs.Prelude.{◌≡◌, ◌≤◌, ◌+◌, ℕ, List, Option}
 
 -- how often the files, the script and the output failed
 pub record Faults : Type 0 where
@@ -22,14 +22,21 @@ faults files script out = record { files = files; script = script; out = out }
 abbrev pub streams : Option (List ℕ) → Option (List ℕ) → Option (List ℕ) → Faults → Streams
 streams file script out counts = record { file = file; script = script; out = out; faults = counts }
 
--- the files failed, and nothing else did
+-- the files failed once, and nothing else did
 abbrev pub OnlyFilesFailed : Faults → Faults → Type 0
-OnlyFilesFailed old new = (old.files < new.files) × (new.script ≡ old.script) × (new.out ≡ old.out)
+OnlyFilesFailed old new = (new.files ≡ old.files + 1) × (new.script ≡ old.script) × (new.out ≡ old.out)
 
--- the script failed, and nothing else did
+-- the script failed once, and nothing else did
 abbrev pub OnlyScriptFailed : Faults → Faults → Type 0
-OnlyScriptFailed old new = (new.files ≡ old.files) × (old.script < new.script) × (new.out ≡ old.out)
+OnlyScriptFailed old new = (new.files ≡ old.files) × (new.script ≡ old.script + 1) × (new.out ≡ old.out)
 
--- the output failed, and nothing else did
+-- the output failed once, and nothing else did
 abbrev pub OnlyOutFailed : Faults → Faults → Type 0
-OnlyOutFailed old new = (new.files ≡ old.files) × (new.script ≡ old.script) × (old.out < new.out)
+OnlyOutFailed old new = (new.files ≡ old.files) × (new.script ≡ old.script) × (new.out ≡ old.out + 1)
+
+-- no count rose by more than one, nor did that of standard error: so a run may follow over the same streams
+pub record RoseOnceAtMost (old new : Faults) (err err_after : ℕ) : Type 0 where
+  pub files : new.files ≤ old.files + 1
+  pub script : new.script ≤ old.script + 1
+  pub out : new.out ≤ old.out + 1
+  pub said : err_after ≤ err + 1

@@ -1,6 +1,6 @@
 //! What answers the lines of a script: a session on the plan.
 
-use dm_io::Sink;
+use dm_io::{NoGate, Sink};
 use options_spec::Form;
 use plan_answers::answer_line;
 use plan_edit::Session;
@@ -9,14 +9,12 @@ use script_loop::{AnswerFault, Answerer};
 use std::alloc::Global;
 use std::thread::Threads;
 
-/// A session, and how its replies are made.
+/// A session, and how its replies are made. Workers that answer the lines of a script tell no gate.
 #[derive(Drop)]
 pub struct Desk {
     pub alloc: Global,
     pub session: Session,
     pub form: Form,
-    /// How many threads may work at once.
-    pub workers: usize,
 }
 
 impl Answerer for Desk {
@@ -40,10 +38,10 @@ impl Answerer for Desk {
             self.alloc,
             &mut self.session,
             self.form,
-            self.workers,
             number,
             line,
             out,
+            &NoGate,
         ) {
             Ok(refused) => Ok(refused),
             Err(ReportFault::Write) => Err(AnswerFault::Write),

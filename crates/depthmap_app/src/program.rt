@@ -1,10 +1,10 @@
 //! The top call.
 
 ghost use Rattle.std.specs.Prelude.{◌≡◌, ◌⊎◌, ◌≤◌, ◌<◌, ◌-◌, ◌^◌, ◌||◌, IfSome, IsTrue, List, Option, ℕ};
-ghost use Rattle.options_spec.specs.declared.options.TheConstants.{MAX_TRIAL_BOXES};
+ghost use Rattle.options_spec.specs.declared.options.TheConstants.{MAX_TRIAL_BOXES, MAX_WORKERS};
 ghost use Rattle.depthmap_app.specs.Ends.{Ends, EndsAnalysis, EndsJob, EndsOverPlan, EndsTrial, HasOutput, IsComplete};
 ghost use Rattle.depthmap_app.specs.Statuses.{IsSilent, Says, SaysWhy, done_status};
-ghost use Rattle.depthmap_app.specs.Streams.{faults, streams};
+ghost use Rattle.depthmap_app.specs.Streams.{RoseOnceAtMost, faults, streams};
 ghost use Rattle.depthmap_app.specs.Words.{file_of, file_of_job, known_file, options_given};
 
 use crate::desk::Desk;
@@ -36,16 +36,19 @@ fn done(refused: bool, mode_refused: bool) -> Status
 }
 
 /// Answers the script over a plan, and prints the tables of the mode over the plan that it leaves.
-fn answer_over<S: Source, O: Sink>(
+fn answer_over<S: Source, O: Sink, G: Gate>(
     rt: &(impl Threads + Sync),
     alloc: Global,
     plan: Plan,
     mode: Mode,
     form: Form,
-    workers: usize,
+    workers: u32,
     script: &mut S,
     out: &mut O,
+    gate: &G,
 ) -> Status
+    requires some_workers { 1 ≤ workers }
+    requires few_workers { workers ≤ MAX_WORKERS }
     requires script_below { S.faults script.old < 2 ^ 64 - 1 }
     requires out_below { O.faults out.old < 2 ^ 64 - 1 }
     ensures { (before after : Option (List ℕ)) (files : ℕ) →
@@ -53,14 +56,13 @@ fn answer_over<S: Source, O: Sink>(
         (streams after (S.left script.new) (O.written out.new) (faults files (S.faults script.new) (O.faults out.new)))
         result }
 {
-    let Ok(session) = Session::begin(alloc, plan) else {
+    let Ok(session) = Session::begin(alloc, plan, workers) else {
         return Status::NoMemory;
     };
     let mut desk = Desk {
         alloc,
         session,
         form,
-        workers,
     };
     let refused = match answer_script(rt, &mut desk, MAX_SCRIPT_BYTES, script, out) {
         ScriptEnd::All(refused) => refused,
@@ -69,7 +71,7 @@ fn answer_over<S: Source, O: Sink>(
         ScriptEnd::NoMemory => return Status::NoMemory,
         ScriptEnd::Over => return Status::TooLong,
     };
-    match put_mode(rt, alloc, &mut desk.session, form, workers, mode, out) {
+    match put_mode(rt, alloc, &mut desk.session, form, mode, out, gate) {
         Ok(mode_refused) => done(refused, mode_refused),
         Err(ReportFault::Write) => Status::WriteFault,
         Err(ReportFault::NoMemory) => Status::NoMemory,
@@ -77,18 +79,21 @@ fn answer_over<S: Source, O: Sink>(
 }
 
 /// Answers the script over the plan in the file of a name. Where the file holds none, it says why on `err`.
-fn analyse<F: Files, S: Source, O: Sink, E: Sink>(
+fn analyse<F: Files, S: Source, O: Sink, E: Sink, G: Gate>(
     rt: &(impl Threads + Sync),
     alloc: Global,
     name: &str,
     mode: Mode,
     form: Form,
-    workers: usize,
+    workers: u32,
     files: &mut F,
     script: &mut S,
     out: &mut O,
     err: &mut E,
+    gate: &G,
 ) -> Status
+    requires some_workers { 1 ≤ workers }
+    requires few_workers { workers ≤ MAX_WORKERS }
     requires files_below { F.faults files.old < 2 ^ 64 - 1 }
     requires script_below { S.faults script.old < 2 ^ 64 - 1 }
     requires out_below { O.faults out.old < 2 ^ 64 - 1 }
@@ -107,7 +112,7 @@ fn analyse<F: Files, S: Source, O: Sink, E: Sink>(
         ⊎ IsSilent (E.written err.old) (E.written err.new) (E.faults err.old) (E.faults err.new) }
 {
     match plan_in_file(alloc, files, name) {
-        Ok(plan) => answer_over(rt, alloc, plan, mode, form, workers, script, out),
+        Ok(plan) => answer_over(rt, alloc, plan, mode, form, workers, script, out, gate),
         Err(PlanFault::Refused { line, reason }) => {
             say_why(err, line, &reason);
             Status::BadPlan
@@ -119,14 +124,17 @@ fn analyse<F: Files, S: Source, O: Sink, E: Sink>(
 }
 
 /// Prints the record of the trial plan of so many boxes.
-fn trial<O: Sink>(
+fn trial<O: Sink, G: Gate>(
     rt: &(impl Threads + Sync),
     alloc: Global,
     boxes: u32,
     form: Form,
-    workers: usize,
+    workers: u32,
     out: &mut O,
+    gate: &G,
 ) -> Status
+    requires some_workers { 1 ≤ workers }
+    requires few_workers { workers ≤ MAX_WORKERS }
     requires out_below { O.faults out.old < 2 ^ 64 - 1 }
     requires some { 1 ≤ boxes }
     requires few { boxes ≤ MAX_TRIAL_BOXES }
@@ -135,7 +143,7 @@ fn trial<O: Sink>(
         (streams file script (O.written out.new) (faults files scripts (O.faults out.new)))
         result }
 {
-    match put_trial_of(rt, alloc, out, form, workers, boxes) {
+    match put_trial_of(rt, alloc, out, form, workers, boxes, gate) {
         Ok(()) => Status::Done,
         Err(ReportFault::Write) => Status::WriteFault,
         Err(ReportFault::NoMemory) => Status::NoMemory,
@@ -143,7 +151,7 @@ fn trial<O: Sink>(
 }
 
 /// Does what the words ask for. On `err` it says why a plan is refused, and nothing else.
-fn answer<F: Files, S: Source, O: Sink, E: Sink>(
+fn answer<F: Files, S: Source, O: Sink, E: Sink, G: Gate>(
     rt: &(impl Threads + Sync),
     alloc: Global,
     words: &[String],
@@ -151,6 +159,7 @@ fn answer<F: Files, S: Source, O: Sink, E: Sink>(
     script: &mut S,
     out: &mut O,
     err: &mut E,
+    gate: &G,
 ) -> Status
     requires files_below { F.faults files.old < 2 ^ 64 - 1 }
     requires script_below { S.faults script.old < 2 ^ 64 - 1 }
@@ -177,6 +186,7 @@ fn answer<F: Files, S: Source, O: Sink, E: Sink>(
         Ok(None) => return Status::BadWords,
         Err(_) => return Status::NoMemory,
     };
+    let workers = workers as u32;
     match job {
         Job::Analyse(mode, file) => {
             analyse(
@@ -190,9 +200,10 @@ fn answer<F: Files, S: Source, O: Sink, E: Sink>(
                 script,
                 out,
                 err,
+                gate,
             )
         }
-        Job::Trial(boxes) => trial(rt, alloc, boxes, form, workers, out),
+        Job::Trial(boxes) => trial(rt, alloc, boxes, form, workers, out, gate),
     }
 }
 
@@ -200,9 +211,10 @@ fn answer<F: Files, S: Source, O: Sink, E: Sink>(
 /// the plan that the script leaves, and says in one line on `err` why where it can't. More of the script is taken
 /// only once every line that was taken whole is answered. A trial takes nothing of the files and of the script.
 ///
-/// `words` are the command's arguments without the program's name. `rt` lends the threads. `gate` is asked nothing: no
-/// work is shared between workers row by row. Each count of faults must be able to rise, and the file's name must be one
-/// that `files` allows, as `DirFiles` allows all.
+/// `words` are the command's arguments without the program's name. `rt` lends the threads. `gate` is told each row of the
+/// visibility graph that a worker claims for the tables of the mode or for a trial; workers that answer the script tell
+/// none. Each count of faults must be able to rise, and the file's name must be one that `files` allows, as `DirFiles`
+/// allows all.
 ///
 /// The first event in the order of work decides the status: words, file, plan, the script's lines, tables. A fault of
 /// `err` changes none, nor does the number of workers.
@@ -253,8 +265,13 @@ pub fn run<F: Files, S: Source, O: Sink, E: Sink, G: Gate>(
         (streams (F.left files.new) (S.left script.new) (O.written out.new)
         (faults (F.faults files.new) (S.faults script.new) (O.faults out.new)))
         result }
+
+    // No count of faults rose by more than one, so that another run may follow over the same streams.
+    ensures once { RoseOnceAtMost (faults (F.faults files.old) (S.faults script.old) (O.faults out.old))
+        (faults (F.faults files.new) (S.faults script.new) (O.faults out.new))
+        (E.faults err.old) (E.faults err.new) }
 {
-    let status = answer(rt, alloc, words, files, script, out, err);
+    let status = answer(rt, alloc, words, files, script, out, err, gate);
     say(err, status);
     status
 }

@@ -1,9 +1,9 @@
 //! Small graphs by their edges, and worked plans with the points of their grids and with who sees whom.
 
 use exact_geom::same_point;
-use plan_check::{GridSpec, Item, Items, Plan};
+use plan_check::{GridSpec, Item, Items, Name, Plan, PlanData, Points, check};
 use plane_spec::Point;
-use small_plans::{accepted, at, named, points_of, push, scene};
+use sight_core::scene_of;
 use std::alloc::Global;
 use std::process::Abort;
 use vga_grid::{BitGraph, Grid, MAX_NODES, graph_naive, open_points};
@@ -72,22 +72,47 @@ fn graphs_have_the_edges_that_they_were_given(rt: HostRuntime) {
     );
 }
 
+fn at(x: i64, y: i64) -> Point {
+    Point { x, y }
+}
+
+fn push(rt: &impl Abort, items: &mut Items, item: Item) {
+    assert!(rt; items.push(item).is_ok());
+}
+
+fn points_of(rt: &impl Abort, alloc: Global, corners: &[(i64, i64)]) -> Points {
+    let mut points = Points::new(alloc);
+    for (x, y) in corners {
+        assert!(rt; points.push(at(*x, *y)).is_ok());
+    }
+    points
+}
+
 /// The plan of an outer polygon with a box in it, if one is given, and a grid of so many columns and rows.
 fn plan_of(
     rt: &impl Abort,
     alloc: Global,
-    outer: &[Point],
-    column: &[Point],
+    outer: &[(i64, i64)],
+    column: &[(i64, i64)],
     grid: GridSpec,
 ) -> Plan {
     let mut items = Items::new(alloc);
     push(rt, &mut items, Item::Outer(points_of(rt, alloc, outer)));
     push(rt, &mut items, Item::Grid(grid));
     if !column.is_empty() {
-        let points = points_of(rt, alloc, column);
-        push(rt, &mut items, Item::Obstacle(named(rt, b"column"), points));
+        match Name::of(b"column") {
+            Some(name) => push(
+                rt,
+                &mut items,
+                Item::Obstacle(name, points_of(rt, alloc, column)),
+            ),
+            None => panic!(rt; "a word is a name"),
+        }
     }
-    accepted(rt, alloc, items)
+    match check(alloc, &PlanData { items }) {
+        Ok(plan) => plan,
+        Err(_) => panic!(rt; "the plan is accepted"),
+    }
 }
 
 /// The grid's points have the numbers that they are found under, but for (1,1), at which none stands.
@@ -105,7 +130,11 @@ fn has_numbers(rt: &impl Abort, plan: &Plan, count: u32, last: Point) {
 
 /// The plan's visibility graph has these edges, and so many points are open.
 fn is_seen(rt: &impl Abort, alloc: Global, plan: &Plan, open: u32, edges: &[(u32, u32)]) {
-    match graph_naive(alloc, plan, &scene(rt, alloc, plan)) {
+    let scene = match scene_of(alloc, plan) {
+        Ok(scene) => scene,
+        Err(_) => panic!(rt; "there is memory"),
+    };
+    match graph_naive(alloc, plan, &scene) {
         Ok(graph) => has_edges(rt, &graph, edges),
         Err(_) => panic!(rt; "there is memory"),
     }
@@ -130,8 +159,8 @@ fn grid_of(step: i64, x0: i64, y0: i64, cols: i64, rows: i64) -> GridSpec {
 #[test]
 fn worked_plans_are_seen(rt: HostRuntime) {
     let alloc = rt.alloc();
-    let outer = [at(0, 0), at(10, 0), at(10, 10), at(0, 10)];
-    let column = [at(4, 4), at(6, 4), at(6, 6), at(4, 6)];
+    let outer = [(0, 0), (10, 0), (10, 10), (0, 10)];
+    let column = [(4, 4), (6, 4), (6, 6), (4, 6)];
 
     let corners = plan_of(&rt, alloc, &outer, &[], grid_of(10, 0, 0, 2, 2));
     has_numbers(&rt, &corners, 4, at(10, 10));
@@ -179,16 +208,16 @@ fn worked_plans_are_seen(rt: HostRuntime) {
     );
 
     let flat = [
-        at(0, 0),
-        at(1000, 0),
-        at(1000, 600),
-        at(510, 600),
-        at(510, 200),
-        at(490, 200),
-        at(490, 600),
-        at(0, 600),
+        (0, 0),
+        (1000, 0),
+        (1000, 600),
+        (510, 600),
+        (510, 200),
+        (490, 200),
+        (490, 600),
+        (0, 600),
     ];
-    let pillar = [at(240, 280), at(260, 280), at(260, 320), at(240, 320)];
+    let pillar = [(240, 280), (260, 280), (260, 320), (240, 320)];
     let rooms = plan_of(&rt, alloc, &flat, &pillar, grid_of(500, 250, 50, 2, 2));
     has_numbers(&rt, &rooms, 4, at(750, 550));
     is_seen(&rt, alloc, &rooms, 4, &[(0, 1), (1, 3)]);

@@ -1,11 +1,83 @@
 //! Small plans, with the triangles that are seen in them.
 
+ghost use Rattle.std.specs.Prelude.{◌≡◌};
+ghost use Rattle.plane_spec.specs.Vectors.{InRange};
+ghost use Rattle.sight_spec.specs.Scene as scenes;
+
+use exact_geom::in_range;
 use isovist_core::{IsovistFault, Triangle, isovist, isovist_totals};
-use plan_check::Plan;
+use plan_check::{Item, Items, Name, Plan, PlanData, Points, check};
 use plane_spec::Point;
-use small_plans::{at, known, room, scene};
+use sight_core::{Scene, scene_of};
 use std::alloc::Global;
 use std::process::Abort;
+
+fn at(x: i64, y: i64) -> Point
+    ensures { result ≡ record { x = x; y = y } }
+{
+    Point { x, y }
+}
+
+/// The point, which the test knows to be in range.
+fn known(rt: &impl Abort, p: Point) -> Point
+    ensures { InRange result }
+{
+    assert!(rt; in_range(p));
+    p
+}
+
+/// The corners of a box, counterclockwise.
+fn box_points(rt: &impl Abort, alloc: Global, low: Point, high: Point) -> Points {
+    let mut list = Points::new(alloc);
+    for p in [low, at(high.x, low.y), high, at(low.x, high.y)] {
+        assert!(rt; list.push(p).is_ok());
+    }
+    list
+}
+
+fn push(rt: &impl Abort, items: &mut Items, item: Item) {
+    assert!(rt; items.push(item).is_ok());
+}
+
+fn name(rt: &impl Abort, letter: u8) -> Name {
+    match Name::of(&[letter]) {
+        Some(name) => name,
+        None => panic!(rt; "a letter is a name"),
+    }
+}
+
+/// The plan of a box, with boxes and screens in it.
+fn plan_of(
+    rt: &impl Abort,
+    alloc: Global,
+    room: (Point, Point),
+    boxes: &[(Point, Point)],
+    screens: &[(Point, Point)],
+) -> Plan {
+    let mut items = Items::new(alloc);
+    let outer = box_points(rt, alloc, room.0, room.1);
+    push(rt, &mut items, Item::Outer(outer));
+    for (low, high) in boxes {
+        let points = box_points(rt, alloc, *low, *high);
+        push(rt, &mut items, Item::Obstacle(name(rt, b'A'), points));
+    }
+    for (from, to) in screens {
+        push(rt, &mut items, Item::Screen(name(rt, b'B'), *from, *to));
+    }
+    match check(alloc, &PlanData { items }) {
+        Ok(plan) => plan,
+        Err(_) => panic!(rt; "the plan is accepted"),
+    }
+}
+
+fn scene(rt: &impl Abort, alloc: Global, plan: &Plan) -> Scene
+    ensures { result ≡ scenes.scene_of plan.now }
+{
+    match scene_of(alloc, plan) {
+        Ok(scene) => scene,
+        Err(_) => panic!(rt; "there is memory"),
+    }
+}
 
 /// The numerators and denominators of both ends and of the doubled area.
 fn parts(t: &Triangle) -> [i128; 10] {
@@ -75,8 +147,8 @@ fn is_closed(rt: &impl Abort, alloc: Global, plan: &Plan, p: Point) {
 #[test]
 fn isovists_by_hand(rt: HostRuntime) {
     let alloc = rt.alloc();
-    let (low, high) = (at(0, 0), at(10, 10));
-    let empty = room(&rt, alloc, low, high, &[], &[]);
+    let room = (at(0, 0), at(10, 10));
+    let empty = plan_of(&rt, alloc, room, &[], &[]);
     let four = [
         ([10, 1, 10, 1, 0, 1, 10, 1, 50, 1], 2),
         ([0, 1, 10, 1, 0, 1, 0, 1, 50, 1], 3),
@@ -89,7 +161,7 @@ fn isovists_by_hand(rt: HostRuntime) {
         ([10, 1, 10, 1, 0, 1, 10, 1, 100, 1], 2),
     ];
     sees(&rt, alloc, &empty, at(0, 0), &two, 200, 200);
-    let pillar = room(&rt, alloc, low, high, &[(at(4, 4), at(6, 6))], &[]);
+    let pillar = plan_of(&rt, alloc, room, &[(at(4, 4), at(6, 6))], &[]);
     let below = [
         ([10, 1, 0, 1, 10, 1, 10, 1, 50, 1], 1),
         ([10, 1, 10, 1, 15, 2, 10, 1, 25, 1], 2),
@@ -108,7 +180,7 @@ fn isovists_by_hand(rt: HostRuntime) {
     sees(&rt, alloc, &pillar, at(3, 0), &aside, 151, 153);
     is_closed(&rt, alloc, &pillar, at(5, 5));
     is_closed(&rt, alloc, &pillar, at(11, 5));
-    let screened = room(&rt, alloc, low, high, &[], &[(at(2, 5), at(8, 5))]);
+    let screened = plan_of(&rt, alloc, room, &[], &[(at(2, 5), at(8, 5))]);
     let under = [
         ([8, 1, 5, 1, 2, 1, 5, 1, 18, 1], 4),
         ([0, 1, 7, 1, 0, 1, 0, 1, 35, 1], 3),
@@ -121,11 +193,11 @@ fn isovists_by_hand(rt: HostRuntime) {
 #[test]
 fn the_largest_numbers(rt: HostRuntime) {
     let alloc = rt.alloc();
-    let plan = room(
+    let room = (at(-100000, -100000), at(100000, 100000));
+    let plan = plan_of(
         &rt,
         alloc,
-        at(-100000, -100000),
-        at(100000, 100000),
+        room,
         &[(at(-99999, 99998), at(-99998, 99999))],
         &[],
     );

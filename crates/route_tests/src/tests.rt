@@ -3,18 +3,22 @@
 ghost use Rattle.plane_spec.specs.Vectors.{IsWithin};
 ghost use Rattle.plane_spec.specs.declared.TheConstants.{MAX_COMPONENT};
 
-use plan_check::{Item, Items, Plan};
+use exact_geom::Point;
+use plan_check::{Item, Items, Name, Plan, PlanData, Points, check};
 use segment_core::{neighbours, pieces, turn, turn_depths};
-use small_plans::{accepted, at, box_points, named, push};
 use std::alloc::Global;
 use std::process::Abort;
+
+fn at(x: i64, y: i64) -> Point {
+    Point { x, y }
+}
 
 /// The turn from the first axis to a direction.
 fn turn_to(x: i64, y: i64) -> u8
     requires x_in { IsWithin MAX_COMPONENT x }
     requires y_in { IsWithin MAX_COMPONENT y }
 {
-    turn(at(1, 0), at(x, y))
+    turn(Point { x: 1, y: 0 }, Point { x, y })
 }
 
 /// Straight on, a sixteenth, a quarter, a half and three quarters of a half turn to either side, nearly all of it, and
@@ -30,18 +34,34 @@ fn worked_turns(rt: HostRuntime) {
     assert!(rt; turn_to(-1, 0) == 16);
 }
 
+fn push(rt: &impl Abort, items: &mut Items, item: Item) {
+    assert!(rt; items.push(item).is_ok());
+}
+
 /// The plan of routes, each given by its two points, in a box of side 40.
 fn plan_of(rt: &impl Abort, alloc: Global, routes: &[(i64, i64, i64, i64)]) -> Plan {
+    let mut outer = Points::new(alloc);
+    for (x, y) in [(-20, -20), (20, -20), (20, 20), (-20, 20)] {
+        assert!(rt; outer.push(at(x, y)).is_ok());
+    }
     let mut items = Items::new(alloc);
-    let outer = box_points(rt, alloc, at(-20, -20), at(20, 20));
     push(rt, &mut items, Item::Outer(outer));
     let mut letter = b'a';
     for (from_x, from_y, to_x, to_y) in routes {
-        let (from, to) = (at(*from_x, *from_y), at(*to_x, *to_y));
-        push(rt, &mut items, Item::Route(named(rt, &[letter]), from, to));
+        match Name::of(&[letter]) {
+            Some(name) => push(
+                rt,
+                &mut items,
+                Item::Route(name, at(*from_x, *from_y), at(*to_x, *to_y)),
+            ),
+            None => panic!(rt; "a letter is a name"),
+        }
         letter = letter.wrapping_add(1);
     }
-    accepted(rt, alloc, items)
+    match check(alloc, &PlanData { items }) {
+        Ok(plan) => plan,
+        Err(_) => panic!(rt; "the plan is accepted"),
+    }
 }
 
 /// The routes' pieces have so many neighbours, and these turn depths from the first piece; `None` is where no walk

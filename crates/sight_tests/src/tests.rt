@@ -1,11 +1,38 @@
 //! Small plans, with what plane geometry says is seen in them.
 
-use plan_check::{Item, Items, Plan, Points};
+ghost use Rattle.std.specs.Prelude.{◌≡◌};
+ghost use Rattle.plane_spec.specs.Vectors.{InRange, IsDirected, IsDirection};
+
+use exact_geom::{in_range, same_point};
+use plan_check::{Item, Items, Name, Plan, PlanData, Points, check};
 use plane_spec::Point;
-use sight_core::{Corner, Scene, free, in_cone, is_open, stop};
-use small_plans::{accepted, at, heading, known, named, points_of, push, scene};
+use sight_core::{Corner, Scene, free, in_cone, is_open, scene_of, stop};
 use std::alloc::Global;
 use std::process::Abort;
+
+fn at(x: i64, y: i64) -> Point
+    ensures { result ≡ record { x = x; y = y } }
+{
+    Point { x, y }
+}
+
+/// The point, which the test knows to be in range.
+fn known(rt: &impl Abort, p: Point) -> Point
+    ensures { InRange result }
+{
+    assert!(rt; in_range(p));
+    p
+}
+
+/// The direction, which the test knows to lead somewhere.
+fn heading(rt: &impl Abort, d: Point) -> Point
+    ensures direction { IsDirection result }
+    ensures directed { IsDirected result }
+{
+    assert!(rt; in_range(d));
+    assert!(rt; !same_point(d, at(0, 0)));
+    d
+}
 
 /// The corners of a box, counterclockwise or clockwise.
 fn box_points(rt: &impl Abort, alloc: Global, low: Point, high: Point, clockwise: bool) -> Points {
@@ -15,7 +42,22 @@ fn box_points(rt: &impl Abort, alloc: Global, low: Point, high: Point, clockwise
     } else {
         [low, right, high, left]
     };
-    points_of(rt, alloc, &points)
+    let mut list = Points::new(alloc);
+    for p in points {
+        assert!(rt; list.push(p).is_ok());
+    }
+    list
+}
+
+fn push(rt: &impl Abort, items: &mut Items, item: Item) {
+    assert!(rt; items.push(item).is_ok());
+}
+
+fn name(rt: &impl Abort, letter: u8) -> Name {
+    match Name::of(&[letter]) {
+        Some(name) => name,
+        None => panic!(rt; "a letter is a name"),
+    }
 }
 
 /// The plan of a box of side 10 with boxes and screens in it.
@@ -32,18 +74,24 @@ fn plan_of(
     let mut letter = b'A';
     for (low, high) in boxes {
         let points = box_points(rt, alloc, *low, *high, clockwise);
-        push(rt, &mut items, Item::Obstacle(named(rt, &[letter]), points));
+        push(rt, &mut items, Item::Obstacle(name(rt, letter), points));
         letter = letter.wrapping_add(1);
     }
     for (from, to) in screens {
-        push(
-            rt,
-            &mut items,
-            Item::Screen(named(rt, &[letter]), *from, *to),
-        );
+        push(rt, &mut items, Item::Screen(name(rt, letter), *from, *to));
         letter = letter.wrapping_add(1);
     }
-    accepted(rt, alloc, items)
+    match check(alloc, &PlanData { items }) {
+        Ok(plan) => plan,
+        Err(_) => panic!(rt; "the plan is accepted"),
+    }
+}
+
+fn scene(rt: &impl Abort, alloc: Global, plan: &Plan) -> Scene {
+    match scene_of(alloc, plan) {
+        Ok(scene) => scene,
+        Err(_) => panic!(rt; "there is memory"),
+    }
 }
 
 /// Each pair of points, and whether they see each other, from either end.

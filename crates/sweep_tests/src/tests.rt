@@ -1,25 +1,89 @@
 //! Small plans: worked answers, and scenes in which the plain calls answer the same from stations anywhere.
 
+ghost use Rattle.std.specs.Prelude.{◌≡◌};
 ghost use Rattle.plane_spec.specs.Vectors.{InRange, IsDirected, IsDirection};
 ghost use Rattle.sight_sweep.specs.Answers.{MayBeAsked};
 
-use exact_geom::{Frac, same_point};
+use exact_geom::{Frac, in_range, same_point};
+use plan_check::{Item, Items, Name, Plan, PlanData, Points, check};
 use plane_spec::Point;
-use sight_core::{Scene, free, near_wall, stop};
+use sight_core::{Scene, free, near_wall, scene_of, stop};
 use sight_sweep::{Answer, Steps, Target, sweep};
-use small_plans::{at, heading, known, room, scene};
 use std::alloc::Global;
 use std::process::Abort;
 
+fn at(x: i64, y: i64) -> Point
+    ensures { result ≡ record { x = x; y = y } }
+{
+    Point { x, y }
+}
+
+/// The point, which the test knows to be in range.
+fn known(rt: &impl Abort, p: Point) -> Point
+    ensures { InRange result }
+{
+    assert!(rt; in_range(p));
+    p
+}
+
+/// The direction, which the test knows to lead somewhere.
+fn heading(rt: &impl Abort, d: Point) -> Point
+    ensures direction { IsDirection result }
+    ensures directed { IsDirected result }
+{
+    assert!(rt; in_range(d));
+    assert!(rt; !same_point(d, at(0, 0)));
+    d
+}
+
+fn push(rt: &impl Abort, items: &mut Items, item: Item) {
+    assert!(rt; items.push(item).is_ok());
+}
+
+fn name(rt: &impl Abort, letter: u8) -> Name {
+    match Name::of(&[letter]) {
+        Some(name) => name,
+        None => panic!(rt; "a letter is a name"),
+    }
+}
+
+fn points_of(rt: &impl Abort, alloc: Global, corners: &[Point]) -> Points {
+    let mut points = Points::new(alloc);
+    for p in corners {
+        assert!(rt; points.push(*p).is_ok());
+    }
+    points
+}
+
 /// The scene of a box of side 10 with boxes and screens in it.
-fn scene_with(
+fn scene(
     rt: &impl Abort,
     alloc: Global,
     boxes: &[(Point, Point)],
     screens: &[(Point, Point)],
 ) -> Scene {
-    let plan = room(rt, alloc, at(0, 0), at(10, 10), boxes, screens);
-    scene(rt, alloc, &plan)
+    let mut items = Items::new(alloc);
+    let outer = points_of(rt, alloc, &[at(0, 0), at(10, 0), at(10, 10), at(0, 10)]);
+    push(rt, &mut items, Item::Outer(outer));
+    let mut letter = b'A';
+    for (low, high) in boxes {
+        let corners = [*low, at(high.x, low.y), *high, at(low.x, high.y)];
+        let points = points_of(rt, alloc, &corners);
+        push(rt, &mut items, Item::Obstacle(name(rt, letter), points));
+        letter = letter.wrapping_add(1);
+    }
+    for (from, to) in screens {
+        push(rt, &mut items, Item::Screen(name(rt, letter), *from, *to));
+        letter = letter.wrapping_add(1);
+    }
+    let plan = match check(alloc, &PlanData { items }) {
+        Ok(plan) => plan,
+        Err(_) => panic!(rt; "the plan is accepted"),
+    };
+    match scene_of(alloc, &plan) {
+        Ok(scene) => scene,
+        Err(_) => panic!(rt; "there is memory"),
+    }
 }
 
 /// The answer to one target.
@@ -148,7 +212,7 @@ fn reaches_as_plain(rt: &impl Abort, alloc: Global, scene: &Scene, stations: &[P
 #[test]
 fn rays_reach_where_worked_rows_say(rt: HostRuntime) {
     let alloc = rt.alloc();
-    let pinched = scene_with(
+    let pinched = scene(
         &rt,
         alloc,
         &[(at(2, 2), at(4, 4)), (at(6, 4), at(8, 6))],
@@ -160,16 +224,16 @@ fn rays_reach_where_worked_rows_say(rt: HostRuntime) {
     ];
     all_reach(&rt, alloc, &pinched, &rays);
     assert!(rt; sees(&rt, alloc, &pinched, at(0, 4), at(10, 4)));
-    let both = scene_with(
+    let both = scene(
         &rt,
         alloc,
         &[(at(2, 2), at(4, 4)), (at(5, 2), at(7, 4))],
         &[],
     );
     all_reach(&rt, alloc, &both, &[(at(0, 3), at(1, 0), (2, 1), 7)]);
-    let one = scene_with(&rt, alloc, &[(at(5, 2), at(7, 4))], &[]);
+    let one = scene(&rt, alloc, &[(at(5, 2), at(7, 4))], &[]);
     all_reach(&rt, alloc, &one, &[(at(0, 3), at(1, 0), (5, 1), 7)]);
-    let screened = scene_with(&rt, alloc, &[], &[(at(3, 4), at(7, 4))]);
+    let screened = scene(&rt, alloc, &[], &[(at(3, 4), at(7, 4))]);
     let rays = [
         (at(5, 0), at(0, 1), (4, 1), 4),
         (at(3, 0), at(0, 1), (10, 1), 2),
@@ -189,7 +253,7 @@ fn answers_are_those_of_the_plain_calls(rt: HostRuntime) {
         (at(1, 6), at(3, 9)),
     ];
     let screens = [(at(5, 1), at(9, 3)), (at(4, 6), at(4, 9))];
-    let mixed = scene_with(&rt, alloc, &boxes, &screens);
+    let mixed = scene(&rt, alloc, &boxes, &screens);
     let stations = [
         at(0, 4),
         at(2, 2),

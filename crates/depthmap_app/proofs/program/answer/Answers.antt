@@ -1,8 +1,9 @@
-use Rattle.std.proofs.Common.{◌≡◌, map, string_bytes, subst}
+use Rattle.std.proofs.Common.{◌≡◌, arith, map, string_bytes, subst}
 use Rattle.depthmap_app.specs.Ends.{EndsTrial}
 use Rattle.depthmap_app.specs.Words.{options_given}
 use Rattle.depthmap_app.proofs.GivenOptions.{options-are, trial-ends}
 use Rattle.depthmap_app.proofs.TrialNumbers.{trial-number}
+use Rattle.depthmap_app.proofs.WorkerNumbers.{worker-number}
 use Rattle.depthmap_app.proofs.program.answer.Goals as goal
 
 pub trial-requires-clause-some : goal.trial-requires-clause-some
@@ -30,3 +31,33 @@ pub returns-clause-why : goal.returns-clause-why
 returns-clause-why g c = λ bad.
     absurd (subst (EndsTrial c.in-Ok-Some.options.form c.in-Trial.boxes _ _) bad
     (c.trial.ensures (g.F.Source.left c.args.files.now) (g.S.Source.left c.args.script.now) 0 0))
+
+pub overflow_cast-workers : goal.overflow_cast-workers
+overflow_cast-workers g c =
+    let o = c.in-Ok-Some in
+    let given = options-are c.args.words.now _ _ _ o.options c.deref.ensures.value c.in-Ok.ensures o.ensures o.field-0-is in
+    omega (arith, (worker-number (map string_bytes c.args.words.now) o.options given).few)
+
+pub analyse-requires-clause-some_workers : goal.analyse-requires-clause-some_workers
+analyse-requires-clause-some_workers g c κs within =
+    let o = c.in-Ok-Some in
+    let given = options-are c.args.words.now _ _ _ o.options c.deref.ensures.value c.in-Ok.ensures o.ensures o.field-0-is in
+    (worker-number (map string_bytes c.args.words.now) o.options given).some
+
+pub analyse-requires-clause-few_workers : goal.analyse-requires-clause-few_workers
+analyse-requires-clause-few_workers g c κs within =
+    let o = c.in-Ok-Some in
+    let given = options-are c.args.words.now _ _ _ o.options c.deref.ensures.value c.in-Ok.ensures o.ensures o.field-0-is in
+    (worker-number (map string_bytes c.args.words.now) o.options given).few
+
+pub trial-requires-clause-some_workers : goal.trial-requires-clause-some_workers
+trial-requires-clause-some_workers g c κs within =
+    let o = c.in-Ok-Some in
+    let given = options-are c.args.words.now _ _ _ o.options c.deref.ensures.value c.in-Ok.ensures o.ensures o.field-0-is in
+    (worker-number (map string_bytes c.args.words.now) o.options given).some
+
+pub trial-requires-clause-few_workers : goal.trial-requires-clause-few_workers
+trial-requires-clause-few_workers g c κs within =
+    let o = c.in-Ok-Some in
+    let given = options-are c.args.words.now _ _ _ o.options c.deref.ensures.value c.in-Ok.ensures o.ensures o.field-0-is in
+    (worker-number (map string_bytes c.args.words.now) o.options given).few
