@@ -1,16 +1,17 @@
 -- Flags, and what those say that are false.
-use Rattle.std.proofs.Common.{◌≡◌, ℕ, zero, suc, ◌+◌, ◌<◌, arith, ap, refl, sym, ◌∙◌, subst, List, [], ◌∷◌, ◌++◌}
+use Rattle.std.proofs.Common.{◌≡◌, ◌≢◌, ℕ, zero, suc, ◌+◌, ◌<◌, arith, ap, refl, sym, ◌∙◌, subst, List, [], ◌∷◌, ◌++◌}
 use Rattle.std.proofs.Common.{length, get_or}
-use Rattle.std.specs.Prelude.{Bool, true, false, All}
+use Rattle.std.specs.Prelude.{Bool, true, false, All, replicate}
 use Rattle.plane_spec.specs.declared.Point.{Point}
 use Rattle.sight_spec.specs.Scene.{Scene, blockers_of_scene}
 use Rattle.front_laws.specs.Seen.{nowhere}
 use Rattle.front_laws.proofs.Tests.{by_cases, clash_to}
+use Rattle.front_laws.proofs.Lists.{by_same}
 use Rattle.sight_sweep.specs.declared.blocker.Blocker.{Blocker}
 use Rattle.sweep_laws.specs.Groups.{no_corner}
 use Rattle.sight_sweep.specs.Actives.{seen, IsOf}
 use Rattle.sight_sweep.specs.Events.{way_at}
-use Rattle.sight_sweep.specs.LeftOut.{is_set, IsLineHidden, AreLineFlags, IsCornerHidden, AreCornerFlags, IsHiddenAt}
+use Rattle.sight_sweep.specs.LeftOut.{is_set, IsLineHidden, IsCornerHidden, AreCornerFlags, IsHiddenAt}
 use Rattle.sight_sweep.specs.LeftOut.{AreCoversKept, AreLinesHidden, AreCornersHidden, AreCoveredWhole, AreUntold}
 use Rattle.sight_sweep.specs.Tables.{AreAround}
 
@@ -27,27 +28,24 @@ set_pushed (x ∷ xs) b (suc n) h f g = set_pushed xs b n h f (λ e k. g (one n 
 
 -- ---- lines
 
-pub no_line_flags : (scene : Scene) (p : Point) (covers : List Blocker) → AreLineFlags scene p covers 0 []
-no_line_flags scene p covers = record {
-  count_is = refl;
-  hidden = λ j within out. clash_to true refl out;
-}
-
-pub one_line_flag : (scene : Scene) (p : Point) (covers : List Blocker) (count : ℕ) (kept : List Bool) (b : Bool)
-    → AreLineFlags scene p covers count kept
-    → (b ≡ false → IsLineHidden p covers (get_or (blockers_of_scene scene) count nowhere))
-    → AreLineFlags scene p covers (count + 1) (kept ++ b ∷ [])
-one_line_flag scene p covers count kept b f own = record {
-  count_is = one_more kept b ∙ ap (λ n. n + 1) f.count_is;
-  hidden = λ j within out. set_pushed kept b j out
-      (λ before. f.hidden j within before)
-      (λ e h. subst (λ n. IsLineHidden p covers (get_or (blockers_of_scene scene) n nowhere)) (sym (e ∙ f.count_is))
-      (own h));
-}
+-- while all flags are set none is false
+pub all_lines_kept : (scene : Scene) (p : Point) (covers : List Blocker) (count : ℕ)
+    → AreLinesHidden scene p covers (replicate count true)
+all_lines_kept scene p covers count j within out = clash_to (is_set (replicate count true) j) (stands count j) out
   where
-    one_more : (xs : List Bool) (b : Bool) → length (xs ++ b ∷ []) ≡ length xs + 1
-    one_more [] b = refl
-    one_more (x ∷ xs) b = let e = one_more xs b in omega (arith, e)
+    stands : (count j : ℕ) → is_set (replicate count true) j ≡ true
+    stands zero j = refl
+    stands (suc count) zero = refl
+    stands (suc count) (suc j) = stands count j
+
+-- the flag of a hidden one may be cleared
+pub one_left_out : (scene : Scene) (p : Point) (covers : List Blocker) (old new : List Bool) (number : ℕ)
+    → ((n : ℕ) → n ≢ number → is_set new n ≡ is_set old n)
+    → IsLineHidden p covers (get_or (blockers_of_scene scene) number nowhere)
+    → AreLinesHidden scene p covers old → AreLinesHidden scene p covers new
+one_left_out scene p covers old new number others own hidden j within out = by_same j number
+    (λ e. subst (λ n. IsLineHidden p covers (get_or (blockers_of_scene scene) n nowhere)) (sym e) own)
+    (λ other. hidden j within (sym (others j other) ∙ out))
 
 -- ---- corners
 

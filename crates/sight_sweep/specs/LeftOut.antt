@@ -125,12 +125,6 @@ abbrev pub AreCornersHidden : Scene → Point → List Blocker → List Bool →
 AreCornersHidden scene p covers kept shown = (k : ℕ) → k < length scene.corners → is_set shown k ≡ false
     → IsCornerHidden scene p covers kept k
 
--- flags of the first so many lines
-pub record AreLineFlags (scene : Scene) (p : Point) (covers : List Blocker) (count : ℕ) (kept : List Bool)
-    : Type 0 where
-  pub count_is : length kept ≡ count
-  pub hidden : AreLinesHidden scene p covers kept
-
 -- flags of the first so many corners
 pub record AreCornerFlags (scene : Scene) (p : Point) (covers : List Blocker) (kept : List Bool) (count : ℕ)
     (shown : List Bool) : Type 0 where

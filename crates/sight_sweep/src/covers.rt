@@ -49,14 +49,14 @@ pub(crate) fn cover_of_point(
         return Some(last);
     }
     let at = proposed(bins, v);
-    if is_hidden_at(covers, at, v) {
+    if at != last && is_hidden_at(covers, at, v) {
         return Some(at);
     }
     None
 }
 
 /// Whether the cover of the number hides the points at `v` and `w`.
-fn are_hidden_at(covers: &[Blocker], at: usize, v: Point, w: Point) -> bool
+pub(crate) fn are_hidden_at(covers: &[Blocker], at: usize, v: Point, w: Point) -> bool
     requires v_in { IsDirection v }
     requires w_in { IsDirection w }
     ensures { result ≡ true → AreHiddenAt covers.now at v w }
@@ -64,29 +64,7 @@ fn are_hidden_at(covers: &[Blocker], at: usize, v: Point, w: Point) -> bool
     is_hidden_at(covers, at, v) && is_hidden_at(covers, at, w)
 }
 
-/// A cover that hides both points, found likewise.
-pub(crate) fn cover_of_both(
-    covers: &[Blocker],
-    bins: &[u8],
-    last: usize,
-    v: Point,
-    w: Point,
-) -> Option<usize>
-    requires v_in { IsDirection v }
-    requires w_in { IsDirection w }
-    ensures { IfSome result (λ at. AreHiddenAt covers.now at v w) }
-{
-    if are_hidden_at(covers, last, v, w) {
-        return Some(last);
-    }
-    let at = proposed(bins, v);
-    if at != last && are_hidden_at(covers, at, v, w) {
-        return Some(at);
-    }
-    None
-}
-
-/// Makes the wall or screen a cover, where its bins want one.
+/// Makes the wall or screen a cover, where it faces the station and its bins want one.
 fn push_cover(
     covers: &mut Vec<Blocker>,
     bins: &mut Vec<u8>,
@@ -105,7 +83,7 @@ fn push_cover(
         return Ok(());
     };
     let count = covers.len();
-    if 255 <= count || !cover_bins(bins, &blocker, count as u8) {
+    if blocker.hides || 255 <= count || !cover_bins(bins, &blocker, count as u8) {
         return Ok(());
     }
     push(covers, blocker)
@@ -122,9 +100,11 @@ pub(crate) fn covers_of(
     requires p_in { InRange p }
     ensures { IfOk result (λ covers. All (IsOf table.now p) covers.items) }
 {
-    let mut covers = with_room(alloc, near.len())?;
+    let mut covers = with_room(alloc, 32)?;
     for k in 0..near.len() {
-        push_cover(&mut covers, bins, table, p, number_of(near[k]))?;
+        let second = number_of(near[k]);
+        push_cover(&mut covers, bins, table, p, second.saturating_sub(1))?;
+        push_cover(&mut covers, bins, table, p, second)?;
     }
     Ok(covers)
 }

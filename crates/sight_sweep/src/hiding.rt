@@ -11,23 +11,21 @@
 //! left out stay, since the round takes it out there or puts it in. Covers themselves stay.
 
 ghost use Rattle.std.specs.Prelude.{◌≡◌, ◌<◌, ℕ, All, IfOk, IfSome, length, false};
-ghost use Rattle.std.proofs.Common.{get_or};
 ghost use Rattle.plane_spec.specs.Vectors.{InRange};
 ghost use Rattle.sight_core.specs.Scenes.{IsOfSoundPlan};
 ghost use Rattle.sight_spec.specs.Scene.{blockers_of_scene};
-ghost use Rattle.front_laws.specs.Seen.{nowhere};
 ghost use Rattle.sight_sweep.specs.Arcs.{IsArc};
 ghost use Rattle.sight_sweep.specs.LeftOut as words;
 ghost use Rattle.sight_sweep.specs.LeftOut.{AreLeftOut, AreLinesHidden, AreCornersHidden};
-ghost use Rattle.sight_sweep.specs.LeftOut.{AreCoversKept, IsLineHidden, IsCornerHidden};
+ghost use Rattle.sight_sweep.specs.LeftOut.{AreCoversKept, IsCornerHidden};
 
 use crate::arcs::is_in_arc;
 use crate::bins::no_covers;
 use crate::blocker::Blocker;
-use crate::covers::{cover_of_both, cover_of_point, covers_of};
-use crate::flags::{is_set, set};
+use crate::covers::{are_hidden_at, cover_of_point, covers_of};
+use crate::flags::{all_set, clear, is_set, set};
 use crate::left_out::LeftOut;
-use crate::nearest::{is_outside, nearest};
+use crate::nearest::{nearest, way_to_pair};
 use crate::push::{push, with_room};
 use crate::table::SceneTable;
 use exact_geom::vector;
@@ -36,27 +34,53 @@ use std::alloc::Global;
 use text_spec::NoMemory;
 use view_laws::Arc;
 
-/// A cover that hides the wall or screen of the number, at both ends.
-fn cover_of_line(
+/// Leaves the wall or screen of the number out, if the cover hides both of its ends.
+fn leave_out(
+    kept: &mut [bool],
+    table: &SceneTable,
+    p: Point,
+    covers: &[Blocker],
+    at: usize,
+    number: u32,
+)
+    requires p_in { InRange p }
+    requires within { number < length (blockers_of_scene table.now) }
+    ensures { AreLinesHidden table.now p covers.now kept.old → AreLinesHidden table.now p covers.now kept.new }
+{
+    let line = table.line(number);
+    if are_hidden_at(covers, at, vector(p, line.a), vector(p, line.b)) {
+        clear(kept, number as usize);
+    }
+}
+
+/// Leaves both of a pair out, if they are hidden by the cover that hides where the second begins. Answers that cover, or
+/// the last one that hid something.
+fn leave_out_pair(
+    kept: &mut [bool],
     table: &SceneTable,
     p: Point,
     arc: Arc,
     covers: &[Blocker],
     bins: &[u8],
     last: usize,
-    number: u32,
-) -> Option<usize>
+    first: u32,
+    second: u32,
+) -> usize
     requires p_in { InRange p }
     requires arc { IsArc arc }
-    requires within { number < length (blockers_of_scene table.now) }
-    ensures { IfSome result (λ at. IsLineHidden p covers.now (get_or (blockers_of_scene table.now) number nowhere)) }
+    requires first_in { first < length (blockers_of_scene table.now) }
+    requires second_in { second < length (blockers_of_scene table.now) }
+    ensures { AreLinesHidden table.now p covers.now kept.old → AreLinesHidden table.now p covers.now kept.new }
 {
-    let line = table.line(number);
-    let (a, b) = (vector(p, line.a), vector(p, line.b));
-    if is_outside(arc, a, b) {
-        return None;
-    }
-    cover_of_both(covers, bins, last, a, b)
+    let Some(way) = way_to_pair(table, p, arc, second) else {
+        return last;
+    };
+    let Some(at) = cover_of_point(covers, bins, last, way) else {
+        return last;
+    };
+    leave_out(kept, table, p, covers, at, first);
+    leave_out(kept, table, p, covers, at, second);
+    at
 }
 
 /// For each wall and screen whether no cover hides it.
@@ -73,16 +97,21 @@ fn line_flags(
     ensures { IfOk result (λ kept. AreLinesHidden table.now p covers.now kept.items) }
 {
     let count = table.count();
-    let mut kept = with_room(alloc, count as usize)?;
+    let mut kept = all_set(alloc, count as usize)?;
     let mut last = 0;
-    for number in 0..count {
-        match cover_of_line(table, p, arc, covers, bins, last, number) {
-            None => push(&mut kept, true)?,
-            Some(at) => {
-                push(&mut kept, false)?;
-                last = at;
-            }
-        }
+    for pair in 0..count / 2 {
+        let first = 2 * pair;
+        last = leave_out_pair(
+            &mut kept,
+            table,
+            p,
+            arc,
+            covers,
+            bins,
+            last,
+            first,
+            first + 1,
+        );
     }
     Ok(kept)
 }

@@ -26,9 +26,9 @@
 //!             p ------------- p
 //! ```
 //!
-//! What near walls hide is left out before, so that few corners are gone past. A wall or screen goes where one kept
+//! What near walls hide is left out before, so that few corners are gone past. A wall or screen may go where one kept
 //! wall, its cover, has both of its ends between the directions to the cover's ends and behind the cover's line: each
-//! direction that meets it meets the cover first. A corner goes where a cover hides it and nothing ends there that is
+//! direction that meets it meets the cover first. A corner may go where a cover hides it and nothing ends there that is
 //! kept. What only several covers hide together stays:
 //!
 //! ```text

@@ -1,14 +1,14 @@
 //! The walls and screens that are nearest to the station, as numbers that are sorted.
 //!
-//! They are only proposed as covers: what is left out is told by what they hide, whichever they are.
+//! They are only proposed as covers: what is left out is told by what they hide, whichever they are. They are taken two
+//! by two, as the edges of a polygon that meet in a corner mostly have numbers that follow each other.
 
-ghost use Rattle.std.specs.Prelude.{◌≡◌, ◌≤◌, ◌<◌, length};
+ghost use Rattle.std.specs.Prelude.{◌≤◌, IfSome};
 ghost use Rattle.plane_spec.specs.Vectors.{InRange, IsDirection};
-ghost use Rattle.sight_spec.specs.Scene.{blockers_of_scene};
 ghost use Rattle.sight_sweep.specs.Arcs.{IsArc};
 
+use crate::arcs::is_in_arc;
 use crate::corners::length;
-use crate::products::{is_left, is_negative};
 use crate::push::with_room;
 use crate::table::SceneTable;
 use exact_geom::vector;
@@ -17,53 +17,8 @@ use std::alloc::Global;
 use text_spec::NoMemory;
 use view_laws::Arc;
 
-/// So many are proposed at most.
-const MANY: usize = 32;
-
-/// Whether nothing between the two is in the arc, since both lie below it, before it or after it.
-pub(crate) fn is_outside(arc: Arc, a: Point, b: Point) -> bool
-    requires arc { IsArc arc }
-    requires a_in { IsDirection a }
-    requires b_in { IsDirection b }
-{
-    match arc {
-        Arc::All => false,
-        Arc::Later => are_below(a, b),
-        Arc::Between(first, last) => {
-            are_below(a, b) || are_left(a, b, last) || are_right(a, b, first)
-        }
-    }
-}
-
-fn are_below(a: Point, b: Point) -> bool {
-    is_negative(a.y) && is_negative(b.y)
-}
-
-fn are_left(a: Point, b: Point, d: Point) -> bool
-    requires a_in { IsDirection a }
-    requires b_in { IsDirection b }
-    requires d_in { IsDirection d }
-{
-    is_left(d, a) && is_left(d, b)
-}
-
-fn are_right(a: Point, b: Point, d: Point) -> bool
-    requires a_in { IsDirection a }
-    requires b_in { IsDirection b }
-    requires d_in { IsDirection d }
-{
-    is_left(a, d) && is_left(b, d)
-}
-
-/// How far the farther one leads.
-fn farther(a: Point, b: Point) -> u64
-    requires a_in { IsDirection a }
-    requires b_in { IsDirection b }
-    ensures within { result ≤ 800000 }
-{
-    let (first, last) = (length(a), length(b));
-    if first < last { last } else { first }
-}
+/// So many pairs are proposed at most.
+const MANY: usize = 16;
 
 /// How far off it is, and the number, in one number.
 fn key(far: u64, number: u32) -> u64
@@ -72,7 +27,7 @@ fn key(far: u64, number: u32) -> u64
     far * 4_294_967_296 + number as u64
 }
 
-/// The number of a wall or screen.
+/// The number of the second of a pair.
 pub(crate) fn number_of(key: u64) -> u32 {
     (key % 4_294_967_296) as u32
 }
@@ -103,27 +58,38 @@ fn put_near(near: &mut Vec<u64>, key: u64) -> Result<(), NoMemory> {
     }
 }
 
-/// Puts the wall or screen of the number in, where it faces the station and is one of the nearest so far.
+/// The vector to where the second of a pair begins: mostly the corner in which both meet. `None` where there is no such
+/// pair, or the vector leads outside the arc.
+pub(crate) fn way_to_pair(table: &SceneTable, p: Point, arc: Arc, second: u32) -> Option<Point>
+    requires p_in { InRange p }
+    requires arc { IsArc arc }
+    ensures { IfSome result IsDirection }
+{
+    if table.count() <= second {
+        return None;
+    }
+    let way = vector(p, table.line(second).a);
+    if is_in_arc(arc, way) { Some(way) } else { None }
+}
+
+/// Puts the pair in, where it is one of the nearest so far.
 fn put_if_near(
     near: &mut Vec<u64>,
     table: &SceneTable,
     p: Point,
     arc: Arc,
-    number: u32,
+    second: u32,
 ) -> Result<(), NoMemory>
     requires p_in { InRange p }
     requires arc { IsArc arc }
-    requires within { number < length (blockers_of_scene table.now) }
 {
-    let line = table.line(number);
-    let (a, b) = (vector(p, line.a), vector(p, line.b));
-    if is_outside(arc, a, b) || !is_left(b, a) {
-        return Ok(());
+    match way_to_pair(table, p, arc, second) {
+        None => Ok(()),
+        Some(way) => put_near(near, key(length(way), second)),
     }
-    put_near(near, key(farther(a, b), number))
 }
 
-/// The nearest of those that face the station, nearest first.
+/// The nearest pairs, nearest first.
 pub(crate) fn nearest(
     alloc: Global,
     table: &SceneTable,
@@ -134,8 +100,8 @@ pub(crate) fn nearest(
     requires arc { IsArc arc }
 {
     let mut near = with_room(alloc, MANY + 1)?;
-    for number in 0..table.count() {
-        put_if_near(&mut near, table, p, arc, number)?;
+    for pair in 0..table.count() / 2 {
+        put_if_near(&mut near, table, p, arc, 2 * pair + 1)?;
     }
     Ok(near)
 }

@@ -8,4 +8,4 @@ loop-k-init c = subst (All (IsOf c.args.table.now c.args.p)) (sym c.in_ok-covers
     (λ i d lt. absurd (omega (arith, lt)))
 
 pub loop-k-preserved : goal.loop-k-preserved
-loop-k-preserved c = c.in_ok-push_cover.ensures c.loop-k.invariant
+loop-k-preserved c = c.in_ok-push_cover-2.ensures (c.in_ok-push_cover.ensures c.loop-k.invariant)
