@@ -1,11 +1,10 @@
 -- What a look tells of a pair is whether it is an edge.
-use Rattle.std.specs.Prelude.{◌≡◌, ℕ, ◌<◌, ◌&&◌, Bool, true, false, List, [], length, map, slice_index_or}
-use Rattle.std.specs.List.{range_with_len}
-use Rattle.std.proofs.Common.{refl, sym, ap, ◌∙◌, arith}
+use Rattle.std.specs.Prelude.{◌≡◌, ℕ, ◌<◌, ◌&&◌, Bool, false, List, [], length, slice_index_or}
+use Rattle.std.proofs.Common.{refl, ap, ◌∙◌, arith}
 use Rattle.std.proofs.lemmas.Bool.{lt-ltb}
 use Rattle.std.proofs.lemmas.List.FromFn.{get_or-map-range_with_len}
 use Rattle.plan_spec.specs.Plan.{Plan}
-use Rattle.plan_spec.specs.Grid.{grid_points, point_of_number}
+use Rattle.plan_spec.specs.Grid.{grid_points}
 use Rattle.vga_grid.specs.Openness.{is_number_open, openness_of}
 use Rattle.vga_grid.proofs.Covered.{are_joined, visible_is}
 use Rattle.vga_looks.specs.Tables.{is_seen_later, seen_later}

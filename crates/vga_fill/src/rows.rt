@@ -150,7 +150,8 @@ pub(crate) fn work_row(
 /// Counts one sweep where such a pair is there and the row's point is open, and else none. Without memory the row is
 /// still held, what was written is new, and at most one sweep was counted.
 ///
-/// Cost: a test of each pair with the boxes; where one meets them, that of making the plan ready, and of a look.
+/// Cost: constant where both boxes lie below the row's point, else some steps for each line of the grid; where a pair
+/// is dirty, that of making the plan ready, of a look, and of a test of each pair with the boxes.
 pub fn fill_row(
     alloc: Global,
     fill: &Fill,

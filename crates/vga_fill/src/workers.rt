@@ -115,8 +115,8 @@ fn work_all<R: Threads + Sync, G: Gate>(
 /// The visibility graph of a plan, by so many workers that fill one graph together. The scene is the plan's. Each
 /// worker tells the gate each row that it claims. Where no thread can be made the workers work one after the other.
 ///
-/// Cost: a test of openness for each point, a look from each open one, and for each pair of open points a search in the
-/// sectors of that look.
+/// Cost: a test of openness for each point, a look from each open one with a step for each later point, and two steps on
+/// words for each edge.
 pub fn fill_all<R: Threads + Sync, G: Gate>(
     rt: &R,
     alloc: Global,
@@ -153,8 +153,8 @@ pub fn fill_all<R: Threads + Sync, G: Gate>(
 /// as `Plan::with` does, and has the boxes that `Plan::changed` gives; the scene is that of `after`. Each worker tells
 /// the gate each row that it claims. `old` stays as it is.
 ///
-/// Cost: a test of openness for each point, a test of each pair with the boxes, a look from the point of each dirty
-/// row, and for each dirty pair a search in the sectors of that look.
+/// Cost: a test of openness for each point, and some steps for each row and line of the grid; for each dirty row a look
+/// from its point, a test of each of its pairs with the boxes, and two steps on words for each dirty one.
 pub fn refill<R: Threads + Sync, G: Gate>(
     rt: &R,
     alloc: Global,

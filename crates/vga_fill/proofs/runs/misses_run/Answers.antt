@@ -1,5 +1,4 @@
-use Rattle.std.proofs.Common.{sym, ◌≡◌, ◌∙◌, true}
-use Rattle.vga_fill.specs.Runs.{is_beside_both}
+use Rattle.std.proofs.Common.{sym, ◌∙◌}
 use Rattle.vga_fill.proofs.GridRuns.{run_is_clean}
 use Rattle.vga_fill.proofs.runs.misses_run.Goals as goal
 
