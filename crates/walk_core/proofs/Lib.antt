@@ -1,0 +1,6 @@
+mod Sums
+mod Walking
+mod Parts
+mod Bits
+mod Flat
+mod Totals
