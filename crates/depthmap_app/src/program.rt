@@ -258,7 +258,8 @@ pub fn run<F: Files, S: Source, O: Sink, E: Sink, G: Gate>(
     ensures says { Says (known_file (options_given words.now) (F.holds files.old)) (F.left files.new)
         (E.written err.old) (E.written err.new) (E.faults err.old) (E.faults err.new) result }
 
-    // Where nothing fails and the limits are kept, all is done or there is no memory.
+    // Where the words give options, the bytes of file and script are known, the file holds a plan, the limits are kept and
+    // nothing fails, all is done or there is no memory.
     ensures complete { IsComplete (options_given words.now) (F.holds files.old)
         (streams (F.left files.old) (S.left script.old) (O.written out.old)
         (faults (F.faults files.old) (S.faults script.old) (O.faults out.old)))
