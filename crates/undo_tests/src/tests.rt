@@ -354,36 +354,37 @@ fn scripts_leave_plans_and_notes(rt: HostRuntime) -> Result<(), Fail> {
 /// A watcher that keeps no note, and counts that it goes.
 struct Going {
     gone: Arc<AtomicU64>,
+    tail: Tail,
 }
 
 impl Drop for Going {
     fn drop(self) {
-        let Self { gone } = self;
+        let Self { gone, tail: _tail } = self;
         gone.fetch_add(1, Ordering::SeqCst);
     }
 }
 
 impl Watch for Going {
-    ghost use Rattle.std.specs.Prelude.{[], Some, ⊤};
+    ghost room = { λ going. ⟦<Tail as Watch>⟧.room going.tail };
 
-    ghost room = { λ _. Some 0 };
+    ghost list = { λ going. ⟦<Tail as Watch>⟧.list going.tail };
 
-    ghost list = { λ _. [] };
-
-    ghost is_set = { λ _. ⊤ };
+    ghost is_set = { λ going. ⟦<Tail as Watch>⟧.is_set going.tail };
 
     fn ready(&mut self) -> Result<(), NoMemory> {
-        Ok(())
+        self.tail.ready()
     }
 
-    fn note(&mut self, _note: &Note) {}
+    fn note(&mut self, note: &Note) {
+        self.tail.note(note);
+    }
 
     fn kept(&self) -> usize {
-        0
+        self.tail.kept()
     }
 
-    fn at(&self, _k: usize) -> Note {
-        unreachable!()
+    fn at(&self, k: usize) -> Note {
+        self.tail.at(k)
     }
 }
 
@@ -400,16 +401,17 @@ fn tell(alloc: Global, watchers: &mut Vec<Box<dyn Watch>>) -> Result<bool, Fail>
 }
 
 /// A watcher that is counted here.
-fn counted(gone: &Arc<AtomicU64>) -> Result<Going, Fail> {
+fn counted(alloc: Global, gone: &Arc<AtomicU64>) -> Result<Going, Fail> {
     let gone = Arc::try_clone(gone)?;
-    Ok(Going { gone })
+    let tail = Tail::new(alloc, 1)?;
+    Ok(Going { gone, tail })
 }
 
 /// Whether a watcher that was told of changes goes once, when it is taken out.
 fn goes_once(alloc: Global) -> Result<bool, Fail> {
     let gone = Arc::new(alloc, AtomicU64::new(0))?;
     let mut watchers: Vec<Box<dyn Watch>> = Vec::new(alloc);
-    watchers.push(Box::new(alloc, counted(&gone)?)?)?;
+    watchers.push(Box::new(alloc, counted(alloc, &gone)?)?)?;
     let done = tell(alloc, &mut watchers)?;
     let before = gone.load(Ordering::SeqCst);
     let found = unwatch(&mut watchers, 0);
