@@ -212,8 +212,8 @@ fn answer<F: Files, S: Source, O: Sink, E: Sink, G: Gate>(
 /// only once every line that was taken whole is answered. A trial takes nothing of the files and of the script.
 ///
 /// `words` are the command's arguments without the program's name. `rt` lends the threads. `gate` is told each row of the
-/// visibility graph that a worker claims for the tables of the mode or for a trial; workers that answer the script tell
-/// none. Each count of faults must be able to rise, and the file's name must be one that `files` allows, as `DirFiles`
+/// visibility graph that one of several workers claims for the tables of the mode or for a trial; workers that answer the
+/// script tell none. Each count of faults must be able to rise, and the file's name must be one that `files` allows, as `DirFiles`
 /// allows all.
 ///
 /// The first event in the order of work decides the status: words, file, plan, the script's lines, tables. A fault of

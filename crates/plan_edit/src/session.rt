@@ -28,6 +28,7 @@ use std::thread::Threads;
 use text_spec::NoMemory;
 use vga_fill::{fill_all, refill};
 use vga_grid::BitGraph;
+use vga_looks::graph_by_looks;
 
 /// A plan, its scene, and its visibility graph and axial lines. These two are made where they are first asked for. After
 /// an edit the lines are mended at once, and the graph where it is next asked for, from the one before the edit; after
@@ -65,6 +66,27 @@ fn is_of_route(edit: &Edit) -> bool
     }
 }
 
+/// The visibility graph of a plan, made anew. A lone worker shares no row, so it fills the graph itself.
+fn graph_anew<R: Threads + Sync, G: Gate>(
+    rt: &R,
+    alloc: Global,
+    plan: &Plan,
+    scene: &Scene,
+    workers: u32,
+    gate: &G,
+) -> Result<BitGraph, NoMemory>
+    requires scene { scene.now ≡ scenes.scene_of plan.now }
+    requires some { 0 < workers }
+    requires at_most { workers ≤ 64 }
+    ensures { IfOk result (λ graph. graph_of graph ≡ visibility_graph plan.now) }
+{
+    if workers == 1 {
+        graph_by_looks(alloc, plan, scene)
+    } else {
+        fill_all(rt, alloc, plan, scene, workers, gate)
+    }
+}
+
 /// The visibility graph of a plan: what the last edit touched anew, where there is a graph from before it, and else all.
 fn graph_now<R: Threads + Sync, G: Gate>(
     rt: &R,
@@ -93,7 +115,7 @@ fn graph_now<R: Threads + Sync, G: Gate>(
             workers,
             gate,
         ),
-        None => fill_all(rt, alloc, plan, scene, workers, gate),
+        None => graph_anew(rt, alloc, plan, scene, workers, gate),
     }
 }
 
@@ -200,9 +222,10 @@ impl Session {
     }
 
     /// Makes the visibility graph of the plan, where it isn't kept. Without memory nothing is changed. `rt` lends the
-    /// threads of the workers, and each of them tells the gate each row that it claims.
+    /// threads of the workers, and where they share the rows, each tells the gate each row that it claims.
     ///
-    /// Cost: after one edit of a plan whose graph was kept that of `refill`, and else that of `fill_all`.
+    /// Cost: after one edit of a plan whose graph was kept that of `refill`, and else that of `fill_all`, or with one
+    /// worker of `graph_by_looks`.
     pub fn make_graph<R: Threads + Sync, G: Gate>(
         &mut self,
         rt: &R,
