@@ -212,8 +212,8 @@ fn answer<F: Files, S: Source, O: Sink, E: Sink, G: Gate>(
 /// only once every line that was taken whole is answered. A trial takes nothing of the files and of the script.
 ///
 /// `words` are the command's arguments without the program's name. `rt` lends the threads. `gate` is told each row of the
-/// visibility graph that one of several workers claims for the tables of the mode or for a trial; workers that answer the
-/// script tell none. Each count of faults must be able to rise, and the file's name must be one that `files` allows, as `DirFiles`
+/// visibility graph that a worker claims for the tables of the mode or for a trial; workers that answer the script tell
+/// none. Each count of faults must be able to rise, and the file's name must be one that `files` allows, as `DirFiles`
 /// allows all.
 ///
 /// The first event in the order of work decides the status: words, file, plan, the script's lines, tables. A fault of
@@ -258,8 +258,7 @@ pub fn run<F: Files, S: Source, O: Sink, E: Sink, G: Gate>(
     ensures says { Says (known_file (options_given words.now) (F.holds files.old)) (F.left files.new)
         (E.written err.old) (E.written err.new) (E.faults err.old) (E.faults err.new) result }
 
-    // Where the words give options, the bytes of file and script are known, the file holds a plan, the limits are kept and
-    // nothing fails, all is done or there is no memory.
+    // Where nothing fails and the limits are kept, all is done or there is no memory.
     ensures complete { IsComplete (options_given words.now) (F.holds files.old)
         (streams (F.left files.old) (S.left script.old) (O.written out.old)
         (faults (F.faults files.old) (S.faults script.old) (O.faults out.old)))

@@ -26,20 +26,22 @@ use std::thread::Threads;
 
 /// Makes the edit, and prints the reply. Whether it is refused.
 #[tactic(auto, using(crate::proofs::Printed::nothing))]
-fn answer_edit<O: Sink>(
+fn answer_edit<O: Sink, G: Gate>(
+    rt: &(impl Threads + Sync),
     alloc: Global,
     session: &mut Session,
     form: Form,
     number: u64,
     edit: &Edit,
     out: &mut O,
+    gate: &G,
 ) -> Result<bool, ReportFault>
     requires shift { HasShift edit.now }
     ensures answers { Replies form (O.written out.old) (O.written out.new) (edit_step session.old.plan number edit.now (why_not_edit session.old.plan edit.now)) result }
     ensures leaves { Leaves session.old.plan session.new.plan (edit_step session.old.plan number edit.now (why_not_edit session.old.plan edit.now)) result }
     ensures faults { Counts result (O.faults out.old) (O.faults out.new) }
 {
-    match session.apply(alloc, edit) {
+    match session.apply(rt, alloc, edit, gate) {
         Ok(()) => put_done(alloc, out, form, number),
         Err(EditFault::Refused(why)) => {
             put_refusal(alloc, out, form, number, &Reason::Edit(why))
@@ -67,7 +69,7 @@ fn answer_read<O: Sink, G: Gate>(
 {
     match line {
         Line::Blank => Ok(false),
-        Line::Edit(edit) => answer_edit(alloc, session, form, number, edit, out),
+        Line::Edit(edit) => answer_edit(rt, alloc, session, form, number, edit, out, gate),
         Line::Query(query) => { answer_query(rt, alloc, session, form, number, query, out, gate) }
     }
 }
