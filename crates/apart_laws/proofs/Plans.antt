@@ -21,7 +21,7 @@ use Rattle.plan_spec.specs.Accepted.{segment_lies_within, touches_border, is_pro
 use Rattle.plan_spec.specs.Accepted.{screens_apart, is_sound}
 use Rattle.plan_spec.specs.Plan.{Obstacle, Plan}
 use Rattle.plan_spec.specs.declared.item.Screen.{Screen}
-use Rattle.plane_spec.specs.Polygons.{edges_of, crosses_nowhere, is_simple, has_repeat, borders_touch, is_inside}
+use Rattle.plane_spec.specs.Polygons.{edges_of, crosses_no_segment, is_simple, has_repeat, borders_touch, is_inside}
 use Rattle.plane_spec.specs.Polygons.{edges_touch, folds_back}
 use Rattle.plane_spec.specs.Segments.{do_touch, is_on_segment}
 use Rattle.plane_spec.specs.Vectors.{is_in_range, vector, cross_of, point, same_point}
@@ -30,6 +30,7 @@ use Rattle.plane_spec.specs.declared.Orientation.TheVariants.{Counterclockwise, 
 use Rattle.plane_spec.specs.declared.Point.{Point}
 use Rattle.plane_spec.specs.declared.Segment.{Segment}
 use Rattle.sight_spec.specs.Scene.{segment_of_screen, turned_edge, oriented_walls, has_orientation, walls_of_obstacle}
+use Rattle.sight_spec.specs.Isovist.{no_segment}
 use Rattle.sight_spec.specs.Scene.{scene_of, blockers_of_scene}
 use Rattle.int_laws.proofs.Tests.{tested_equal}
 use Rattle.list_laws.proofs.Tests.{list_all_weaker}
@@ -53,11 +54,11 @@ edges_of_plan plan = (edges_of plan.outer ++ flat_map edges_of_obstacle plan.obs
     plan.screens
 
 pub own_edges : (points : List Point) → is_polygon points ≡ true → each_two stands (edges_of points) ≡ true
-unfolding crosses_nowhere
+unfolding crosses_no_segment
 own_edges points h =
     let a = and_parts (list_all is_in_range points) (is_simple points) h in
-    let b = and_parts (nat_le 3 (length points)) (not (has_repeat points) && crosses_nowhere points) a.1 in
-    let c = and_parts (not (has_repeat points)) (crosses_nowhere points) b.1 in
+    let b = and_parts (nat_le 3 (length points)) (not (has_repeat points) && crosses_no_segment points) a.1 in
+    let c = and_parts (not (has_repeat points)) (crosses_no_segment points) b.1 in
     polygon_stands (length points) points refl c.1
 
 within_outer : (outer points : List Point) → lies_within outer points ≡ true
@@ -300,9 +301,6 @@ may_of e f h =
     let off = neither_of (is_on_segment f.a e.a e.b) (is_on_segment e.b f.a f.b) (tested_not _ parts.1) in
     prev (points_same f.b e.a parts.0) off.0 off.1)
 
-nowhere : Segment
-nowhere = record { a = point (pos 0) (pos 0); b = point (pos 0) (pos 0) }
-
 -- two walls or screens of an accepted plan are apart wherever one direction spans both
 pub blockers_apart : (plan : Plan) (p d : Point) (i j : ℕ) (s t : Seen) → is_sound plan ≡ true → i < j
     → j < length (blockers_of_scene (scene_of plan))
@@ -311,16 +309,16 @@ pub blockers_apart : (plan : Plan) (p d : Point) (i j : ℕ) (s t : Seen) → is
     → spans d s ≡ true → spans d t ≡ true → BothApart s t
 blockers_apart plan p d i j s t sound lt within s_is t_is s_spans t_spans =
     let edges = edges_of_plan plan in
-    let e = get_or edges i nowhere in
-    let f = get_or edges j nowhere in
+    let e = get_or edges i no_segment in
+    let f = get_or edges j no_segment in
     let many : length (blockers_of_scene (scene_of plan))
     ≡ length edges = sym (same_length (seen_of p) (blockers_of_scene (scene_of plan)))
     ∙ ap length (plan_seen p plan) ∙ same_length (seen_of p) edges in
     let j_in : j < length edges = subst (λ n. j < n) many within in
     let i_in : i < length edges = omega (arith, lt, j_in) in
-    let e_is : seen_of p e ≡ Some s = sym (mapped_at (seen_of p) edges i nowhere None i_in)
+    let e_is : seen_of p e ≡ Some s = sym (mapped_at (seen_of p) edges i no_segment None i_in)
     ∙ ap (λ xs. get_or xs i None) (sym (plan_seen p plan)) ∙ s_is in
-    let f_is : seen_of p f ≡ Some t = sym (mapped_at (seen_of p) edges j nowhere None j_in)
+    let f_is : seen_of p f ≡ Some t = sym (mapped_at (seen_of p) edges j no_segment None j_in)
     ∙ ap (λ xs. get_or xs j None) (sym (plan_seen p plan)) ∙ t_is in
-    standing_apart p d e.a e.b f.a f.b s t (may_of e f (two_at stands edges i j nowhere (plan_stands plan sound) lt
+    standing_apart p d e.a e.b f.a f.b s t (may_of e f (two_at stands edges i j no_segment (plan_stands plan sound) lt
     j_in)) (ways_of p e s e_is) (ways_of p f t f_is) s_spans t_spans

@@ -22,7 +22,7 @@ use Rattle.apart_laws.proofs.Between.{faces_where, leaves_where}
 use Rattle.apart_laws.proofs.Plans.{edges_of_plan, two_at, may_of, same_length, plan_seen, plan_stands}
 use Rattle.apart_laws.proofs.Standing.{segment_turned, MayStand, clear, next, prev}
 use Rattle.apart_laws.specs.Standing.{stands}
-use Rattle.front_laws.specs.Seen.{nowhere}
+use Rattle.sight_spec.specs.Isovist.{no_segment}
 use Rattle.front_laws.proofs.Tests.{both_true, none_some, by_cases, some_same, same_tested, clash_to, by_lt, mapped_at}
 use Rattle.front_laws.specs.Seen.{spans, side_of, Seen, seen_of, seen_at}
 use Rattle.apart_laws.specs.Standing.{PassesThrough}
@@ -180,24 +180,24 @@ none_through plan p i j s t sound other i_lt j_lt s_is t_is =
     j_in = subst (λ n. j < n) many j_lt
 
     e : Segment
-    e = get_or (edges_of_plan plan) i nowhere
+    e = get_or (edges_of_plan plan) i no_segment
 
     f : Segment
-    f = get_or (edges_of_plan plan) j nowhere
+    f = get_or (edges_of_plan plan) j no_segment
 
     e_is : seen_of p e ≡ Some s
-    e_is = sym (mapped_at (seen_of p) (edges_of_plan plan) i nowhere None i_in)
+    e_is = sym (mapped_at (seen_of p) (edges_of_plan plan) i no_segment None i_in)
         ∙ ap (λ xs. get_or xs i None) (sym (plan_seen p plan)) ∙ s_is
 
     f_is : seen_of p f ≡ Some t
-    f_is = sym (mapped_at (seen_of p) (edges_of_plan plan) j nowhere None j_in)
+    f_is = sym (mapped_at (seen_of p) (edges_of_plan plan) j no_segment None j_in)
         ∙ ap (λ xs. get_or xs j None) (sym (plan_seen p plan)) ∙ t_is
 
     off : (IsWithinOne f.a e.a e.b → ⊥) × (IsWithinOne f.b e.a e.b → ⊥)
     off = by_lt i j
-        (λ lt. (ends_off e.a e.b f.a f.b (may_of e f (two_at stands (edges_of_plan plan) i j nowhere
+        (λ lt. (ends_off e.a e.b f.a f.b (may_of e f (two_at stands (edges_of_plan plan) i j no_segment
         (plan_stands plan sound) lt j_in))).1)
-        (λ ge. (ends_off f.a f.b e.a e.b (may_of f e (two_at stands (edges_of_plan plan) j i nowhere
+        (λ ge. (ends_off f.a f.b e.a e.b (may_of f e (two_at stands (edges_of_plan plan) j i no_segment
         (plan_stands plan sound) (below ge) i_in))).0)
       where
         below : j ≤ i → j < i

@@ -29,7 +29,8 @@ ghost use Rattle.plane_spec.specs.declared.Point.{Point};
 ghost use Rattle.plan_spec.specs.Accepted.{is_sound};
 ghost use Rattle.plan_spec.specs.Plan.{Plan};
 ghost use Rattle.sight_spec.specs.Scene.{blockers_of_scene, scene_of};
-ghost use Rattle.front_laws.specs.Seen.{BothApart, nowhere, Seen, seen_at, spans};
+ghost use Rattle.front_laws.specs.Seen.{BothApart, Seen, seen_at, spans};
+ghost use Rattle.sight_spec.specs.Isovist.{no_segment};
 ghost use Rattle.apart_laws.specs.Standing.{PassesThrough};
 
 /// Two walls or screens of a sound plan that are seen from p, and that one direction spans, are apart.

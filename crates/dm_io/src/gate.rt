@@ -1,4 +1,4 @@
-//! What is told of the rows that workers claim, once several work side by side.
+//! What is told of the rows that workers claim.
 
 /// Is told each row that a worker claims. It answers nothing and changes nothing that a contract sees.
 pub trait Gate: Sync {

@@ -74,11 +74,6 @@ pub record AreTogether (d : Point) (v w : Seen) : Type 0 where
   pub apart : are_apart v w ≡ true
   pub back : are_apart w v ≡ true
 
--- ---- by numbers
-
--- a segment that stands where there is none
-abbrev pub nowhere : Segment
-nowhere = record { a = point (pos 0) (pos 0); b = point (pos 0) (pos 0) }
 
 -- the wall or screen of the number, as it is seen from p
 abbrev pub seen_at : Point → List Segment → ℕ → Option Seen

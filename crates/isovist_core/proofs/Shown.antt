@@ -14,10 +14,10 @@ use Rattle.plane_spec.specs.Segments.{IsSegmentInRange}
 use Rattle.plane_spec.specs.Fractions.{Fraction, is_before, reduced, whole}
 use Rattle.sight_spec.specs.Scene.{Scene}
 use Rattle.sight_spec.specs.Stops.{stop_of}
-use Rattle.sight_spec.specs.Isovist.{sum_of, stops_at_once, wall_between, sector_in}
+use Rattle.sight_spec.specs.Isovist.{sum_of, stops_at_once, wall_between, sector_in, no_segment}
 use Rattle.sight_core.specs.Scenes.{IsOfSoundPlan}
 use Rattle.sight_core.proofs.Seen.{corners-in_range, walls-in_range}
-use Rattle.front_laws.specs.Seen.{Seen, nowhere}
+use Rattle.front_laws.specs.Seen.{Seen}
 use Rattle.front_laws.proofs.Tests.{by_cases, by_lt, tested_zero}
 use Rattle.sweep_laws.specs.First.{IsFirst}
 use Rattle.sweep_laws.specs.Groups.{is_ahead, no_corner}
@@ -135,7 +135,7 @@ pub ground_in : (scene : Scene) (p : Point) (under : Ground) → IsOfSoundPlan s
 ground_in scene p under of (at_corner c f) = subst IsCornerInRange f.corner
     ((corners-in_range scene of) f.number no_corner f.within)
 ground_in scene p under of (on_wall w none o) = subst IsSegmentInRange o.wall
-    ((walls-in_range scene of) o.number nowhere o.within)
+    ((walls-in_range scene of) o.number no_segment o.within)
 ground_in scene p under of (on_nothing none bare) = refl
 
 -- ---- what it tells of a place

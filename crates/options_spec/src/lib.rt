@@ -6,7 +6,7 @@
 //! | [`Options`], [`Job`] | what the command was asked for |
 //! | [`Mode`] | which tables of a plan are printed |
 //! | [`Form`] | how records are printed: as text or as csv |
-//! | [`MAX_WORKERS`], [`MAX_TRIAL_BOXES`] | how many threads and boxes may be asked for |
+//! | [`MAX_WORKERS`], [`MAX_TRIAL_BOXES`] | how many workers and boxes may be asked for |
 //!
 //! `specs/Options.antt` says which options texts stand for; which words of the command give which texts is said in
 //! `words_spec`.

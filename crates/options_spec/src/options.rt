@@ -4,7 +4,7 @@ ghost use Rattle.std.specs.Prelude.{◌≡◌};
 
 use std::marker::Model;
 
-/// How many threads may work at once.
+/// How many workers may be asked for.
 pub const MAX_WORKERS: usize = 64;
 
 /// How many boxes the trial plan may have.
@@ -71,7 +71,7 @@ pub struct Given<'a> {
     pub mode: Option<GivenText<'a>>,
     /// The name of the plan's file.
     pub file: Option<GivenText<'a>>,
-    /// How many threads may work.
+    /// How many workers share the work.
     pub workers: Option<GivenText<'a>>,
     /// How records are printed.
     pub format: Option<GivenText<'a>>,
@@ -93,7 +93,7 @@ pub enum Job<'a> {
 pub struct Options<'a> {
     /// What is to be done.
     pub job: Job<'a>,
-    /// How many threads may work at once, from 1 to [`MAX_WORKERS`].
+    /// How many workers share the work, from 1 to [`MAX_WORKERS`].
     pub workers: usize,
     /// How records are printed.
     pub form: Form,

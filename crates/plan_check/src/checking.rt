@@ -17,8 +17,8 @@ use text_spec::NoMemory;
 /// Why items make no plan.
 #[derive(Drop)]
 pub enum CheckFault {
-    /// The item of this number, counted from 0, is the first that is refused, for this cause. Without an outer polygon it
-    /// is the number of items, and [`Why::Order`].
+    /// The item of this number, counted from 0, is the first that is refused, for this cause. Without items it is
+    /// 0, and the cause [`Why::Order`].
     Bad { item: u32, why: Why },
     /// There is no memory.
     NoMemory,

@@ -2,16 +2,16 @@
 //!
 //! A law is a function without parameters and with an empty body, whose contract states it.
 //!
-//! | law | what it says |
-//! |---|---|
-//! | [`adding_an_item`] | an item is refused exactly where the plan with it would not be sound |
-//! | [`checking_items`] | adding items one after the other accepts what the condition on the whole list accepts |
-//! | [`the_ranges_of_a_sound_plan`] | its points are in range, and no limit is passed |
-//! | [`editing_a_sound_plan`] | an edit is refused exactly where it names nothing or the plan after it would not be sound |
-//! | [`the_boxes_of_an_edit`] | where nothing refuses the edit, they are in range |
-//! | [`the_edit_between_two_plans`] | the plan after it is sound, and its boxes are in range |
-//! | [`the_items_of_a_plan`] | the items of a sound plan are accepted and make that plan again |
-//! | [`grid_points_are_numbered_by_rows`] | number `row * cols + col` is the point in that row and column, and each point has its number alone |
+//! | law | what it says | breaks if .. changes |
+//! |---|---|---|
+//! | [`adding_an_item`] | an item is refused exactly where the plan with it would not be sound | `may_follow`, `why_not_item`, `is_sound` |
+//! | [`checking_items`] | adding items one after the other accepts what the condition on the whole list accepts | `check_of`, `is_accepted` |
+//! | [`the_ranges_of_a_sound_plan`] | its points are in range, and no limit is passed | `is_sound`, `grid_points` |
+//! | [`editing_a_sound_plan`] | an edit is refused exactly where it names nothing or the plan after it would not be sound | `is_there`, `why_not_edit`, `is_sound` |
+//! | [`the_boxes_of_an_edit`] | where nothing refuses the edit, they are in range | `changed_boxes`, `why_not_edit` |
+//! | [`the_edit_between_two_plans`] | the plan after it is sound, and its boxes are in range | `IsEditBetween` |
+//! | [`the_items_of_a_plan`] | the items of a sound plan are accepted and make that plan again | `items_of`, `with_items`, `check_of` |
+//! | [`grid_points_are_numbered_by_rows`] | number `row * cols + col` is the point in that row and column, and each point has its number alone | `grid_points`, `number_of_point` |
 //!
 //! Proofs of code cite the laws by the lemmas in `proofs/`, which state them kind by kind.
 #![tactic(auto)]

@@ -13,6 +13,9 @@
 //! | [`Line`], [`Query`], [`TextWhy`], [`LineNumbers`] | what is read from a line |
 //! | [`Edit`], [`GridSpec`], [`Item`], [`Items`], [`PlanData`], [`Point`], [`Points`], [`Name`] | what plans and edits are made of |
 //! | [`natural`] | the number that a word of digits stands for |
+//! | [`next_word`], [`is_word`], [`is_long`] | the words of a line one by one, and whether a line is too long |
+//! | [`next_number`], [`numbers_alone`] | the numbers of a line one by one, and whether there are as many as asked for |
+//! | [`keyword`], [`is_screen`], [`have_screens`] | the keyword of an item, and whether items ask for the second version |
 //! | [`NoMemory`] | what is answered where there is no memory |
 //! | [`MAX_PLAN_BYTES`] | how many bytes the text of a plan may have |
 //!
@@ -32,11 +35,15 @@ mod script_lines;
 mod words;
 
 pub use faults::{ReadLineFault, ReadPlanFault};
-pub use grammar_spec::{Line, LineNumbers, MAX_PLAN_BYTES, Query, TextWhy};
+pub use fields::{next_number, numbers_alone};
+pub use grammar_spec::{Count, Line, LineNumbers, MAX_PLAN_BYTES, Query, TextWhy};
 pub use numbers::natural;
 pub use plan_spec::{Edit, GridSpec, Item, Items, PlanData, Points};
 pub use plane_spec::Point;
 pub use plans::{PlanText, read_plan};
-pub use printing::{accepted_plans_are_printable, print_plan, prints_and_reads};
+pub use printing::{
+    accepted_plans_are_printable, have_screens, is_screen, keyword, print_plan, prints_and_reads,
+};
 pub use script_lines::{read_line, shown_lines_are_read};
 pub use text_spec::{Name, NoMemory};
+pub use words::{is_long, is_word, next_word};

@@ -80,8 +80,8 @@ fn put_segment(text: &mut Vec<u8>, name: &Name, from: Point, to: Point) -> Resul
     put_ends(text, from, to)
 }
 
-/// The keyword of an item.
-fn keyword(item: &Item) -> &'static [u8]
+/// The keyword with which the line of an item begins.
+pub fn keyword(item: &Item) -> &'static [u8]
     ensures { result.now ≡ keyword (word_of_item item.now) }
 {
     match item {
@@ -122,13 +122,15 @@ fn put_item(text: &mut Vec<u8>, item: &Item) -> Result<(), NoMemory>
     put(text, b"\n")
 }
 
-fn is_screen(item: &Item) -> bool
+/// Whether the item is a screen.
+pub fn is_screen(item: &Item) -> bool
     ensures { result ≡ is_screen item.now }
 {
     matches!(item, Item::Screen(..))
 }
 
-fn have_screens(items: &[Item]) -> bool
+/// Whether one of the items is a screen, so that their plan is of the second version.
+pub fn have_screens(items: &[Item]) -> bool
     ensures { result ≡ list_any is_screen items.now }
 {
     items.iter().any(is_screen)

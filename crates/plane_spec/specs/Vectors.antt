@@ -16,6 +16,10 @@ point x y = record { x = x; y = y }
 abbrev pub vector : Point → Point → Point
 vector a b = point (b.x -ℤ a.x) (b.y -ℤ a.y)
 
+-- the opposite direction
+abbrev pub reversed_direction : Point → Point
+reversed_direction d = point (neg_ℤ d.x) (neg_ℤ d.y)
+
 -- positive where e is strictly left of d, and 0 where they are in line
 abbrev pub cross_of : Point → Point → ℤ
 cross_of d e = d.x *ℤ e.y -ℤ d.y *ℤ e.x

@@ -11,7 +11,7 @@ use Rattle.plane_spec.specs.declared.Point.{Point}
 use Rattle.plane_spec.specs.declared.Segment.{Segment}
 use Rattle.sight_spec.specs.Scene.{scene_of, blockers_of_scene}
 use Rattle.apart_laws.proofs.Through.{by_ends}
-use Rattle.front_laws.specs.Seen.{nowhere}
+use Rattle.sight_spec.specs.Isovist.{no_segment}
 use Rattle.front_laws.proofs.Tests.{zero_between, mapped_at, number_less_tested}
 use Rattle.front_laws.specs.Seen.{Seen, spans, side_of, is_in_front, are_apart, seen_of, seen_at}
 use Rattle.round_laws.proofs.Corners.{begins_behind, begins_before, begin_together}
@@ -52,8 +52,8 @@ new_where s t up spanned apart = by_lt_z (side_of s t.from) (pos 0)
 
 pub seen_of_number : (p : Point) (blockers : List Segment) (j : ℕ) (t : Seen) → j < length blockers
     → seen_at p blockers j
-    ≡ Some t → seen_of p (get_or blockers j nowhere) ≡ Some t
-seen_of_number p blockers j t within h = sym (mapped_at (seen_of p) blockers j nowhere None within) ∙ h
+    ≡ Some t → seen_of p (get_or blockers j no_segment) ≡ Some t
+seen_of_number p blockers j t within h = sym (mapped_at (seen_of p) blockers j no_segment None within) ∙ h
 
 -- ---- covers
 
@@ -61,11 +61,11 @@ seen_of_number p blockers j t within h = sym (mapped_at (seen_of p) blockers j n
 pub covered_by : (p d : Point) (blockers : List Segment) (kept : ℕ → Bool) (c : ℕ) (cover : Seen) (j : ℕ) (t : Seen)
     → c < length blockers → kept c ≡ true → seen_at p blockers c ≡ Some cover → spans d cover ≡ true
     → j < length blockers → seen_at p blockers j ≡ Some t → spans d t ≡ true
-    → int_lt (side_of cover (vector p (get_or blockers j nowhere).a)) (pos 0) ≡ true
-    → int_lt (side_of cover (vector p (get_or blockers j nowhere).b)) (pos 0) ≡ true
+    → int_lt (side_of cover (vector p (get_or blockers j no_segment).a)) (pos 0) ≡ true
+    → int_lt (side_of cover (vector p (get_or blockers j no_segment).b)) (pos 0) ≡ true
     → IsCovered p d blockers kept t
 covered_by p d blockers kept c cover j t c_in c_kept c_seen c_spans j_in t_seen t_spans first last =
-    let e = by_ends (λ v. int_lt (side_of cover v) (pos 0) ≡ true) p (get_or blockers j nowhere) t first last
+    let e = by_ends (λ v. int_lt (side_of cover v) (pos 0) ≡ true) p (get_or blockers j no_segment) t first last
     (seen_of_number p blockers j t j_in t_seen) in
     record {
       number = c;
@@ -101,20 +101,20 @@ bin_spanned d cover bin d_in d_some b low high own =
 -- a wall of a body that is strictly right of a direction before the arc isn't spanned in it
 pub right_unspanned : (a p d : Point) (blockers : List Segment) (j : ℕ) (t : Seen) → j < length blockers
     → seen_at p blockers j ≡ Some t → IsBlocker t → pos 0 ≤ℤ cross_of a d
-    → cross_of a (vector p (get_or blockers j nowhere).a) <ℤ pos 0
-    → cross_of a (vector p (get_or blockers j nowhere).b) <ℤ pos 0 → spans d t ≡ false
+    → cross_of a (vector p (get_or blockers j no_segment).a) <ℤ pos 0
+    → cross_of a (vector p (get_or blockers j no_segment).b) <ℤ pos 0 → spans d t ≡ false
 right_unspanned a p d blockers j t within seen b left first last =
-    let e = by_ends (λ v. cross_of a v <ℤ pos 0) p (get_or blockers j nowhere) t first last
+    let e = by_ends (λ v. cross_of a v <ℤ pos 0) p (get_or blockers j no_segment) t first last
     (seen_of_number p blockers j t within seen) in
     right_of_arc a d t b.up left e.0 e.1
 
 -- and one strictly left of a direction after the arc isn't
 pub left_unspanned : (a p d : Point) (blockers : List Segment) (j : ℕ) (t : Seen) → j < length blockers
     → seen_at p blockers j ≡ Some t → IsBlocker t → cross_of a d ≤ℤ pos 0
-    → pos 0 <ℤ cross_of a (vector p (get_or blockers j nowhere).a)
-    → pos 0 <ℤ cross_of a (vector p (get_or blockers j nowhere).b) → spans d t ≡ false
+    → pos 0 <ℤ cross_of a (vector p (get_or blockers j no_segment).a)
+    → pos 0 <ℤ cross_of a (vector p (get_or blockers j no_segment).b) → spans d t ≡ false
 left_unspanned a p d blockers j t within seen b right first last =
-    let e = by_ends (λ v. pos 0 <ℤ cross_of a v) p (get_or blockers j nowhere) t first last
+    let e = by_ends (λ v. pos 0 <ℤ cross_of a v) p (get_or blockers j no_segment) t first last
     (seen_of_number p blockers j t within seen) in
     left_of_arc a d t b.up right e.0 e.1
 
@@ -123,12 +123,12 @@ left_unspanned a p d blockers j t within seen b right first last =
 -- the lines of an accepted plan, as they are seen from a point in range
 pub walls_of_plan : (plan : Plan) (p : Point) → is_sound plan ≡ true → InRange p
     → ((n : ℕ) → n < length (blockers_of_scene (scene_of plan))
-    → InRange (get_or (blockers_of_scene (scene_of plan)) n nowhere).a)
+    → InRange (get_or (blockers_of_scene (scene_of plan)) n no_segment).a)
     → ((n : ℕ) → n < length (blockers_of_scene (scene_of plan))
-    → InRange (get_or (blockers_of_scene (scene_of plan)) n nowhere).b)
+    → InRange (get_or (blockers_of_scene (scene_of plan)) n no_segment).b)
     → AreWalls (scene_of plan) p
 walls_of_plan plan p sound p_in a_in b_in = record {
-  blockers = λ n s within seen. blocker_of p (get_or (blockers_of_scene (scene_of plan)) n nowhere) s p_in
+  blockers = λ n s within seen. blocker_of p (get_or (blockers_of_scene (scene_of plan)) n no_segment) s p_in
       (a_in n within) (b_in n within) (seen_of_number p (blockers_of_scene (scene_of plan)) n s within seen);
   apart = λ d. all_apart plan p d sound;
 }

@@ -15,7 +15,8 @@ use Rattle.plane_spec.specs.declared.Segment.{Segment}
 use Rattle.plane_spec.specs.Vectors.{vector, cross_of, dot_of, IsDirection, IsDirected}
 use Rattle.sight_spec.specs.Scene.{Scene, blockers_of_scene}
 use Rattle.int_laws.proofs.Signs.{tested_positive}
-use Rattle.front_laws.specs.Seen.{Seen, spans, seen_at, nowhere}
+use Rattle.front_laws.specs.Seen.{Seen, spans, seen_at}
+use Rattle.sight_spec.specs.Isovist.{no_segment}
 use Rattle.front_laws.proofs.Tests.{both_of, tested_zero, tested_number_less, tested_same_number, number_less_tested}
 use Rattle.turn_laws.specs.Places.{place_of}
 use Rattle.turn_laws.specs.Turns.{among_by}
@@ -48,7 +49,7 @@ wall_covered p d blockers kept j t d_in d_some are j_in t_seen h spanned =
     covered_by p d blockers kept c.number c.cover j t c.within c.is_kept c.seen
     (bin_spanned d c.cover (bin_of (place_of d)) d_in d_some (are c.number c.cover c.within c.seen) c.starts c.ends
     refl)
-    j_in t_seen spanned (c.behind (get_or blockers j nowhere).a h.first) (c.behind (get_or blockers j nowhere).b h.last)
+    j_in t_seen spanned (c.behind (get_or blockers j no_segment).a h.first) (c.behind (get_or blockers j no_segment).b h.last)
   where
     ends : (from_place t < place_of d) × (place_of d < to_place t)
     ends = between_ends (from_place t) (to_place t) (place_of d) h.in_turn

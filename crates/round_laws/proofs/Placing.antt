@@ -5,7 +5,7 @@ use Rattle.std.proofs.Common.{refl, List, length, get_or}
 use Rattle.std.proofs.lemmas.Int.{ints}
 use Rattle.std.specs.Prelude.{if◌then◌else◌, ◌&&◌, ◌||◌, true, int_lt, cond, Bool, false, not, Option, Some, None}
 use Rattle.plane_spec.specs.Cones.{is_in_cone}
-use Rattle.plane_spec.specs.Vectors.{cross_of, turns_left, IsDirected, vector, dot_of}
+use Rattle.plane_spec.specs.Vectors.{cross_of, turns_left, IsDirected, vector, dot_of, reversed_direction}
 use Rattle.plane_spec.specs.declared.Corner.{Corner}
 use Rattle.plane_spec.specs.declared.Point.{Point}
 use Rattle.int_laws.proofs.Ring.{product_swapped, times_minus}
@@ -16,7 +16,7 @@ use Rattle.front_laws.proofs.Tests.{tested_negative, by_lt, clash_to, either_fir
 use Rattle.front_laws.specs.Seen.{Seen, spans, AreTogether, side_of, is_in_front}
 use Rattle.round_laws.proofs.Corners.{begins_behind, begins_before}
 use Rattle.round_laws.specs.Rounds.{AreApartAhead, IsBlocker}
-use Rattle.sweep_laws.specs.Groups.{no_corner, back_of}
+use Rattle.sweep_laws.specs.Groups.{no_corner}
 use Rattle.turn_laws.proofs.After.{spans_on, begins_at}
 use Rattle.turn_laws.proofs.Together.{together_after}
 use Rattle.turn_laws.specs.Turns.{just_after}
@@ -175,7 +175,7 @@ one_reached p test cs first i inside others = by_test (test (get_or cs i no_corn
     }
 
 -- the vectors back stand in one direction too
-back_along : (d v : Point) → IsAlong d v → IsAlong (back_of d) (back_of v)
+back_along : (d v : Point) → IsAlong d v → IsAlong (reversed_direction d) (reversed_direction v)
 back_along d v a = record { line = cross_is ∙ a.line; ahead = subst (λ t. pos 0 <ℤ t) (sym dot_is) a.ahead }
   where
     turn : (x y : ℤ) → neg_ℤ x *ℤ neg_ℤ y ≡ x *ℤ y
@@ -188,13 +188,13 @@ back_along d v a = record { line = cross_is ∙ a.line; ahead = subst (λ t. pos
         let j = times_minus y (pos 0) x in
         omega (arith, ints, g, h, i, j)
 
-    cross_is : cross_of (back_of d) (back_of v) ≡ cross_of d v
+    cross_is : cross_of (reversed_direction d) (reversed_direction v) ≡ cross_of d v
     cross_is = let e = turn d.x v.y in let f = turn d.y v.x in omega (arith, ints, e, f)
 
-    dot_is : dot_of (back_of d) (back_of v) ≡ dot_of d v
+    dot_is : dot_of (reversed_direction d) (reversed_direction v) ≡ dot_of d v
     dot_is = let e = turn d.x v.x in let f = turn d.y v.y in omega (arith, ints, e, f)
 
 -- so the way back leads into a corner by all of one direction or by none
-pub cone_back : (c : Corner) (d v : Point) → IsDirected (back_of d) → IsAlong d v → is_in_cone c (back_of v)
-    ≡ is_in_cone c (back_of d)
-cone_back c d v some along = cone_along c (back_of d) (back_of v) some (back_along d v along)
+pub cone_back : (c : Corner) (d v : Point) → IsDirected (reversed_direction d) → IsAlong d v → is_in_cone c (reversed_direction v)
+    ≡ is_in_cone c (reversed_direction d)
+cone_back c d v some along = cone_along c (reversed_direction d) (reversed_direction v) some (back_along d v along)

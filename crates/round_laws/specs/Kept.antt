@@ -10,7 +10,7 @@ use Rattle.front_laws.specs.Seen.{Seen, spans, side_of, seen_at, hit_of}
 use Rattle.sweep_laws.specs.Groups.{stands_in, no_corner}
 use Rattle.std.specs.Prelude.{◌/◌, ◌≤◌}
 use Rattle.turn_laws.specs.Places.{place_of}
-use Rattle.front_laws.specs.Seen.{nowhere}
+use Rattle.sight_spec.specs.Isovist.{no_segment}
 
 -- it is spanned, and all kept others that are spanned are hit after it; it may itself be one that isn't kept
 pub record IsKeptFront (p d : Point) (blockers : List Segment) (kept : ℕ → Bool) (k : ℕ) (s : Seen) : Type 0 where
@@ -89,8 +89,8 @@ pub record IsHiddenWall (p : Point) (blockers : List Segment) (kept : ℕ → Bo
   pub low : ℕ
   pub high : ℕ
   pub covers : AreBinsCovered p blockers kept has low high
-  pub first : has (get_or blockers j nowhere).a ≡ true
-  pub last : has (get_or blockers j nowhere).b ≡ true
+  pub first : has (get_or blockers j no_segment).a ≡ true
+  pub last : has (get_or blockers j no_segment).b ≡ true
   pub in_turn : place_of t.from < place_of t.to
   pub from_low : low ≤ bin_of (place_of t.from)
   pub to_high : bin_of (place_of t.to) ≤ high

@@ -22,8 +22,8 @@
 //! | [`a_corner_with_a_sector`] | one more sector, if it says what is first and the nearest corners of its direction | the same |
 //! | [`a_corner_without_a_sector`] | none, if the first stays and has all corners of the direction behind it | the same |
 //! | [`the_round_ends_with_a_view`] | once the arc is below the place, the sectors are a view | `IsViewOf` |
-//! | [`the_first_of_the_kept_is_the_first`] | what may be left out | `IsFirst` |
-//! | [`a_corner_behind_a_blocker_is_behind_the_first`] | and which corners | the same |
+//! | [`the_first_of_the_kept_is_the_first`] | a blocker may be left out where each direction that spans it spans a kept one before it | `IsFirst` |
+//! | [`a_corner_behind_a_blocker_is_behind_the_first`] | a corner may be left out where a kept blocker spans its direction before it | the same |
 //! | [`a_hidden_body_may_be_left_out`] | bodies behind covers in all of their bins | `place_of` |
 //!
 //! Definitions: `Rounds` and `Kept`. Proofs cite `proofs/`: `Sectors` and `Endings` (the steps), `Steps` (what the list

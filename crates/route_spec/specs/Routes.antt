@@ -4,7 +4,7 @@ use Rattle.std.specs.Ordering.{int_eq}
 use Rattle.std.specs.List.{flat_map, filter_map, enumerate_from}
 use Rattle.plane_spec.specs.declared.Point.{Point}
 use Rattle.plane_spec.specs.Lists.{distinct_by, in_order}
-use Rattle.plane_spec.specs.Vectors.{point, vector, cross_of, dot_of}
+use Rattle.plane_spec.specs.Vectors.{point, reversed_direction, vector, cross_of, dot_of}
 use Rattle.plane_spec.specs.Segments.{do_touch}
 use Rattle.plane_spec.specs.Fractions.{Fraction, RPoint, fraction, is_before, same_value, whole_point, along, same_rpoint}
 use Rattle.plan_spec.specs.declared.item.Route.{Route}
@@ -117,10 +117,6 @@ head_of r forward = if forward then r.to else r.from
 -- the end from which it is walked
 abbrev pub tail_of : Piece → Bool → RPoint
 tail_of r forward = if forward then r.from else r.to
-
--- the opposite direction
-abbrev pub reversed_direction : Point → Point
-reversed_direction d = point (neg_ℤ d.x) (neg_ℤ d.y)
 
 -- the direction in which a piece is walked
 abbrev pub heading_direction : Piece → Bool → Point

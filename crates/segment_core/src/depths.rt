@@ -17,7 +17,7 @@ use text_spec::NoMemory;
 
 fn reversed_direction(d: Point) -> Point
     requires { IsDirection d }
-    ensures value { result ≡ Rattle.route_spec.specs.Routes.reversed_direction d }
+    ensures value { result ≡ Rattle.plane_spec.specs.Vectors.reversed_direction d }
     ensures direction { IsDirection result }
 {
     Point { x: -d.x, y: -d.y }

@@ -15,7 +15,7 @@ use Rattle.sight_spec.specs.Scene.{Scene, blockers_of_scene}
 use Rattle.sight_core.specs.Scenes.{IsOfSoundPlan}
 use Rattle.sight_core.proofs.Counts.{few_walls, few_screens}
 use Rattle.apart_laws.proofs.Plans.{points_same}
-use Rattle.front_laws.specs.Seen.{nowhere}
+use Rattle.sight_spec.specs.Isovist.{no_segment}
 use Rattle.front_laws.proofs.Tests.{by_lt, by_cases, mapped_at, other_of_either}
 use Rattle.sweep_laws.specs.Groups.{no_corner}
 use Rattle.sight_sweep.specs.declared.range.Range.{Range}
@@ -49,24 +49,24 @@ same_number k n h j = omega (arith, h, j)
 
 -- both ends of one more
 pub both_ends : (lines : List Segment) (k : ℕ) (line : Segment) (ends : List ℕ) → k < 2048 → k < length lines
-    → line ≡ get_or lines k nowhere → HasEnds lines k ends
+    → line ≡ get_or lines k no_segment → HasEnds lines k ends
     → HasEnds lines (k + 1) ((ends ++ end_of line.a k ∷ []) ++ end_of line.b k ∷ [])
 both_ends lines k line ends small inside read h = record {
   within = All-push (λ e. e % 2048 < length lines) (ends ++ end_of line.a k ∷ []) (end_of line.b k)
       (All-push (λ e. e % 2048 < length lines) ends (end_of line.a k) h.within (numbered (key_of line.a)))
       (numbered (key_of line.b));
   firsts = λ j lt. by_lt j k
-      (λ low. more (ends ++ end_of line.a k ∷ []) (end_of (get_or lines j nowhere).a j) (end_of line.b k)
-      (more ends (end_of (get_or lines j nowhere).a j) (end_of line.a k) (h.firsts j low)))
+      (λ low. more (ends ++ end_of line.a k ∷ []) (end_of (get_or lines j no_segment).a j) (end_of line.b k)
+      (more ends (end_of (get_or lines j no_segment).a j) (end_of line.a k) (h.firsts j low)))
       (λ high. subst (λ n. Contains ((ends ++ end_of line.a k ∷ []) ++ end_of line.b k ∷ [])
-      (end_of (get_or lines n nowhere).a n)) (same_number j k lt high)
+      (end_of (get_or lines n no_segment).a n)) (same_number j k lt high)
       (subst (λ w. Contains ((ends ++ end_of line.a k ∷ []) ++ end_of line.b k ∷ []) (end_of w.a k)) read
       (more (ends ++ end_of line.a k ∷ []) (end_of line.a k) (end_of line.b k) (last ends (end_of line.a k)))));
   seconds = λ j lt. by_lt j k
-      (λ low. more (ends ++ end_of line.a k ∷ []) (end_of (get_or lines j nowhere).b j) (end_of line.b k)
-      (more ends (end_of (get_or lines j nowhere).b j) (end_of line.a k) (h.seconds j low)))
+      (λ low. more (ends ++ end_of line.a k ∷ []) (end_of (get_or lines j no_segment).b j) (end_of line.b k)
+      (more ends (end_of (get_or lines j no_segment).b j) (end_of line.a k) (h.seconds j low)))
       (λ high. subst (λ n. Contains ((ends ++ end_of line.a k ∷ []) ++ end_of line.b k ∷ [])
-      (end_of (get_or lines n nowhere).b n)) (same_number j k lt high)
+      (end_of (get_or lines n no_segment).b n)) (same_number j k lt high)
       (subst (λ w. Contains ((ends ++ end_of line.a k ∷ []) ++ end_of line.b k ∷ []) (end_of w.b k)) read
       (last (ends ++ end_of line.a k ∷ []) (end_of line.b k))));
 }
@@ -80,8 +80,8 @@ sorted_ends lines ends sorted same order h = record {
   sorted = order;
   has = record {
     within = All-permutation (λ e. e % 2048 < length lines) ends sorted same h.within;
-    firsts = λ k lt. Contains-permutation ends sorted (end_of (get_or lines k nowhere).a k) same (h.firsts k lt);
-    seconds = λ k lt. Contains-permutation ends sorted (end_of (get_or lines k nowhere).b k) same (h.seconds k lt);
+    firsts = λ k lt. Contains-permutation ends sorted (end_of (get_or lines k no_segment).a k) same (h.firsts k lt);
+    seconds = λ k lt. Contains-permutation ends sorted (end_of (get_or lines k no_segment).b k) same (h.seconds k lt);
   };
 }
 
@@ -195,14 +195,14 @@ around_of scene ends x range few h r = record {
       subst (λ n. n < length (blockers_of_scene scene))
       (sym (get_or-between (numbers_at ends) range.from range.upto i d j ∙ read_at ends (range.from + i) d k))
       (h.within (range.from + i) 0 k);
-  all = λ n lt at. by_cases (same_point (get_or (blockers_of_scene scene) n nowhere).a x)
+  all = λ n lt at. by_cases (same_point (get_or (blockers_of_scene scene) n no_segment).a x)
       (λ first. found ends x range n (short_of n (length (blockers_of_scene scene)) 2048 lt few) r
-      (subst (λ y. Contains ends (end_of y n)) (points_same (get_or (blockers_of_scene scene) n nowhere).a x first)
+      (subst (λ y. Contains ends (end_of y n)) (points_same (get_or (blockers_of_scene scene) n no_segment).a x first)
       (h.firsts n lt)))
       (λ other. found ends x range n (short_of n (length (blockers_of_scene scene)) 2048 lt few) r
-      (subst (λ y. Contains ends (end_of y n)) (points_same (get_or (blockers_of_scene scene) n nowhere).b x
-      (other_of_either (same_point (get_or (blockers_of_scene scene) n nowhere).a x)
-      (same_point (get_or (blockers_of_scene scene) n nowhere).b x) other at)) (h.seconds n lt)));
+      (subst (λ y. Contains ends (end_of y n)) (points_same (get_or (blockers_of_scene scene) n no_segment).b x
+      (other_of_either (same_point (get_or (blockers_of_scene scene) n no_segment).a x)
+      (same_point (get_or (blockers_of_scene scene) n no_segment).b x) other at)) (h.seconds n lt)));
 }
   where
     upto_in : range.upto ≤ length (numbers_at ends)

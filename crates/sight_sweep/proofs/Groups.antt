@@ -17,7 +17,7 @@ use Rattle.apart_laws.proofs.Through.{by_ends}
 use Rattle.sight_sweep.specs.declared.blocker.Blocker.{Blocker}
 use Rattle.sight_sweep.specs.Actives.{IsActive, SpansAll, without, beside, unless_ended, or_begun}
 use Rattle.sight_sweep.specs.Tables.{AreAround, ends_at}
-use Rattle.front_laws.specs.Seen.{nowhere}
+use Rattle.sight_spec.specs.Isovist.{no_segment}
 use Rattle.sight_sweep.specs.Events.{way_at, corner_of}
 use Rattle.sight_sweep.specs.Rounds.{ends_among, begins_among}
 use Rattle.sight_sweep.proofs.Actives.{active_so}
@@ -139,8 +139,8 @@ among_all numbers n c = any_at (λ m. m == n) numbers n
     (record { place = c.0; within = c.1; holds = subst (λ m. (m == n) ≡ true) (sym c.2) (own_number n) })
 
 seen_of_number : (p : Point) (lines : List Segment) (j : ℕ) (t : Seen) → j < length lines → seen_at p lines j ≡ Some t
-    → seen_of p (get_or lines j nowhere) ≡ Some t
-seen_of_number p lines j t within h = sym (mapped_at (seen_of p) lines j nowhere None within) ∙ h
+    → seen_of p (get_or lines j no_segment) ≡ Some t
+seen_of_number p lines j t within h = sym (mapped_at (seen_of p) lines j no_segment None within) ∙ h
 
 pub take_whole : {X : Type 0} (k : ℕ) (xs : List X) → length xs ≤ k → take k xs ≡ xs
 take_whole zero [] h = refl
@@ -159,7 +159,7 @@ ended_all scene p x kept test numbers active k end around a = active_so scene p 
     (guarded (same_point s.to (vector p x)) (is_among_first n k numbers) true
     (λ here. ap (list_any (λ m. m == n)) (take_whole k numbers end)
     ∙ among_all numbers n (around.all n within
-    (ends_there p x (get_or (blockers_of_scene scene) n nowhere) s
+    (ends_there p x (get_or (blockers_of_scene scene) n no_segment) s
     (seen_of_number p (blockers_of_scene scene) n s within is) here)))
     ∙ only (same_point s.to (vector p x))))
   where
@@ -240,7 +240,7 @@ begun_all scene p x kept test numbers active k end around a = active_so scene p 
     (guarded (same_point s.from (vector p x)) (is_among_first n k numbers) true
     (λ here. ap (list_any (λ m. m == n)) (take_whole k numbers end)
     ∙ among_all numbers n (around.all n within
-    (begins_there p x (get_or (blockers_of_scene scene) n nowhere) s
+    (begins_there p x (get_or (blockers_of_scene scene) n no_segment) s
     (seen_of_number p (blockers_of_scene scene) n s within is) here)))
     ∙ only (same_point s.from (vector p x))))
   where

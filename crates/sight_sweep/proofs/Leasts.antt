@@ -6,7 +6,8 @@ use Rattle.std.proofs.lemmas.List.{drop_more}
 use Rattle.plane_spec.specs.declared.Point.{Point}
 use Rattle.plane_spec.specs.declared.Corner.{Corner}
 use Rattle.plane_spec.specs.Cones.{is_in_cone}
-use Rattle.sweep_laws.specs.Groups.{no_corner, back_of}
+use Rattle.sweep_laws.specs.Groups.{no_corner}
+use Rattle.plane_spec.specs.Vectors.{reversed_direction}
 use Rattle.view_laws.specs.Views.{length_of}
 use Rattle.sight_sweep.specs.Events.{way_at, corner_of}
 use Rattle.sight_sweep.specs.Rounds.{least_from, lesser_of, leads_ahead, leads_behind, far_of}
@@ -55,15 +56,15 @@ ahead_step p corners group k index corner way least next lt index_is corner_is w
 pub behind_step : (p : Point) (corners : List Corner) (group : List ℕ) (k index : ℕ) (corner : Corner) (way : Point)
     (least next : Option ℕ) → k < length group → index ≡ corner_of (get_or group k 0)
     → corner ≡ get_or corners index no_corner → way ≡ way_at p corners index → next
-    ≡ (if is_in_cone corner (back_of way) then lesser_of least (length_of way) else least)
+    ≡ (if is_in_cone corner (reversed_direction way) then lesser_of least (length_of way) else least)
     → least_from (leads_behind p corners) (far_of p corners) next (drop (k + 1) group)
     ≡ least_from (leads_behind p corners) (far_of p corners) least (drop k group)
 behind_step p corners group k index corner way least next lt index_is corner_is way_is next_is =
     step (leads_behind p corners) (far_of p corners) least next group k lt
-    (next_is ∙ ap (λ c. if is_in_cone c (back_of way) then lesser_of least (length_of way) else least) corner_is
-    ∙ ap (λ v. if is_in_cone (get_or corners index no_corner) (back_of v) then lesser_of least
+    (next_is ∙ ap (λ c. if is_in_cone c (reversed_direction way) then lesser_of least (length_of way) else least) corner_is
+    ∙ ap (λ v. if is_in_cone (get_or corners index no_corner) (reversed_direction v) then lesser_of least
     (length_of v) else least) way_is
-    ∙ ap (λ i. if is_in_cone (get_or corners i no_corner) (back_of (way_at p corners i)) then lesser_of least
+    ∙ ap (λ i. if is_in_cone (get_or corners i no_corner) (reversed_direction (way_at p corners i)) then lesser_of least
     (length_of (way_at p corners i)) else least) index_is)
 
 -- the place that was just read

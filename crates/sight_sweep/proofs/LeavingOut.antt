@@ -6,7 +6,8 @@ use Rattle.int_laws.proofs.Signs.{tested_positive, positive_tested}
 use Rattle.plane_spec.specs.declared.Point.{Point}
 use Rattle.plane_spec.specs.Vectors.{vector, cross_of, same_point, IsDirection, IsDirected}
 use Rattle.sight_spec.specs.Scene.{Scene, blockers_of_scene}
-use Rattle.front_laws.specs.Seen.{Seen, spans, side_of, seen_at, nowhere}
+use Rattle.front_laws.specs.Seen.{Seen, spans, side_of, seen_at}
+use Rattle.sight_spec.specs.Isovist.{no_segment}
 use Rattle.front_laws.proofs.Tests.{by_cases, clash_to, both_of, both_true, tested_same_number}
 use Rattle.turn_laws.specs.Places.{place_of}
 use Rattle.apart_laws.proofs.Beside.{same_itself}
@@ -58,7 +59,7 @@ pub covered_whole : (scene : Scene) (p d : Point) (kept : ℕ → Bool) (j : ℕ
     → seen_at p (blockers_of_scene scene) j ≡ Some t → spans d t ≡ true → IsCoveredWhole scene p kept j
     → IsCovered p d (blockers_of_scene scene) kept t
 covered_whole scene p d kept j t are within is spanned c =
-    let two = by_ends (λ v. is_hidden c.cover v ≡ true) p (get_or (blockers_of_scene scene) j nowhere) t c.first c.last
+    let two = by_ends (λ v. is_hidden c.cover v ≡ true) p (get_or (blockers_of_scene scene) j no_segment) t c.first c.last
     (seen_of_number p (blockers_of_scene scene) j t within is) in
     let f = both_of (spans t.from c.cover) (int_lt (side_of c.cover t.from) (pos 0)) two.0 in
     let l = both_of (spans t.to c.cover) (int_lt (side_of c.cover t.to) (pos 0)) two.1 in
@@ -99,7 +100,7 @@ hidden_past scene p d x kept are d_in d_some v_in stands c =
 -- the corner at which something ends that is kept is shown
 shown_at : (scene : Scene) (p v : Point) (kept shown : ℕ → Bool) (n : ℕ) → AreUntold scene p kept shown
     → n < length (blockers_of_scene scene) → kept n ≡ true
-    → ((x : Point) → same_point v (vector p x) ≡ true → ends_at (get_or (blockers_of_scene scene) n nowhere) x ≡ true)
+    → ((x : Point) → same_point v (vector p x) ≡ true → ends_at (get_or (blockers_of_scene scene) n no_segment) x ≡ true)
     → HasCornerAt p scene.corners v → HasShownCorner p scene.corners shown v
 shown_at scene p v kept shown n untold within own ends c = record {
   corner = c;
@@ -124,7 +125,7 @@ left_out_of scene p arc kept shown station whole untold = record {
       (station.ways j j_in) stands (untold j j_in out).behind;
   ends = λ n s within own is.
       let two = station.corners n s within is in
-      let line = get_or (blockers_of_scene scene) n nowhere in
+      let line = get_or (blockers_of_scene scene) n no_segment in
       let seen = seen_of_number p (blockers_of_scene scene) n s within is in (
         shown_at scene p s.from kept shown n untold within own (λ x h. begins_there p x line s seen h) two.0,
         shown_at scene p s.to kept shown n untold within own (λ x h. ends_there p x line s seen h) two.1,

@@ -10,7 +10,7 @@ use Rattle.std.proofs.lemmas.Int.{ints}
 use Rattle.std.proofs.lemmas.List.Elements.{All-push}
 use Rattle.plane_spec.specs.declared.Point.{Point}
 use Rattle.plane_spec.specs.declared.Corner.{Corner}
-use Rattle.plane_spec.specs.Vectors.{vector, cross_of, dot_of, same_point, IsDirection, IsDirected}
+use Rattle.plane_spec.specs.Vectors.{vector, cross_of, dot_of, same_point, IsDirection, IsDirected, reversed_direction}
 use Rattle.sight_spec.specs.Scene.{Scene, blockers_of_scene}
 use Rattle.front_laws.specs.Seen.{Seen, seen_at}
 use Rattle.front_laws.proofs.Tests.{by_cases, tested_same_number, own_number, both_of, both_true}
@@ -20,12 +20,12 @@ use Rattle.turn_laws.specs.Places.{place_of}
 use Rattle.turn_laws.specs.Turns.{just_after}
 use Rattle.apart_laws.proofs.Plans.{points_same}
 use Rattle.sweep_laws.specs.First.{IsFirst}
-use Rattle.sweep_laws.specs.Groups.{no_corner, back_of, stands_in, is_ahead, is_behind}
+use Rattle.sweep_laws.specs.Groups.{no_corner, stands_in, is_ahead, is_behind}
 use Rattle.sweep_laws.proofs.Grouped.{stands_where}
 use Rattle.view_laws.specs.declared.view.Arc.{Arc}
 use Rattle.view_laws.specs.declared.view.Front.{Front}
 use Rattle.view_laws.specs.declared.view.Sector.{Sector}
-use Rattle.view_laws.specs.Views.{is_in_arc, front_of, length_of, is_from, is_past_first, IsSoFarOrNone, IsReached}
+use Rattle.view_laws.specs.Views.{is_in_arc, front_of, length_of, is_from, is_past_first, IsSoFarOrNone, IsReached, number_by}
 use Rattle.view_laws.specs.Views.{IsAlong}
 use Rattle.view_laws.proofs.Answers.{ahead_along, behind_along}
 use Rattle.round_laws.specs.Rounds.{is_open_at, is_spanned_at, from_place, to_place, first_held}
@@ -40,7 +40,7 @@ use Rattle.sight_sweep.specs.declared.blocker.Blocker.{Blocker}
 use Rattle.sight_sweep.specs.Actives.{seen, front, numbered, first_of, IsOf, IsActive, SpansAll}
 use Rattle.sight_sweep.specs.Events.{way_at, corner_of, place_at}
 use Rattle.sight_sweep.specs.Rounds.{is_held_at, IsUnderway, ends_among, begins_among, IsGroup, leads_ahead}
-use Rattle.sight_sweep.specs.Rounds.{leads_behind, far_of, lesser_of, least_from, is_past, number_in}
+use Rattle.sight_sweep.specs.Rounds.{leads_behind, far_of, lesser_of, least_from, is_past}
 use Rattle.sight_sweep.specs.LeftOut.{AreLeftOut}
 use Rattle.sight_sweep.specs.Stations.{IsStation}
 use Rattle.sight_sweep.proofs.Actives.{active_so}
@@ -306,7 +306,7 @@ ahead_kind p d corners some = record {
       (along_of p d (get_or corners (corner_of e) no_corner).here s)) ∙ h);
 }
 
-back_some : (d : Point) → IsDirected d → IsDirected (back_of d)
+back_some : (d : Point) → IsDirected d → IsDirected (reversed_direction d)
 back_some d some = record { somewhere = turned d.x d.y some.somewhere }
   where
     turned : (x y : ℤ) → (int_eq x (pos 0) && int_eq y (pos 0)) ≡ false
@@ -390,7 +390,7 @@ first_front scene p (b ∷ rest) known = ap Some (front_is scene p b (known 0 b 
 
 -- the same number is the same first
 pub first_same : (scene : Scene) (p : Point) (xs ys : List Blocker) → All (IsOf scene p) xs → All (IsOf scene p) ys
-    → number_in (option_map front (first_of xs)) ≡ number_in (option_map front (first_of ys))
+    → number_by (option_map front (first_of xs)) ≡ number_by (option_map front (first_of ys))
     → first_held (map numbered xs) ≡ first_held (map numbered ys)
 first_same scene p [] [] x_known y_known e = refl
 first_same scene p [] (y ∷ ys) x_known y_known e = none_some e
@@ -482,8 +482,8 @@ pub passed_without_sector : (scene : Scene) (p : Point) (arc : Arc) (kept shown 
     → IsUnderway scene p arc kept start before sectors place active
     → IsActive scene p kept (λ n s. is_spanned_at (from_place s) (to_place s) place) at
     → IsActive scene p kept (λ n s. is_open_at (from_place s) (to_place s) (place + 1)) after
-    → number_in (option_map front (first_of active)) ≡ number_in (option_map front (first_of at))
-    → number_in (option_map front (first_of at)) ≡ number_in (option_map front (first_of after))
+    → number_by (option_map front (first_of active)) ≡ number_by (option_map front (first_of at))
+    → number_by (option_map front (first_of at)) ≡ number_by (option_map front (first_of after))
     → All (λ e. is_past (first_of at) (way_at p scene.corners (corner_of e)) ≡ true) group
     → IsUnderway scene p arc kept start before sectors (place + 1) after
 passed_without_sector scene p arc kept shown start place before sectors group active at after walls ways left g u
@@ -552,8 +552,8 @@ pub pass_silently : (scene : Scene) (p : Point) (arc : Arc) (kept shown : ℕ �
     → AreLeftOut scene p arc kept shown
     → IsGroup scene p arc kept shown place group → IsUnderway scene p arc kept start before sectors place active
     → TakesOut scene p group active at → PutsIn scene p kept group at after
-    → number_in (option_map front (first_of active)) ≡ number_in (option_map front (first_of at))
-    → number_in (option_map front (first_of at)) ≡ number_in (option_map front (first_of after))
+    → number_by (option_map front (first_of active)) ≡ number_by (option_map front (first_of at))
+    → number_by (option_map front (first_of at)) ≡ number_by (option_map front (first_of after))
     → All (λ e. is_past (first_of at) (way_at p scene.corners (corner_of e)) ≡ true) group
     → IsUnderway scene p arc kept start before sectors (place + 1) after
 pass_silently scene p arc kept shown start place before sectors group active at after station left g u taken put same

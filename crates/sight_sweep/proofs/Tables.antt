@@ -12,7 +12,8 @@ use Rattle.plane_spec.specs.Segments.{IsSegmentInRange}
 use Rattle.plane_spec.specs.Vectors.{vector, cross_of}
 use Rattle.sight_spec.specs.Scene.{Scene, blockers_of_scene}
 use Rattle.sight_core.proofs.Seen.{walls-in_range, screens-in_range}
-use Rattle.front_laws.specs.Seen.{seen_at, seen_of, nowhere}
+use Rattle.front_laws.specs.Seen.{seen_at, seen_of}
+use Rattle.sight_spec.specs.Isovist.{no_segment}
 use Rattle.front_laws.proofs.Tests.{by_lt, mapped_at, number_not_less}
 use Rattle.sweep_laws.specs.Parts.{hides_itself}
 use Rattle.sight_sweep.specs.declared.blocker.Blocker.{Blocker}
@@ -40,18 +41,18 @@ at_first (x ∷ xs) ys (suc i) d lt = at_first xs ys i d (omega arith)
 -- what is read of the lines
 pub line_read : (scene : Scene) (lines : List Segment) (number : ℕ) (line : Segment) → lines ≡ blockers_of_scene scene
     → number < length (blockers_of_scene scene) → line ≡ get_or lines number line
-    → line ≡ get_or (blockers_of_scene scene) number nowhere
+    → line ≡ get_or (blockers_of_scene scene) number no_segment
 line_read scene lines number line e lt read = read ∙ ap (λ xs. get_or xs number line) e
-    ∙ default (blockers_of_scene scene) number line nowhere lt
+    ∙ default (blockers_of_scene scene) number line no_segment lt
 
 hides_where : (scene : Scene) (p : Point) (number : ℕ)
     → (nat_lt number (length scene.walls)
-    && int_lt (pos 0) (cross_of (vector p (get_or (blockers_of_scene scene) number nowhere).a)
-    (vector p (get_or (blockers_of_scene scene) number nowhere).b)))
+    && int_lt (pos 0) (cross_of (vector p (get_or (blockers_of_scene scene) number no_segment).a)
+    (vector p (get_or (blockers_of_scene scene) number no_segment).b)))
     ≡ hides_itself p scene.walls number
 hides_where scene p number = by_lt number (length scene.walls)
     (λ lt. ap (λ w. nat_lt number (length scene.walls) && int_lt (pos 0) (cross_of (vector p w.a) (vector p w.b)))
-    (at_first scene.walls scene.screens number nowhere lt))
+    (at_first scene.walls scene.screens number no_segment lt))
     (λ ge. none _ _ _ (number_not_less number (length scene.walls) ge))
   where
     none : (a b c : Bool) → a ≡ false → (a && b) ≡ (a && c)
@@ -59,7 +60,7 @@ hides_where scene p number = by_lt number (length scene.walls)
 
 -- what is seen of the line is the scene's wall or screen of the number
 pub known_of : (scene : Scene) (p : Point) (number : ℕ) (line : Segment) (o : Option Blocker)
-    → number < length (blockers_of_scene scene) → line ≡ get_or (blockers_of_scene scene) number nowhere
+    → number < length (blockers_of_scene scene) → line ≡ get_or (blockers_of_scene scene) number no_segment
     → option_map seen o ≡ seen_of p line → IfSome o (λ b. b.number ≡ number)
     → IfSome o (λ b. b.hides ≡ (nat_lt number (length scene.walls)
     && int_lt (pos 0) (cross_of (vector p line.a) (vector p line.b)))) → IfSome o (IsOf scene p)
@@ -74,8 +75,8 @@ known_of scene p number line (Some b) lt e is number_is hides_is = record {
 }
   where
     seen_where : (p : Point) (lines : List Segment) (n : ℕ) → n < length lines → seen_at p lines n
-        ≡ seen_of p (get_or lines n nowhere)
-    seen_where p lines n lt = mapped_at (seen_of p) lines n nowhere None lt
+        ≡ seen_of p (get_or lines n no_segment)
+    seen_where p lines n lt = mapped_at (seen_of p) lines n no_segment None lt
 
 pub line_in_range : (scene : Scene) (lines : List Segment) (ranges : List Range) (numbers : List ℕ) (number : ℕ)
     (line : Segment) → IsTable scene lines ranges numbers

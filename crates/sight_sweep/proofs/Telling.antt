@@ -17,7 +17,8 @@ use Rattle.int_laws.proofs.Ring.{times_minus}
 use Rattle.sight_spec.specs.Scene.{Scene, blockers_of_scene}
 use Rattle.sight_core.specs.Scenes.{IsOfSoundPlan}
 use Rattle.sight_core.proofs.Seen.{corners-in_range, walls-in_range, screens-in_range}
-use Rattle.front_laws.specs.Seen.{Seen, seen_of, nowhere}
+use Rattle.front_laws.specs.Seen.{Seen, seen_of}
+use Rattle.sight_spec.specs.Isovist.{no_segment}
 use Rattle.front_laws.proofs.Tests.{by_lt, by_cases, both_of, mapped_at, some_same, none_some}
 use Rattle.sweep_laws.specs.First.{IsFirst}
 use Rattle.sweep_laws.specs.Groups.{no_corner, is_ahead}
@@ -92,8 +93,8 @@ first_to : (scene : Scene) (p d : Point) → IsOfSoundPlan scene → InRange p �
     → IfSome (option_map (front_of scene p) first) (IsFrontTo d)
 first_to scene p d of p_in None h = tt
 first_to scene p d of p_in (Some f) h =
-    let s = seen_in p (get_or (blockers_of_scene scene) f.0 nowhere) f.1 p_in (lines_in scene of f.0 nowhere h.within)
-    (sym (mapped_at (seen_of p) (blockers_of_scene scene) f.0 nowhere None h.within) ∙ h.seen) in
+    let s = seen_in p (get_or (blockers_of_scene scene) f.0 no_segment) f.1 p_in (lines_in scene of f.0 no_segment h.within)
+    (sym (mapped_at (seen_of p) (blockers_of_scene scene) f.0 no_segment None h.within) ∙ h.seen) in
     let two = both_of (int_lt (pos 0) (cross_of f.1.from d)) (int_lt (pos 0) (cross_of d f.1.to)) h.spanned in
     record {
       edge = s.edge_in;
@@ -137,7 +138,7 @@ pub ground_in : (scene : Scene) (p : Point) (under : Ground) → IsOfSoundPlan s
 ground_in scene p under of (at_corner c f) = subst IsCornerInRange f.corner
     ((corners-in_range scene of) f.number no_corner f.within)
 ground_in scene p under of (on_wall w none o) = subst IsSegmentInRange o.wall
-    ((walls-in_range scene of) o.number nowhere o.within)
+    ((walls-in_range scene of) o.number no_segment o.within)
 ground_in scene p under of (on_nothing none bare) = refl
 
 -- ---- sectors

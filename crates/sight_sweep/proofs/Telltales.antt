@@ -4,7 +4,7 @@ use Rattle.std.proofs.Common.{length, get_or}
 use Rattle.std.specs.Prelude.{Bool, true, false, All, replicate}
 use Rattle.plane_spec.specs.declared.Point.{Point}
 use Rattle.sight_spec.specs.Scene.{Scene, blockers_of_scene}
-use Rattle.front_laws.specs.Seen.{nowhere}
+use Rattle.sight_spec.specs.Isovist.{no_segment}
 use Rattle.front_laws.proofs.Tests.{by_cases, clash_to}
 use Rattle.front_laws.proofs.Lists.{by_same}
 use Rattle.sight_sweep.specs.declared.blocker.Blocker.{Blocker}
@@ -41,10 +41,10 @@ all_lines_kept scene p covers count j within out = clash_to (is_set (replicate c
 -- the flag of a hidden one may be cleared
 pub one_left_out : (scene : Scene) (p : Point) (covers : List Blocker) (old new : List Bool) (number : ℕ)
     → ((n : ℕ) → n ≢ number → is_set new n ≡ is_set old n)
-    → IsLineHidden p covers (get_or (blockers_of_scene scene) number nowhere)
+    → IsLineHidden p covers (get_or (blockers_of_scene scene) number no_segment)
     → AreLinesHidden scene p covers old → AreLinesHidden scene p covers new
 one_left_out scene p covers old new number others own hidden j within out = by_same j number
-    (λ e. subst (λ n. IsLineHidden p covers (get_or (blockers_of_scene scene) n nowhere)) (sym e) own)
+    (λ e. subst (λ n. IsLineHidden p covers (get_or (blockers_of_scene scene) n no_segment)) (sym e) own)
     (λ other. hidden j within (sym (others j other) ∙ out))
 
 -- ---- corners

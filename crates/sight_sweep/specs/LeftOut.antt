@@ -11,7 +11,8 @@ use Rattle.plane_spec.specs.declared.Corner.{Corner}
 use Rattle.plane_spec.specs.declared.Segment.{Segment}
 use Rattle.plane_spec.specs.Vectors.{vector, IsDirection, IsDirected}
 use Rattle.sight_spec.specs.Scene.{Scene, blockers_of_scene}
-use Rattle.front_laws.specs.Seen.{Seen, spans, side_of, seen_at, nowhere}
+use Rattle.front_laws.specs.Seen.{Seen, spans, side_of, seen_at}
+use Rattle.sight_spec.specs.Isovist.{no_segment}
 use Rattle.sweep_laws.specs.Groups.{no_corner}
 use Rattle.view_laws.specs.declared.view.Arc.{Arc}
 use Rattle.view_laws.specs.Views.{is_in_arc}
@@ -67,8 +68,8 @@ pub record IsCoveredWhole (scene : Scene) (p : Point) (kept : ℕ → Bool) (j :
   pub within : number < length (blockers_of_scene scene)
   pub is_kept : kept number ≡ true
   pub seen : seen_at p (blockers_of_scene scene) number ≡ Some cover
-  pub first : is_hidden cover (vector p (get_or (blockers_of_scene scene) j nowhere).a) ≡ true
-  pub last : is_hidden cover (vector p (get_or (blockers_of_scene scene) j nowhere).b) ≡ true
+  pub first : is_hidden cover (vector p (get_or (blockers_of_scene scene) j no_segment).a) ≡ true
+  pub last : is_hidden cover (vector p (get_or (blockers_of_scene scene) j no_segment).b) ≡ true
 
 -- each wall or screen that isn't kept has one that covers it whole
 abbrev pub AreCoveredWhole : Scene → Point → (ℕ → Bool) → Type 0
@@ -79,7 +80,7 @@ AreCoveredWhole scene p kept = (j : ℕ) → j < length (blockers_of_scene scene
 pub record IsUntold (scene : Scene) (p : Point) (kept : ℕ → Bool) (k : ℕ) : Type 0 where
   pub behind : IsBehind scene p kept (get_or scene.corners k no_corner).here
   pub none : (n : ℕ) → n < length (blockers_of_scene scene)
-      → ends_at (get_or (blockers_of_scene scene) n nowhere) (get_or scene.corners k no_corner).here ≡ true
+      → ends_at (get_or (blockers_of_scene scene) n no_segment) (get_or scene.corners k no_corner).here ≡ true
       → kept n ≡ false
 
 -- so is each corner that isn't shown
@@ -106,7 +107,7 @@ pub record IsLineHidden (p : Point) (covers : List Blocker) (line : Segment) : T
 -- one of the covers hides both ends of each wall or screen whose flag is false
 abbrev pub AreLinesHidden : Scene → Point → List Blocker → List Bool → Type 0
 AreLinesHidden scene p covers kept = (j : ℕ) → j < length (blockers_of_scene scene) → is_set kept j ≡ false
-    → IsLineHidden p covers (get_or (blockers_of_scene scene) j nowhere)
+    → IsLineHidden p covers (get_or (blockers_of_scene scene) j no_segment)
 
 -- the flag of each cover is set
 abbrev pub AreCoversKept : List Blocker → List Bool → Type 0
@@ -117,7 +118,7 @@ pub record IsCornerHidden (scene : Scene) (p : Point) (covers : List Blocker) (k
   pub at : ℕ
   pub hidden : IsHiddenAt covers at (way_at p scene.corners k)
   pub none : (n : ℕ) → n < length (blockers_of_scene scene)
-      → ends_at (get_or (blockers_of_scene scene) n nowhere) (get_or scene.corners k no_corner).here ≡ true
+      → ends_at (get_or (blockers_of_scene scene) n no_segment) (get_or scene.corners k no_corner).here ≡ true
       → is_set kept n ≡ false
 
 -- so is each corner whose flag is false

@@ -5,10 +5,10 @@ use Rattle.std.specs.List.{list_any}
 use Rattle.std.proofs.Common.{get_or}
 use Rattle.plane_spec.specs.declared.Point.{Point}
 use Rattle.plane_spec.specs.declared.Corner.{Corner}
-use Rattle.plane_spec.specs.Vectors.{same_point, turns_left, IsDirected}
+use Rattle.plane_spec.specs.Vectors.{same_point, turns_left, IsDirected, reversed_direction}
 use Rattle.plane_spec.specs.Cones.{is_in_cone}
 use Rattle.sight_spec.specs.Scene.{Scene, blockers_of_scene}
-use Rattle.sweep_laws.specs.Groups.{no_corner, back_of}
+use Rattle.sweep_laws.specs.Groups.{no_corner}
 use Rattle.front_laws.specs.Seen.{Seen, side_of, spans}
 use Rattle.front_laws.specs.Seen.{seen_at}
 use Rattle.turn_laws.specs.Places.{place_of}
@@ -81,7 +81,7 @@ leads_ahead p corners e = is_in_cone (get_or corners (corner_of e) no_corner) (w
 -- the way back leads into it
 abbrev pub leads_behind : Point → List Corner → ℕ → Bool
 leads_behind p corners e = is_in_cone (get_or corners (corner_of e) no_corner)
-    (back_of (way_at p corners (corner_of e)))
+    (reversed_direction (way_at p corners (corner_of e)))
 
 -- how far off the event's corner is
 abbrev pub far_of : Point → List Corner → ℕ → ℕ
@@ -101,11 +101,6 @@ least_from test far least (e ∷ rest) = least_from test far (if test e then les
 abbrev pub is_past : Option Blocker → Point → Bool
 is_past None v = false
 is_past (Some b) v = int_lt (side_of (seen b) v) (pos 0)
-
--- the number of what is told
-abbrev pub number_in : Option Front → Option ℕ
-number_in None = None
-number_in (Some f) = Some f.number
 
 -- both vectors lead to the left of the direction, or both to its right
 abbrev pub are_beside : Point → Point → Point → Bool

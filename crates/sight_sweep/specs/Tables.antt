@@ -10,7 +10,7 @@ use Rattle.plane_spec.specs.declared.Corner.{Corner}
 use Rattle.plane_spec.specs.Vectors.{same_point}
 use Rattle.sight_spec.specs.Scene.{Scene, blockers_of_scene}
 use Rattle.sight_core.specs.Scenes.{IsOfSoundPlan}
-use Rattle.front_laws.specs.Seen.{nowhere}
+use Rattle.sight_spec.specs.Isovist.{no_segment}
 use Rattle.sweep_laws.specs.Groups.{no_corner}
 use Rattle.sight_sweep.specs.declared.range.Range.{Range}
 
@@ -23,7 +23,7 @@ ends_at w x = same_point w.a x || same_point w.b x
 -- the numbers are those of walls and screens, among them all that end at the point
 pub record AreAround (scene : Scene) (x : Point) (numbers : List ℕ) : Type 0 where
   pub within : All (λ n. n < length (blockers_of_scene scene)) numbers
-  pub all : (n : ℕ) → n < length (blockers_of_scene scene) → ends_at (get_or (blockers_of_scene scene) n nowhere) x
+  pub all : (n : ℕ) → n < length (blockers_of_scene scene) → ends_at (get_or (blockers_of_scene scene) n no_segment) x
       ≡ true → Contains numbers n
 
 -- ---- ends as numbers
@@ -39,8 +39,8 @@ end_of x number = key_of x * 2048 + number
 -- the ends are those of walls and screens, among them both of each of the first so many
 pub record HasEnds (lines : List Segment) (count : ℕ) (ends : List ℕ) : Type 0 where
   pub within : All (λ e. e % 2048 < length lines) ends
-  pub firsts : (k : ℕ) → k < count → Contains ends (end_of (get_or lines k nowhere).a k)
-  pub seconds : (k : ℕ) → k < count → Contains ends (end_of (get_or lines k nowhere).b k)
+  pub firsts : (k : ℕ) → k < count → Contains ends (end_of (get_or lines k no_segment).a k)
+  pub seconds : (k : ℕ) → k < count → Contains ends (end_of (get_or lines k no_segment).b k)
 
 -- all of them, by their points
 pub record AreEnds (lines : List Segment) (ends : List ℕ) : Type 0 where

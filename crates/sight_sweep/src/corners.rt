@@ -1,9 +1,8 @@
 //! The corners of one direction.
 
 ghost use Rattle.std.specs.Prelude.{◌≡◌, ◌≤◌, if◌then◌else◌};
-ghost use Rattle.plane_spec.specs.Vectors.{IsDirection};
+ghost use Rattle.plane_spec.specs.Vectors.{IsDirection, reversed_direction};
 ghost use Rattle.plane_spec.specs.Cones.{IsCornerInRange, is_in_cone};
-ghost use Rattle.sweep_laws.specs.Groups.{back_of};
 ghost use Rattle.view_laws.specs.Views.{length_of};
 ghost use Rattle.sight_sweep.specs.Rounds as rounds;
 
@@ -48,7 +47,7 @@ pub(crate) fn ahead(least: Option<u64>, corner: Corner, v: Point) -> Option<u64>
 pub(crate) fn behind(least: Option<u64>, corner: Corner, v: Point) -> Option<u64>
     requires corner_in { IsCornerInRange corner }
     requires v_in { IsDirection v }
-    ensures { result ≡ (if is_in_cone corner (back_of v) then rounds.lesser_of least (length_of v) else least) }
+    ensures { result ≡ (if is_in_cone corner (reversed_direction v) then rounds.lesser_of least (length_of v) else least) }
 {
     if in_cone(corner, back(v)) {
         lesser(least, length(v))

@@ -10,6 +10,7 @@ ghost use Rattle.sight_sweep.specs.Stations.{IsStation};
 ghost use Rattle.sight_spec.specs.Scene.{blockers_of_scene};
 ghost use Rattle.front_laws.specs.Seen as order;
 ghost use Rattle.front_laws.specs.Seen.{seen_at};
+ghost use Rattle.view_laws.specs.Views as views;
 ghost use Rattle.view_laws.specs.declared.view.Arc.{Arc};
 ghost use Rattle.view_laws.specs.declared.view.Front as fronts;
 ghost use Rattle.sight_sweep.specs.Actives as actives;
@@ -134,7 +135,7 @@ pub(crate) fn first_of(active: &[Blocker]) -> Option<Front>
 
 /// Whether both are one wall or screen, or none.
 fn is_same(a: Option<Front>, b: Option<Front>) -> bool
-    ensures { result ≡ true → rounds.number_in a ≡ rounds.number_in b }
+    ensures { result ≡ true → views.number_by a ≡ views.number_by b }
 {
     match (a, b) {
         (None, None) => true,
@@ -239,8 +240,8 @@ fn put_all_begun(
 /// Whether nothing need be told of a group: all its corners are behind what is seen first, and that stays as it is.
 fn is_silent(hidden: bool, before: Option<Front>, on: Option<Front>, after: Option<Front>) -> bool
     ensures hidden { result ≡ true → hidden ≡ true }
-    ensures on { result ≡ true → rounds.number_in before ≡ rounds.number_in on }
-    ensures after { result ≡ true → rounds.number_in on ≡ rounds.number_in after }
+    ensures on { result ≡ true → views.number_by before ≡ views.number_by on }
+    ensures after { result ≡ true → views.number_by on ≡ views.number_by after }
 {
     hidden && (is_same(before, on) && is_same(on, after))
 }

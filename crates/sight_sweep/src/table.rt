@@ -9,7 +9,8 @@ ghost use Rattle.plane_spec.specs.Vectors.{InRange, IsDirection};
 ghost use Rattle.plan_spec.specs.declared.limits.TheConstants.{MAX_CORNERS};
 ghost use Rattle.sight_core.specs.Scenes.{IsOfSoundPlan};
 ghost use Rattle.sight_spec.specs.Scene.{blockers_of_scene};
-ghost use Rattle.front_laws.specs.Seen.{nowhere, seen_at};
+ghost use Rattle.front_laws.specs.Seen.{seen_at};
+ghost use Rattle.sight_spec.specs.Isovist.{no_segment};
 ghost use Rattle.sweep_laws.specs.Groups.{no_corner};
 ghost use Rattle.sight_sweep.specs.Actives.{seen, IsOf};
 ghost use Rattle.sight_sweep.specs.Events as parts;
@@ -108,7 +109,7 @@ impl SceneTable {
     /// The wall or screen of the number.
     pub(crate) fn line(&self, number: u32) -> Wall
         requires within { number < length (blockers_of_scene self.now) }
-        ensures line { result ≡ get_or (blockers_of_scene self.now) number nowhere }
+        ensures line { result ≡ get_or (blockers_of_scene self.now) number no_segment }
         ensures in_range { IsSegmentInRange result }
     {
         self.lines[number as usize]

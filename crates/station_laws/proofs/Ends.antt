@@ -30,7 +30,8 @@ use Rattle.front_laws.proofs.Tests.{by_cases, either_first, either_second, other
 use Rattle.apart_laws.proofs.Beside.{same_itself}
 use Rattle.apart_laws.proofs.Plans.{points_same, same_length}
 use Rattle.apart_laws.proofs.Through.{by_ends}
-use Rattle.front_laws.specs.Seen.{Seen, seen_at, nowhere}
+use Rattle.front_laws.specs.Seen.{Seen, seen_at}
+use Rattle.sight_spec.specs.Isovist.{no_segment}
 use Rattle.front_laws.proofs.Lists.{some_of}
 use Rattle.front_laws.proofs.Tests.{mapped_at}
 use Rattle.sweep_laws.specs.Groups.{no_corner}
@@ -274,10 +275,10 @@ pub corners_at_ends : (plan : Plan) (p : Point) (n : ℕ) (s : Seen) → n < len
     → seen_at p (blockers_of_scene (scene_of plan)) n ≡ Some s
     → HasCornerAt p (scene_of plan).corners s.from × HasCornerAt p (scene_of plan).corners s.to
 corners_at_ends plan p n s within seen =
-    let w = get_or (blockers_of_scene (scene_of plan)) n nowhere in
+    let w = get_or (blockers_of_scene (scene_of plan)) n no_segment in
     let all = map here_of (scene_of plan).corners in
     let two = and_parts (is_one_of all w.a) (is_one_of all w.b)
-    (each_at (has_ends_in all) (blockers_of_scene (scene_of plan)) n nowhere (all_ends plan) within) in
+    (each_at (has_ends_in all) (blockers_of_scene (scene_of plan)) n no_segment (all_ends plan) within) in
     by_ends (HasCornerAt p (scene_of plan).corners) p w s
     (corner_of_point p w.a (scene_of plan).corners two.0) (corner_of_point p w.b (scene_of plan).corners two.1)
     (seen_of_number p (blockers_of_scene (scene_of plan)) n s within seen)

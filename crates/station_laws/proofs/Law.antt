@@ -17,7 +17,7 @@ use Rattle.plane_spec.specs.declared.Orientation.TheVariants.{Clockwise}
 use Rattle.sight_spec.specs.Scene.{oriented_corners, corners_of_obstacle, scene_of, walls_of, corners_of}
 use Rattle.sight_spec.specs.Scene.{ends_of_screen}
 use Rattle.sight_spec.specs.Sight.{is_in_interior}
-use Rattle.front_laws.specs.Seen.{nowhere}
+use Rattle.sight_spec.specs.Isovist.{no_segment}
 use Rattle.front_laws.proofs.Tests.{by_cases, by_lt, clash, clash_to, mapped_at}
 use Rattle.front_laws.proofs.Lists.{HasPassing, any_at, any_is, some_of}
 use Rattle.apart_laws.proofs.Plans.{points_same, same_length}
@@ -36,7 +36,7 @@ use Rattle.station_laws.proofs.Screens.{IsScreenCorner, screens_clear, of_screen
 -- ---- corners by number
 
 abbrev edge_at : Plan → ℕ → Segment
-edge_at plan k = get_or (polygon_edges plan) k nowhere
+edge_at plan k = get_or (polygon_edges plan) k no_segment
 
 polygon_many : (plan : Plan) → length (polygon_corners plan) ≡ length (polygon_edges plan)
 polygon_many plan =
@@ -47,9 +47,9 @@ polygon_many plan =
 polygon_at : (plan : Plan) (k : ℕ) → k < length (polygon_corners plan)
     → (get_or (polygon_corners plan) k no_corner).here ≡ (edge_at plan k).a
 polygon_at plan k within =
-    sym (mapped_at here_of (polygon_corners plan) k no_corner (nowhere.a) within)
-    ∙ ap (λ t. get_or t k (nowhere.a)) (polygons_starts plan)
-    ∙ mapped_at start_of (polygon_edges plan) k nowhere (nowhere.a) (subst (λ n. k < n) (polygon_many plan) within)
+    sym (mapped_at here_of (polygon_corners plan) k no_corner (no_segment.a) within)
+    ∙ ap (λ t. get_or t k (no_segment.a)) (polygons_starts plan)
+    ∙ mapped_at start_of (polygon_edges plan) k no_segment (no_segment.a) (subst (λ n. k < n) (polygon_many plan) within)
 
 corner_list : (plan : Plan) → corners_of plan ≡ polygon_corners plan ++ flat_map ends_of_screen plan.screens
 corner_list plan = sym (append_assoc (oriented_corners Clockwise plan.outer)
@@ -113,12 +113,12 @@ none_leaves : (plan : Plan) (p d : Point) (k : ℕ) → is_sound plan ≡ true �
     → is_at p (get_or (corners_of plan) k no_corner) ≡ true → list_any (leaves_left p d) (walls_of plan) ≡ false
 none_leaves plan p d k sound within here =
     by_cases (list_any (leaves_left p d) (walls_of plan))
-    (λ h. absurd (through (some_of (leaves_left p d) (walls_of plan) nowhere h)))
+    (λ h. absurd (through (some_of (leaves_left p d) (walls_of plan) no_segment h)))
     (λ h. h)
   where
-    through : HasPassing (leaves_left p d) (walls_of plan) nowhere → ⊥
+    through : HasPassing (leaves_left p d) (walls_of plan) no_segment → ⊥
     through s =
-        let w = get_or (walls_of plan) s.place nowhere in
+        let w = get_or (walls_of plan) s.place no_segment in
         let two = and_parts (is_in_interior p w) (turns_left (vector w.a w.b) d) s.holds in
         no_wall_through plan p k s.place sound (kind_at plan k sound within)
         (points_same (get_or (corners_of plan) k no_corner).here p here)
@@ -184,21 +184,21 @@ none_own p d corners h =
 leaves_is : (plan : Plan) (p d : Point) (w : Segment) → is_sound plan ≡ true → IsOnWall p (walls_of plan) w
     → list_any (leaves_left p d) (walls_of plan) ≡ turns_left (vector w.a w.b) d
 leaves_is plan p d w sound f =
-    any_is (leaves_left p d) (walls_of plan) nowhere (turns_left (vector w.a w.b) d) there
+    any_is (leaves_left p d) (walls_of plan) no_segment (turns_left (vector w.a w.b) d) there
     (λ h. record {
       place = f.number;
       within = f.within;
       holds = ap (leaves_left p d) f.wall ∙ and_from (is_in_interior p w) (turns_left (vector w.a w.b) d) f.on h;
     })
   where
-    there : HasPassing (leaves_left p d) (walls_of plan) nowhere → turns_left (vector w.a w.b) d ≡ true
+    there : HasPassing (leaves_left p d) (walls_of plan) no_segment → turns_left (vector w.a w.b) d ≡ true
     there s =
-        let v = get_or (walls_of plan) s.place nowhere in
+        let v = get_or (walls_of plan) s.place no_segment in
         let two = and_parts (is_in_interior p v) (turns_left (vector v.a v.b) d) s.holds in
         let same = one_wall plan p s.place f.number sound s.within f.within two.0
         (ap (is_in_interior p) f.wall ∙ f.on) in
         subst (λ t. turns_left (vector t.a t.b) d ≡ true)
-        (ap (λ n. get_or (walls_of plan) n nowhere) same ∙ f.wall) two.1
+        (ap (λ n. get_or (walls_of plan) n no_segment) same ∙ f.wall) two.1
 
 or_false : (b : Bool) → (b || false) ≡ b
 or_false true = refl
@@ -218,5 +218,5 @@ ground_decides plan p d ground sound (on_wall w none f) =
 ground_decides plan p d ground sound (on_nothing none free) =
     ap (λ t. list_any (leaves_left p d) (walls_of plan) || t) (none_own p d (corners_of plan) none)
     ∙ or_false (list_any (leaves_left p d) (walls_of plan))
-    ∙ none_weaker (is_in_interior p) (leaves_left p d) nowhere (walls_of plan)
+    ∙ none_weaker (is_in_interior p) (leaves_left p d) no_segment (walls_of plan)
     (λ w k. (and_parts (is_in_interior p w) (turns_left (vector w.a w.b) d) k).0) free

@@ -15,7 +15,7 @@ use Rattle.plan_laws.proofs.Ranges.{outer_in_range, obstacles_in_range, sound_sc
 use Rattle.exact_geom.proofs.Edges.{edges_of-in_range}
 use Rattle.sight_spec.specs.Scene.{scene_of, blockers_of_scene, oriented_walls, walls_of_obstacle, turned_edge}
 use Rattle.sight_spec.specs.Scene.{has_orientation, segment_of_screen}
-use Rattle.front_laws.specs.Seen.{nowhere}
+use Rattle.sight_spec.specs.Isovist.{no_segment}
 use Rattle.round_laws.specs.Rounds.{AreWalls}
 use Rattle.round_laws.proofs.Bodies.{walls_of_plan}
 
@@ -69,5 +69,5 @@ blockers_in_range plan sound =
 -- from a station in range all that is seen are blockers, and those that one direction spans are apart
 pub walls_of_sound : (plan : Plan) (p : Point) → is_sound plan ≡ true → InRange p → AreWalls (scene_of plan) p
 walls_of_sound plan p sound p_in =
-    walls_of_plan plan p sound p_in (λ n lt. (blockers_in_range plan sound n nowhere lt).a)
-    (λ n lt. (blockers_in_range plan sound n nowhere lt).b)
+    walls_of_plan plan p sound p_in (λ n lt. (blockers_in_range plan sound n no_segment lt).a)
+    (λ n lt. (blockers_in_range plan sound n no_segment lt).b)

@@ -19,7 +19,7 @@ use Rattle.plan_spec.specs.Accepted.{is_sound, is_proper_segment, segment_lies_w
 use Rattle.plan_spec.specs.Accepted.{touches_border}
 use Rattle.plan_laws.proofs.Parts.{parts_of_sound, parts_of_screens}
 use Rattle.sight_spec.specs.Scene.{ends_of_screen, screen_corner}
-use Rattle.front_laws.specs.Seen.{nowhere}
+use Rattle.sight_spec.specs.Isovist.{no_segment}
 use Rattle.front_laws.proofs.Tests.{tested_not, neither_first, neither_second}
 use Rattle.apart_laws.proofs.Plans.{edges_of_obstacle}
 use Rattle.station_laws.proofs.Walls.{polygon_edges}
@@ -116,7 +116,7 @@ clear_ends s e h =
 pub record IsScreenCorner (plan : Plan) (c : Corner) : Type 0 where
   pub empty : (d : Point) → is_in_cone c d ≡ false
   pub free : (j : ℕ) → j < length (polygon_edges plan)
-      → is_on_segment c.here (get_or (polygon_edges plan) j nowhere).a (get_or (polygon_edges plan) j nowhere).b ≡ false
+      → is_on_segment c.here (get_or (polygon_edges plan) j no_segment).a (get_or (polygon_edges plan) j no_segment).b ≡ false
 
 no_left : (v d : Point) → turns_left (vector v v) d ≡ false
 no_left v d = none v.x v.y d.x d.y
@@ -150,13 +150,13 @@ of_screen : (plan : Plan) (s : Screen) → list_all (is_clear s) (polygon_edges 
     → All (IsScreenCorner plan) (ends_of_screen s)
 of_screen plan s h zero d lt = record {
   empty = λ d. empty_cone s.from d;
-  free = λ j within. (clear_ends s (get_or (polygon_edges plan) j nowhere)
-      (all_at (is_clear s) (polygon_edges plan) j nowhere h within)).0;
+  free = λ j within. (clear_ends s (get_or (polygon_edges plan) j no_segment)
+      (all_at (is_clear s) (polygon_edges plan) j no_segment h within)).0;
 }
 of_screen plan s h (suc zero) d lt = record {
   empty = λ d. empty_cone s.to d;
-  free = λ j within. (clear_ends s (get_or (polygon_edges plan) j nowhere)
-      (all_at (is_clear s) (polygon_edges plan) j nowhere h within)).1;
+  free = λ j within. (clear_ends s (get_or (polygon_edges plan) j no_segment)
+      (all_at (is_clear s) (polygon_edges plan) j no_segment h within)).1;
 }
 of_screen plan s h (suc (suc k)) d lt = absurd (omega arith)
 

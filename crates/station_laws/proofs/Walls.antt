@@ -22,7 +22,7 @@ use Rattle.plan_laws.proofs.Pairs.{each_two_cons}
 use Rattle.sight_spec.specs.Scene.{oriented_walls, oriented_corners, walls_of, walls_of_obstacle, corners_of_obstacle}
 use Rattle.sight_spec.specs.Scene.{turned_edge, has_orientation, segment_of_screen}
 use Rattle.sight_spec.specs.Sight.{is_in_interior}
-use Rattle.front_laws.specs.Seen.{nowhere}
+use Rattle.sight_spec.specs.Isovist.{no_segment}
 use Rattle.front_laws.proofs.Tests.{by_lt, clash, mapped_at, tested_not}
 use Rattle.apart_laws.specs.Standing.{stands}
 use Rattle.apart_laws.proofs.Standing.{MayStand, clear, next, prev, segment_turned, twin_ends}
@@ -57,11 +57,11 @@ polygons_stand plan sound =
 
 -- two edges of polygons, by their numbers
 pub may_stand_at : (plan : Plan) (i j : ℕ) → is_sound plan ≡ true → i < j → j < length (polygon_edges plan)
-    → MayStand (get_or (polygon_edges plan) i nowhere).a (get_or (polygon_edges plan) i nowhere).b
-    (get_or (polygon_edges plan) j nowhere).a (get_or (polygon_edges plan) j nowhere).b
+    → MayStand (get_or (polygon_edges plan) i no_segment).a (get_or (polygon_edges plan) i no_segment).b
+    (get_or (polygon_edges plan) j no_segment).a (get_or (polygon_edges plan) j no_segment).b
 may_stand_at plan i j sound lt within =
-    may_of (get_or (polygon_edges plan) i nowhere) (get_or (polygon_edges plan) j nowhere)
-    (two_at stands (polygon_edges plan) i j nowhere (polygons_stand plan sound) lt within)
+    may_of (get_or (polygon_edges plan) i no_segment) (get_or (polygon_edges plan) j no_segment)
+    (two_at stands (polygon_edges plan) i j no_segment (polygons_stand plan sound) lt within)
 
 -- ---- walls
 
@@ -126,29 +126,29 @@ within_of p e h =
 
 -- the wall of the number has p in its interior: so has the edge
 pub wall_within : (p : Point) (plan : Plan) (j : ℕ) → j < length (walls_of plan)
-    → is_in_interior p (get_or (walls_of plan) j nowhere) ≡ true
-    → IsWithinOne p (get_or (polygon_edges plan) j nowhere).a (get_or (polygon_edges plan) j nowhere).b
+    → is_in_interior p (get_or (walls_of plan) j no_segment) ≡ true
+    → IsWithinOne p (get_or (polygon_edges plan) j no_segment).a (get_or (polygon_edges plan) j no_segment).b
 wall_within p plan j within h =
-    within_of p (get_or (polygon_edges plan) j nowhere)
-    (sym (mapped_at (is_in_interior p) (polygon_edges plan) j nowhere false
+    within_of p (get_or (polygon_edges plan) j no_segment)
+    (sym (mapped_at (is_in_interior p) (polygon_edges plan) j no_segment false
     (subst (λ n. j < n) (walls_many p plan) within))
     ∙ ap (λ t. get_or t j false) (sym (walls_interior p plan))
-    ∙ mapped_at (is_in_interior p) (walls_of plan) j nowhere false within ∙ h)
+    ∙ mapped_at (is_in_interior p) (walls_of plan) j no_segment false within ∙ h)
 
 -- no two walls have one point in their interiors
 pub one_wall : (plan : Plan) (p : Point) (i j : ℕ) → is_sound plan ≡ true → i < length (walls_of plan)
-    → j < length (walls_of plan) → is_in_interior p (get_or (walls_of plan) i nowhere) ≡ true
-    → is_in_interior p (get_or (walls_of plan) j nowhere) ≡ true → i ≡ j
+    → j < length (walls_of plan) → is_in_interior p (get_or (walls_of plan) i no_segment) ≡ true
+    → is_in_interior p (get_or (walls_of plan) j no_segment) ≡ true → i ≡ j
 one_wall plan p i j sound i_in j_in h k =
     by_lt i j (λ lt. absurd (never i j lt i_in j_in h k))
     (λ le. by_lt j i (λ lt. absurd (never j i lt j_in i_in k h)) (λ ge. omega (arith, le, ge)))
   where
     never : (i j : ℕ) → i < j → i < length (walls_of plan) → j < length (walls_of plan)
-        → is_in_interior p (get_or (walls_of plan) i nowhere) ≡ true
-        → is_in_interior p (get_or (walls_of plan) j nowhere) ≡ true → ⊥
+        → is_in_interior p (get_or (walls_of plan) i no_segment) ≡ true
+        → is_in_interior p (get_or (walls_of plan) j no_segment) ≡ true → ⊥
     never i j lt i_in j_in h k =
-        never_within_both (get_or (polygon_edges plan) i nowhere).a (get_or (polygon_edges plan) i nowhere).b
-        (get_or (polygon_edges plan) j nowhere).a (get_or (polygon_edges plan) j nowhere).b p
+        never_within_both (get_or (polygon_edges plan) i no_segment).a (get_or (polygon_edges plan) i no_segment).b
+        (get_or (polygon_edges plan) j no_segment).a (get_or (polygon_edges plan) j no_segment).b p
         (may_stand_at plan i j sound lt (subst (λ n. j < n) (walls_many p plan) j_in))
         (wall_within p plan i i_in h) (wall_within p plan j j_in k)
 

@@ -8,7 +8,7 @@ use Rattle.plane_spec.specs.declared.Corner.{Corner}
 use Rattle.plane_spec.specs.Vectors.{same_point, vector, IsDirected}
 use Rattle.sight_spec.specs.Scene.{Scene}
 use Rattle.sight_spec.specs.Sight.{is_in_interior}
-use Rattle.front_laws.specs.Seen.{nowhere}
+use Rattle.sight_spec.specs.Isovist.{no_segment}
 use Rattle.turn_laws.specs.Places.{place_of}
 use Rattle.sweep_laws.specs.Groups.{no_corner}
 use Rattle.view_laws.specs.declared.view.Ground.{Ground}
@@ -30,7 +30,7 @@ pub record IsFirstCorner (p : Point) (corners : List Corner) (c : Corner) : Type
 pub record IsOnWall (p : Point) (walls : List Segment) (w : Segment) : Type 0 where
   pub number : ℕ
   pub within : number < length walls
-  pub wall : get_or walls number nowhere ≡ w
+  pub wall : get_or walls number no_segment ≡ w
   pub on : is_in_interior p w ≡ true
 
 -- no corner is at p

@@ -7,7 +7,7 @@ use Rattle.std.specs.Ordering.{int_eq}
 use Rattle.std.specs.Prelude.{Bool, true, false, ◌&&◌, ◌||◌, not, int_lt, int_le}
 use Rattle.plane_spec.specs.Cones.{is_in_cone}
 use Rattle.plane_spec.specs.Segments.{is_on_segment, is_between}
-use Rattle.plane_spec.specs.Vectors.{point, vector, cross_of, dot_of, same_point, orient_of}
+use Rattle.plane_spec.specs.Vectors.{point, vector, cross_of, dot_of, same_point, orient_of, reversed_direction}
 use Rattle.plane_spec.specs.declared.Corner.{Corner}
 use Rattle.plane_spec.specs.declared.Point.{Point}
 use Rattle.sight_spec.specs.Sight.{corner_stops, corner_blocks}
@@ -20,7 +20,7 @@ use Rattle.front_laws.proofs.Lists.{any_is}
 use Rattle.front_laws.proofs.Tests.{both_true, zero_tested, both_of, tested_zero, by_cases, no_difference}
 use Rattle.front_laws.proofs.Tests.{at_most_of_less, other_of_either, tested_not, at_most_itself}
 use Rattle.sweep_laws.proofs.Reach.{reaches}
-use Rattle.sweep_laws.specs.Groups.{back_of, stands_in, is_ahead, is_behind, is_own, no_corner, IsNearest}
+use Rattle.sweep_laws.specs.Groups.{stands_in, is_ahead, is_behind, is_own, no_corner, IsNearest}
 use Rattle.sweep_laws.proofs.OnSegment.{onward_of, stops_along}
 
 of_not : (a : Bool) → a ≡ false → not a ≡ true
@@ -31,16 +31,16 @@ of_not a h = ap not h
 minus_turned : (x y : ℤ) → x -ℤ y ≡ neg_ℤ (y -ℤ x)
 minus_turned x y = omega (arith, ints)
 
-pub vector_turned : (p q : Point) → vector q p ≡ back_of (vector p q)
+pub vector_turned : (p q : Point) → vector q p ≡ reversed_direction (vector p q)
 vector_turned p q = ap (λ t. point t (p.y -ℤ q.y)) (minus_turned p.x q.x)
     ∙ ap (λ t. point (neg_ℤ (q.x -ℤ p.x)) t) (minus_turned p.y q.y)
 
-cross_backs : (a b : Point) → cross_of (back_of a) (back_of b) ≡ cross_of a b
+cross_backs : (a b : Point) → cross_of (reversed_direction a) (reversed_direction b) ≡ cross_of a b
 cross_backs a b =
     let e = neg_times a.x (neg_ℤ b.y) in let f = times_neg a.x b.y in
     let g = neg_times a.y (neg_ℤ b.x) in let h = times_neg a.y b.x in omega (arith, ints, e, f, g, h)
 
-dot_backs : (a b : Point) → dot_of (back_of a) (back_of b) ≡ dot_of a b
+dot_backs : (a b : Point) → dot_of (reversed_direction a) (reversed_direction b) ≡ dot_of a b
 dot_backs a b =
     let e = neg_times a.x (neg_ℤ b.x) in let f = times_neg a.x b.x in
     let g = neg_times a.y (neg_ℤ b.y) in let h = times_neg a.y b.y in omega (arith, ints, e, f, g, h)
@@ -74,10 +74,10 @@ in_direction p q x on other =
     let d = vector p q in
     let v = vector p x in
     let line : cross_of v d ≡ pos 0 = sym (cross_backs v d)
-    ∙ ap (λ t. cross_of t (back_of d)) (sym (vector_turned p x))
+    ∙ ap (λ t. cross_of t (reversed_direction d)) (sym (vector_turned p x))
     ∙ ap (λ t. cross_of (vector x p) t) (sym (vector_turned p q)) ∙ way.line in
     let dots : dot_of d v ≡ dot_of (vector x p) (vector q p) = dot_swapped d v ∙ sym (dot_backs v d)
-    ∙ ap (λ t. dot_of t (back_of d)) (sym (vector_turned p x))
+    ∙ ap (λ t. dot_of t (reversed_direction d)) (sym (vector_turned p x))
     ∙ ap (λ t. dot_of (vector x p) t) (sym (vector_turned p q)) in
     both_true (int_eq (cross_of d v) (pos 0)) (int_lt (pos 0) (dot_of d v)) (zero_tested _ (cross_swapped v d line))
     (less_tested (pos 0) (dot_of d v) (subst (λ t. pos 0 <ℤ t) (sym dots) way.forward))
@@ -217,7 +217,7 @@ stops_back_where p q c =
     stops_along q p c
     ∙ ap (λ t. not (same_point c.here p) && (is_on_segment c.here q p && is_in_cone c t)) (vector_turned p q)
     ∙ spread (not (same_point c.here p)) (is_on_segment c.here q p) (stands_in p d c.here)
-    (int_le (dot_of d (vector p c.here)) (dot_of d d)) (is_in_cone c (back_of d)) (after_where p q c.here)
+    (int_le (dot_of d (vector p c.here)) (dot_of d d)) (is_in_cone c (reversed_direction d)) (after_where p q c.here)
   where
     spread : (a b t l k : Bool) → (a && b) ≡ (t && l) → (a && (b && k)) ≡ ((t && k) && l)
     spread a b t l k h = grind arith

@@ -14,7 +14,7 @@ use Rattle.int_laws.proofs.Signs.{not_negative_product}
 use Rattle.exact_geom.proofs.Turns.{cross_of_exchanged}
 use Rattle.front_laws.proofs.Hits.{crosses_where}
 use Rattle.front_laws.proofs.InOrder.{den_up}
-use Rattle.front_laws.specs.Seen.{nowhere}
+use Rattle.sight_spec.specs.Isovist.{no_segment}
 use Rattle.front_laws.proofs.Lists.{any_is, by_same}
 use Rattle.front_laws.proofs.Tests.{clash, both_of, tested_negative, mapped_at, both_true, negative_tested, not_above}
 use Rattle.front_laws.proofs.Tests.{some_same}
@@ -69,15 +69,15 @@ crossed_of d (Some s) h =
     record { seen = s; is = refl; spanned = two.0; behind = tested_negative (side_of s d) two.1 }
 
 crosses_at : (p q : Point) (blockers : List Segment) (k : ℕ) → k < length blockers
-    → crosses p q (get_or blockers k nowhere) ≡ crossed_where (vector p q) (seen_at p blockers k)
-crosses_at p q blockers k within = crosses_where p q (get_or blockers k nowhere)
-    ∙ ap (crossed_where (vector p q)) (sym (mapped_at (seen_of p) blockers k nowhere None within))
+    → crosses p q (get_or blockers k no_segment) ≡ crossed_where (vector p q) (seen_at p blockers k)
+crosses_at p q blockers k within = crosses_where p q (get_or blockers k no_segment)
+    ∙ ap (crossed_where (vector p q)) (sym (mapped_at (seen_of p) blockers k no_segment None within))
 
 -- a wall or screen is crossed exactly where the first one that is spanned is
 pub crossed_by_front : (p q : Point) (blockers : List Segment) (k : ℕ) (s : Seen) → IsFront p (vector p q) blockers k s
     → list_any (crosses p q) blockers ≡ int_lt (side_of s (vector p q)) (pos 0)
 crossed_by_front p q blockers k s front =
-    any_is (crosses p q) blockers nowhere (int_lt (side_of s (vector p q)) (pos 0))
+    any_is (crosses p q) blockers no_segment (int_lt (side_of s (vector p q)) (pos 0))
     (λ some. let d = vector p q in
     let c = crossed_of d (seen_at p blockers some.place)
     (sym (crosses_at p q blockers some.place some.within) ∙ some.holds) in
@@ -96,7 +96,7 @@ crossed_by_front p q blockers k s front =
 pub crossed_by_none : (p q : Point) (blockers : List Segment) → IsBare p (vector p q) blockers
     → list_any (crosses p q) blockers ≡ false
 crossed_by_none p q blockers bare =
-    any_is (crosses p q) blockers nowhere false
+    any_is (crosses p q) blockers no_segment false
     (λ some. let c = crossed_of (vector p q) (seen_at p blockers some.place)
     (sym (crosses_at p q blockers some.place some.within) ∙ some.holds) in
     absurd (clash (spans (vector p q) c.seen) c.spanned (bare.none some.place c.seen some.within c.is)))

@@ -10,7 +10,7 @@ use Rattle.plane_spec.specs.declared.Point.{Point}
 use Rattle.plane_spec.specs.declared.Segment.{Segment}
 use Rattle.sight_spec.specs.Sight.{starts_into_wall, crosses}
 use Rattle.apart_laws.proofs.Between.{faces_where, leaves_where}
-use Rattle.front_laws.specs.Seen.{nowhere}
+use Rattle.sight_spec.specs.Isovist.{no_segment}
 use Rattle.front_laws.proofs.Lists.{any_is, by_same}
 use Rattle.front_laws.proofs.Tests.{mapped_at, both_of, tested_zero, both_true, zero_tested, number_less_tested}
 use Rattle.front_laws.proofs.Tests.{some_same, tested_number_less, by_cases, clash}
@@ -39,9 +39,9 @@ append_within (x ∷ xs) ys zero lt = omega arith
 append_within (x ∷ xs) ys (suc k) lt = let r = append_within xs ys k (omega arith) in omega (arith, r)
 
 wall_at : (p : Point) (walls screens : List Segment) (k : ℕ) → k < length walls → seen_at p (walls ++ screens) k
-    ≡ seen_of p (get_or walls k nowhere)
-wall_at p walls screens k lt = mapped_at (seen_of p) (walls ++ screens) k nowhere None
-    (append_within walls screens k lt) ∙ ap (seen_of p) (append_at walls screens k nowhere lt)
+    ≡ seen_of p (get_or walls k no_segment)
+wall_at p walls screens k lt = mapped_at (seen_of p) (walls ++ screens) k no_segment None
+    (append_within walls screens k lt) ∙ ap (seen_of p) (append_at walls screens k no_segment lt)
 
 pub record Faces (p q : Point) (w : Segment) : Type 0 where
   pub left : has_on_left p w ≡ true
@@ -77,8 +77,8 @@ faced_by_front : (p q : Point) (walls screens : List Segment) (k : ℕ) (s : See
     → list_any (λ w. starts_into_wall q p w) walls ≡ (int_eq (side_of s (vector p q)) (pos 0) && hides_itself p walls k)
 faced_by_front p q walls screens k s front uncrossed =
     let d = vector p q in
-    any_is (λ w. starts_into_wall q p w) walls nowhere (int_eq (side_of s d) (pos 0) && hides_itself p walls k)
-    (λ some. let w = get_or walls some.place nowhere in
+    any_is (λ w. starts_into_wall q p w) walls no_segment (int_eq (side_of s d) (pos 0) && hides_itself p walls k)
+    (λ some. let w = get_or walls some.place no_segment in
     let f = faces_of p q w some.holds in
     let seen : seen_at p (walls ++ screens) some.place
     ≡ Some (ahead_of p w) = wall_at p walls screens some.place some.within ∙ seen_ahead p w f.left in
@@ -87,16 +87,16 @@ faced_by_front p q walls screens k s front uncrossed =
     (sym seen ∙ ap (seen_at p (walls ++ screens)) e ∙ front.seen) in
     both_true (int_eq (side_of s d) (pos 0)) (hides_itself p walls k)
     (zero_tested (side_of s d) (subst (λ t. side_of t d ≡ pos 0) same f.on))
-    (both_true (nat_lt k (length walls)) (has_on_left p (get_or walls k nowhere))
+    (both_true (nat_lt k (length walls)) (has_on_left p (get_or walls k no_segment))
     (number_less_tested k (length walls) (subst (λ t. t < length walls) e some.within))
-    (subst (λ t. has_on_left p (get_or walls t nowhere) ≡ true) e f.left)))
+    (subst (λ t. has_on_left p (get_or walls t no_segment) ≡ true) e f.left)))
     (λ n. absurd (not_negative (side_of s d) uncrossed
     (front_is_behind d s (ahead_of p w) front.spanned f.spanned
     (front.nearest some.place (ahead_of p w) (append_within walls screens some.place some.within) n
     seen f.spanned) (at_most_zero _ f.on)))))
     (λ h. let one = both_of (int_eq (side_of s d) (pos 0)) (hides_itself p walls k) h in
-    let two = both_of (nat_lt k (length walls)) (has_on_left p (get_or walls k nowhere)) one.1 in
-    let w = get_or walls k nowhere in
+    let two = both_of (nat_lt k (length walls)) (has_on_left p (get_or walls k no_segment)) one.1 in
+    let w = get_or walls k no_segment in
     let within = tested_number_less k (length walls) two.0 in
     let same : ahead_of p w ≡ s = some_same (ahead_of p w) s
     (sym (wall_at p walls screens k within ∙ seen_ahead p w two.1) ∙ front.seen) in
@@ -128,8 +128,8 @@ pub hidden_by_none : (p q : Point) (walls screens : List Segment) → IsBare p (
     → (list_any (crosses p q) (walls ++ screens) || list_any (λ w. starts_into_wall q p w) walls) ≡ false
 hidden_by_none p q walls screens bare =
     ap (λ t. t || list_any (λ w. starts_into_wall q p w) walls) (crossed_by_none p q (walls ++ screens) bare)
-    ∙ any_is (λ w. starts_into_wall q p w) walls nowhere false
-    (λ some. let w = get_or walls some.place nowhere in
+    ∙ any_is (λ w. starts_into_wall q p w) walls no_segment false
+    (λ some. let w = get_or walls some.place no_segment in
     let f = faces_of p q w some.holds in
     absurd (clash (spans (vector p q) (ahead_of p w)) f.spanned
     (bare.none some.place (ahead_of p w) (append_within walls screens some.place some.within)

@@ -13,7 +13,7 @@ use Rattle.plane_spec.specs.declared.Segment.{Segment}
 use Rattle.sight_spec.specs.Scene.{Scene, blockers_of_scene}
 use Rattle.sight_spec.specs.Stops.{blocker_hit, is_nearest, near_wall_of}
 use Rattle.front_laws.proofs.Hits.{hit_is_where}
-use Rattle.front_laws.specs.Seen.{nowhere}
+use Rattle.sight_spec.specs.Isovist.{no_segment}
 use Rattle.front_laws.proofs.Lists.{any_is, by_same, any_at}
 use Rattle.front_laws.proofs.Tests.{number_less_tested, mapped_at, by_cases, never_equal}
 use Rattle.front_laws.specs.Seen.{seen_of, hit_where, seen_at, Seen, hit_of, spans}
@@ -89,12 +89,12 @@ hit_nearest p d blockers w h e = rw e refl
 
 -- the hit of the wall or screen of the number
 pub hit_at : (p d : Point) (blockers : List Segment) (k : ℕ) → k < length blockers
-    → blocker_hit p d (get_or blockers k nowhere) ≡ hit_where d (seen_at p blockers k)
-hit_at p d blockers k within = hit_is_where p d (get_or blockers k nowhere)
-    ∙ ap (hit_where d) (sym (mapped_at (seen_of p) blockers k nowhere None within))
+    → blocker_hit p d (get_or blockers k no_segment) ≡ hit_where d (seen_at p blockers k)
+hit_at p d blockers k within = hit_is_where p d (get_or blockers k no_segment)
+    ∙ ap (hit_where d) (sym (mapped_at (seen_of p) blockers k no_segment None within))
 
 pub front_hit : (p d : Point) (blockers : List Segment) (k : ℕ) (s : Seen) → IsFront p d blockers k s
-    → blocker_hit p d (get_or blockers k nowhere) ≡ Some (hit_of d s)
+    → blocker_hit p d (get_or blockers k no_segment) ≡ Some (hit_of d s)
 front_hit p d blockers k s front = hit_at p d blockers k front.within ∙ ap (hit_where d) front.seen
     ∙ ap (λ t. cond t (Some (hit_of d s)) None) front.spanned
 
@@ -112,7 +112,7 @@ later_seen d s (Some t) f = by_cases (spans d t)
     (λ h. missed (ap (λ b. cond b (Some (hit_of d t)) None) h))
 
 pub others_later : (p d : Point) (blockers : List Segment) (k j : ℕ) (s : Seen) → IsFront p d blockers k s
-    → j < length blockers → j ≢ k → Later d s (blocker_hit p d (get_or blockers j nowhere))
+    → j < length blockers → j ≢ k → Later d s (blocker_hit p d (get_or blockers j no_segment))
 others_later p d blockers k j s front within other =
     subst (Later d s) (sym (hit_at p d blockers j within))
     (later_seen d s (seen_at p blockers j) (λ t e h. front.nearest j t within other e h))
@@ -127,27 +127,27 @@ pub none_before_front : (p d : Point) (blockers : List Segment) (k : ℕ) (s : S
     → list_any (λ o. is_before o (hit_of d s)) (filter_map (blocker_hit p d) blockers) ≡ false
 none_before_front p d blockers k s front =
     any_found (λ o. is_before o (hit_of d s)) (blocker_hit p d) blockers
-    ∙ any_is (λ w. passes_hit (λ o. is_before o (hit_of d s)) (blocker_hit p d w)) blockers nowhere false
+    ∙ any_is (λ w. passes_hit (λ o. is_before o (hit_of d s)) (blocker_hit p d w)) blockers no_segment false
     (λ some. sym (by_same some.place k
-    (λ e. ap (λ t. passes_hit (λ o. is_before o (hit_of d s)) (blocker_hit p d (get_or blockers t nowhere))) e
+    (λ e. ap (λ t. passes_hit (λ o. is_before o (hit_of d s)) (blocker_hit p d (get_or blockers t no_segment))) e
     ∙ ap (passes_hit (λ o. is_before o (hit_of d s))) (front_hit p d blockers k s front)
     ∙ never_self (hit_of d s))
     (λ n. not_before d s _ (others_later p d blockers k some.place s front some.within n))) ∙ some.holds)
     (λ h. absurd (grind arith))
 
 front_nearest : (p d : Point) (blockers : List Segment) (k : ℕ) (s : Seen) → IsFront p d blockers k s
-    → is_nearest p d blockers (get_or blockers k nowhere) ≡ true
-front_nearest p d blockers k s front = hit_nearest p d blockers (get_or blockers k nowhere) (hit_of d s)
+    → is_nearest p d blockers (get_or blockers k no_segment) ≡ true
+front_nearest p d blockers k s front = hit_nearest p d blockers (get_or blockers k no_segment) (hit_of d s)
     (front_hit p d blockers k s front) ∙ ap not (none_before_front p d blockers k s front)
 
 other_not : (p d : Point) (blockers : List Segment) (k j : ℕ) (s : Seen) → IsFront p d blockers k s
-    → Later d s (blocker_hit p d (get_or blockers j nowhere)) → is_nearest p d blockers (get_or blockers j nowhere)
+    → Later d s (blocker_hit p d (get_or blockers j no_segment)) → is_nearest p d blockers (get_or blockers j no_segment)
     ≡ false
-other_not p d blockers k j s front (missed e) = none_nearest p d blockers (get_or blockers j nowhere) e
+other_not p d blockers k j s front (missed e) = none_nearest p d blockers (get_or blockers j no_segment) e
 other_not p d blockers k j s front (later h e before) =
-    hit_nearest p d blockers (get_or blockers j nowhere) h e
+    hit_nearest p d blockers (get_or blockers j no_segment) h e
     ∙ ap not (any_found (λ o. is_before o h) (blocker_hit p d) blockers
-    ∙ any_at (λ w. passes_hit (λ o. is_before o h) (blocker_hit p d w)) blockers nowhere
+    ∙ any_at (λ w. passes_hit (λ o. is_before o h) (blocker_hit p d w)) blockers no_segment
     (record {
       place = k;
       within = front.within;
@@ -156,7 +156,7 @@ other_not p d blockers k j s front (later h e before) =
     }))
 
 pub bare_hit : (p d : Point) (blockers : List Segment) (j : ℕ) → IsBare p d blockers → j < length blockers
-    → blocker_hit p d (get_or blockers j nowhere) ≡ None
+    → blocker_hit p d (get_or blockers j no_segment) ≡ None
 bare_hit p d blockers j bare within = hit_at p d blockers j within
     ∙ unseen d (seen_at p blockers j) (λ t e. bare.none j t within e)
   where
@@ -170,11 +170,11 @@ pub near_wall_is : (scene : Scene) (p d : Point) (first : Option (ℕ × Seen)) 
 unfolding near_wall_of
 near_wall_is scene p d None bare =
     let blockers = blockers_of_scene scene in
-    no_position (is_nearest p d blockers) blockers nowhere
-    (λ j within. none_nearest p d blockers (get_or blockers j nowhere) (bare_hit p d blockers j bare within))
+    no_position (is_nearest p d blockers) blockers no_segment
+    (λ j within. none_nearest p d blockers (get_or blockers j no_segment) (bare_hit p d blockers j bare within))
 near_wall_is scene p d (Some first) front =
     let blockers = blockers_of_scene scene in
-    position_is (is_nearest p d blockers) blockers first.0 nowhere front.within
+    position_is (is_nearest p d blockers) blockers first.0 no_segment front.within
     (front_nearest p d blockers first.0 first.1 front)
     (λ j lt. other_not p d blockers first.0 j first.1 front
     (others_later p d blockers first.0 j first.1 front (below j first.0 (length blockers) lt front.within)

@@ -31,7 +31,7 @@ use Rattle.exact_geom.proofs.Values.{same_reduced}
 use Rattle.apart_laws.proofs.Plans.{points_same}
 use Rattle.front_laws.proofs.Hits.{hit_is_where}
 use Rattle.front_laws.proofs.InOrder.{den_up}
-use Rattle.front_laws.specs.Seen.{nowhere}
+use Rattle.sight_spec.specs.Isovist.{no_segment}
 use Rattle.front_laws.proofs.Lists.{any_is, some_of, any_at}
 use Rattle.front_laws.proofs.Tests.{neither_first, neither_second, tested_not, never, either_first, either_second}
 use Rattle.front_laws.proofs.Tests.{neither, no_difference, both_of, both_true, by_cases, other_of_either, tested_zero}
@@ -199,14 +199,14 @@ line_up p d w = subst UpHit (sym (hit_is_where p d w)) (up_where d (seen_of p w)
 pub blocker_least : (scene : Scene) (p d : Point) (first : Option (ℕ × Seen)) → IsFirst scene p d first
     → HasLeast (filter_map (blocker_hit p d) (blockers_of_scene scene)) (blocker_stop d (seen_first first))
 blocker_least scene p d None bare =
-    nothing_found (blocker_hit p d) (blockers_of_scene scene) nowhere
+    nothing_found (blocker_hit p d) (blockers_of_scene scene) no_segment
     (λ k lt. bare_hit p d (blockers_of_scene scene) k bare lt)
 blocker_least scene p d (Some first) front =
     let blockers = blockers_of_scene scene in
     record {
       up = den_up d first.1 front.spanned;
       reached = any_found (reaches_back (hit_of d first.1)) (blocker_hit p d) blockers
-          ∙ any_at (λ w. passes_hit (reaches_back (hit_of d first.1)) (blocker_hit p d w)) blockers nowhere
+          ∙ any_at (λ w. passes_hit (reaches_back (hit_of d first.1)) (blocker_hit p d w)) blockers no_segment
           (record {
             place = first.0;
             within = front.within;
@@ -462,25 +462,25 @@ start_least p d walls = by_any (list_any (leaves_left p d) walls) refl
 
     by_any : (b : Bool) → list_any (leaves_left p d) walls ≡ b
         → HasLeast (filter_map (start_hit p d) walls) (start_stop b)
-    by_any false h = nothing_found (start_hit p d) walls nowhere
-        (λ k lt. start_hit_is p d (get_or walls k nowhere)
-        ∙ ap (λ t. cond t (Some (whole (pos 0))) None) (none_at (leaves_left p d) walls k nowhere h lt))
+    by_any false h = nothing_found (start_hit p d) walls no_segment
+        (λ k lt. start_hit_is p d (get_or walls k no_segment)
+        ∙ ap (λ t. cond t (Some (whole (pos 0))) None) (none_at (leaves_left p d) walls k no_segment h lt))
     by_any true h = record {
       up = omega (arith, ints);
       reached = any_found (reaches_back (whole (pos 0))) (start_hit p d) walls
-          ∙ (let s = some_of (leaves_left p d) walls nowhere h in
-          any_at (λ w. passes_hit (reaches_back (whole (pos 0))) (start_hit p d w)) walls nowhere
+          ∙ (let s = some_of (leaves_left p d) walls no_segment h in
+          any_at (λ w. passes_hit (reaches_back (whole (pos 0))) (start_hit p d w)) walls no_segment
           (record {
             place = s.place;
             within = s.within;
             holds = ap (passes_hit (reaches_back (whole (pos 0))))
-                (start_hit_is p d (get_or walls s.place nowhere)
+                (start_hit_is p d (get_or walls s.place no_segment)
                 ∙ ap (λ t. cond t (Some (whole (pos 0))) None) s.holds) ∙ ap not zero_self;
           }));
       none = any_found (λ k. is_before k (whole (pos 0))) (start_hit p d) walls
-          ∙ none_of (λ w. passes_hit (λ k. is_before k (whole (pos 0))) (start_hit p d w)) walls nowhere
-          (λ k lt. ap (passes_hit (λ k. is_before k (whole (pos 0)))) (start_hit_is p d (get_or walls k nowhere))
-          ∙ either (leaves_left p d (get_or walls k nowhere)));
+          ∙ none_of (λ w. passes_hit (λ k. is_before k (whole (pos 0))) (start_hit p d w)) walls no_segment
+          (λ k lt. ap (passes_hit (λ k. is_before k (whole (pos 0)))) (start_hit_is p d (get_or walls k no_segment))
+          ∙ either (leaves_left p d (get_or walls k no_segment)));
     }
       where
         either : (b : Bool) → passes_hit (λ k. is_before k (whole (pos 0))) (cond b (Some (whole (pos 0))) None) ≡ false

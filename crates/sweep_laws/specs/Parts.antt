@@ -16,7 +16,7 @@ use Rattle.sweep_laws.specs.Groups.{IsNearest, is_own}
 use Rattle.std.specs.Prelude.{ℕ, nat_lt, length}
 use Rattle.std.proofs.Common.{get_or}
 use Rattle.plane_spec.specs.Vectors.{cross_of}
-use Rattle.front_laws.specs.Seen.{nowhere}
+use Rattle.sight_spec.specs.Isovist.{no_segment}
 
 -- the nearest corner of the direction that passes the test, or none
 abbrev pub IsNearestOrNone : Point → Point → (Corner → Bool) → List Corner → Option Point → Type 0
@@ -39,7 +39,7 @@ has_on_left p w = int_lt (pos 0) (cross_of (vector p w.a) (vector p w.b))
 
 -- the one of the number is a wall that has the station on its left: a point on it is behind what is blocked
 abbrev pub hides_itself : Point → List Segment → ℕ → Bool
-hides_itself p walls k = nat_lt k (length walls) && has_on_left p (get_or walls k nowhere)
+hides_itself p walls k = nat_lt k (length walls) && has_on_left p (get_or walls k no_segment)
 
 -- what is first is such a wall
 abbrev pub first_hides : Scene → Point → Option (ℕ × Seen) → Bool

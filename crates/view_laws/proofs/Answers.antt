@@ -14,7 +14,7 @@ use Rattle.std.specs.Option.{option_map}
 use Rattle.std.specs.Ordering.{int_eq}
 use Rattle.std.specs.Prelude.{◌&&◌, ◌||◌, int_lt, Option, Some, None, true, Bool, false, not, int_le}
 use Rattle.plane_spec.specs.Cones.{is_in_cone}
-use Rattle.plane_spec.specs.Vectors.{vector, cross_of, point, dot_of, IsDirected, same_point}
+use Rattle.plane_spec.specs.Vectors.{vector, cross_of, point, dot_of, IsDirected, same_point, reversed_direction}
 use Rattle.plane_spec.specs.declared.Corner.{Corner}
 use Rattle.plane_spec.specs.declared.Point.{Point}
 use Rattle.plane_spec.specs.declared.Segment.{Segment}
@@ -25,7 +25,7 @@ use Rattle.int_laws.proofs.Ring.{minus_times, times_minus}
 use Rattle.int_laws.proofs.Signs.{tested_positive, not_negative_product}
 use Rattle.int_laws.proofs.Tests.{tested_less, tested_at_most}
 use Rattle.exact_geom.proofs.Circle.{dot_itself}
-use Rattle.front_laws.specs.Seen.{nowhere}
+use Rattle.sight_spec.specs.Isovist.{no_segment}
 use Rattle.front_laws.proofs.Tests.{guarded, tested_number_less, both_of, tested_zero, negative_tested, either_first}
 use Rattle.front_laws.proofs.Tests.{never}
 use Rattle.front_laws.specs.Seen.{Seen, side_of, spans}
@@ -35,7 +35,7 @@ use Rattle.sweep_laws.proofs.Sight.{sight_is}
 use Rattle.sweep_laws.specs.First.{seen_first}
 use Rattle.sweep_laws.specs.Parts.{first_hides}
 use Rattle.sweep_laws.specs.First.{IsFirst, IsFront}
-use Rattle.sweep_laws.specs.Groups.{stands_in, is_ahead, is_behind, back_of}
+use Rattle.sweep_laws.specs.Groups.{stands_in, is_ahead, is_behind}
 use Rattle.sweep_laws.specs.Parts.{is_hidden, IsNearestOrNone, is_nearer, is_up_to, begins_blocked}
 use Rattle.view_laws.proofs.Lengths.{hit_before}
 use Rattle.view_laws.proofs.Nearest.{Really, unmet, there, beyond, lengths_tell, lengths_tell_up_to, really}
@@ -59,7 +59,7 @@ hides_same : (p : Point) (walls : List Segment) (k : ℕ) → hides_itself p wal
 hides_same p walls k =
     guarded (nat_lt k (length walls)) _ _
     (λ h. ap (λ w. int_lt (pos 0) (cross_of (vector p w.a) (vector p w.b)))
-    (no_default walls k (record { a = point (pos 0) (pos 0); b = point (pos 0) (pos 0) }) nowhere
+    (no_default walls k (record { a = point (pos 0) (pos 0); b = point (pos 0) (pos 0) }) no_segment
     (tested_number_less k (length walls) h)))
 
 pub hidden_same : (scene : Scene) (p d : Point) (first : Option (ℕ × Seen))
@@ -89,7 +89,7 @@ ahead_along p d c h =
 
 pub behind_along : (p d : Point) (c : Corner) → is_behind p d c ≡ true → IsAlong d (vector p c.here)
 behind_along p d c h =
-    let one = both_of (stands_in p d c.here) (is_in_cone c (back_of d)) h in
+    let one = both_of (stands_in p d c.here) (is_in_cone c (reversed_direction d)) h in
     let two = both_of (int_eq (cross_of d (vector p c.here)) (pos 0)) (int_lt (pos 0) (dot_of d (vector p c.here)))
     one.0 in
     record {

@@ -1,5 +1,5 @@
 use Rattle.std.proofs.Common.{◌<◌, ◌+◌, arith, refl, sym, subst, get_or}
-use Rattle.front_laws.specs.Seen.{nowhere}
+use Rattle.sight_spec.specs.Isovist.{no_segment}
 use Rattle.sight_sweep.specs.Tables.{HasEnds}
 use Rattle.sight_sweep.proofs.Ends.{no_ends, both_ends, all_ends}
 use Rattle.sight_sweep.proofs.around.line_ends.Goals as goal
@@ -12,7 +12,7 @@ loop-k-preserved c =
     let small : c.loop-k.k < 2048 = omega arith in
     subst (HasEnds c.args.lines.now (c.loop-k.k + 1)) (sym c.in_ok-push_ends.ensures)
     (both_ends c.args.lines.now c.loop-k.k
-    (get_or c.args.lines.now c.loop-k.k nowhere) c.loop-k.ends.items small c.loop-k-test.true refl c.loop-k.invariant)
+    (get_or c.args.lines.now c.loop-k.k no_segment) c.loop-k.ends.items small c.loop-k-test.true refl c.loop-k.invariant)
 
 pub returns : goal.returns
 returns c = all_ends c.args.lines.now c.loop-k.k c.loop-k.ends.items c.loop-k-test.false c.loop-k.invariant

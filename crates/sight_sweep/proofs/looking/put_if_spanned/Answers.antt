@@ -2,7 +2,8 @@ use Rattle.std.proofs.Common.{◌≡◌, ◌∙◌, ap, sym, subst, get_or}
 use Rattle.std.specs.Option.{option_map}
 use Rattle.std.proofs.lemmas.Result.{on_ok_weaker}
 use Rattle.std.specs.Prelude.{false, true}
-use Rattle.front_laws.specs.Seen.{nowhere, spans}
+use Rattle.front_laws.specs.Seen.{spans}
+use Rattle.sight_spec.specs.Isovist.{no_segment}
 use Rattle.front_laws.proofs.Tests.{some_same, none_some}
 use Rattle.sight_sweep.specs.Actives.{seen, IsActive, beside}
 use Rattle.sight_sweep.specs.LeftOut.{is_set}
@@ -22,7 +23,7 @@ returns-then-not-is_set c a =
 pub returns-then-are_beside : goal.returns-then-are_beside
 returns-then-are_beside c a =
     let scene = c.args.table.now in let p = c.args.p in let d = c.args.d in let number = c.args.number in
-    let line = get_or (blockers_of_scene scene) number nowhere in
+    let line = get_or (blockers_of_scene scene) number no_segment in
     spanned_other scene p d (is_set c.args.kept.now) number c.args.active.now.items
     (λ s own. beside_unspanned p d line s (seen_of_number p (blockers_of_scene scene) number s c.requires.within own)
     (subst (λ w. are_beside d (vector p w.a) (vector p w.b) ≡ true) c.line-line.ensures.line

@@ -4,7 +4,8 @@ use Rattle.std.specs.Option.{option_map}
 use Rattle.sight_sweep.specs.Actives.{first_of, front}
 use Rattle.sight_sweep.specs.Events.{way_at, corner_of}
 use Rattle.sight_sweep.specs.LeftOut.{is_set}
-use Rattle.sight_sweep.specs.Rounds.{number_in, is_past, IsUnderway}
+use Rattle.sight_sweep.specs.Rounds.{is_past, IsUnderway}
+use Rattle.view_laws.specs.Views.{number_by}
 use Rattle.sight_sweep.proofs.Passing.{pass_silently, pass_telling}
 use Rattle.std.proofs.lemmas.Result.{on_ok_weaker}
 use Rattle.sight_sweep.proofs.round.pass.Goals as goal
@@ -20,8 +21,8 @@ returns-then-is_silent c = record {
       c.args.active.now.items c.take_all_ended.new.active.items c.put_all_begun.new.active.items
       c.requires.station left g u c.take_all_ended.ensures.taken
       (λ test way a old new. c.in_ok-put_all_begun.ensures.put test way a old new)
-      (sym (ap number_in was) ∙ c.is_silent.ensures.on c.if-is_silent.true ∙ ap number_in on)
-      (sym (ap number_in on) ∙ c.is_silent.ensures.after c.if-is_silent.true ∙ ap number_in next)
+      (sym (ap number_by was) ∙ c.is_silent.ensures.on c.if-is_silent.true ∙ ap number_by on)
+      (sym (ap number_by on) ∙ c.is_silent.ensures.after c.if-is_silent.true ∙ ap number_by next)
       (subst (λ xs. All (λ e. is_past (first_of xs) (way_at c.args.p c.args.table.now.corners (corner_of e)) ≡ true)
       c.args.group.now) c.deref-3.ensures.value
       (c.are_past-hidden.ensures (c.is_silent.ensures.hidden c.if-is_silent.true)));
