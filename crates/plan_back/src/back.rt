@@ -3,7 +3,7 @@
 ghost use Rattle.std.specs.Prelude.{◌≡◌, IfOk};
 ghost use Rattle.plan_back.specs.Backs.{edit_name, name_of};
 
-use crate::copies::copied_points;
+use plan_check::copied_points;
 use plan_spec::{Edit, Points};
 use plane_spec::Point;
 use std::alloc::Global;

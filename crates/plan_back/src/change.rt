@@ -6,9 +6,8 @@ ghost use Rattle.plan_check.specs.Faults.{IfRefused};
 ghost use Rattle.plan_back.specs.Backs.{HasPlace, like_edit, plan_after_back, why_not_back};
 
 use crate::back::Back;
-use crate::copies::copied_points;
 use crate::placing::{with_obstacle_at, with_route_at, with_screen_at};
-use plan_check::{EditFault, Plan};
+use plan_check::{EditFault, Plan, copied_points};
 use plan_spec::Edit;
 use std::alloc::Global;
 use text_spec::NoMemory;

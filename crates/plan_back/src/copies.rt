@@ -1,22 +1,11 @@
-//! Points and items, copied, which takes memory.
+//! Items, copied, which takes memory.
 
 ghost use Rattle.std.specs.Prelude.{◌≡◌, ◌++◌, IfOk, OnOk};
 
-use plan_spec::{Item, Items, Points};
-use plane_spec::Point;
+use plan_check::copied_points;
+use plan_spec::{Item, Items};
 use std::alloc::Global;
 use text_spec::NoMemory;
-
-/// The same points again.
-pub(crate) fn copied_points(alloc: Global, points: &[Point]) -> Result<Points, NoMemory>
-    ensures { IfOk result (λ copy. copy ≡ points.now) }
-{
-    let mut copy = Points::new(alloc);
-    for p in points {
-        copy.push(*p)?;
-    }
-    Ok(copy)
-}
 
 /// The same item again.
 fn copied_item(alloc: Global, item: &Item) -> Result<Item, NoMemory>

@@ -6,8 +6,7 @@ ghost use Rattle.plan_spec.specs.Edits.{HasShift};
 ghost use Rattle.plan_back.specs.Backs.{HasPlace, TakesBack, back_of, inverse_of, like_edit, why_not_back};
 
 use crate::back::Back;
-use crate::copies::copied_points;
-use plan_check::Plan;
+use plan_check::{Plan, copied_points};
 use plan_spec::Edit;
 use std::alloc::Global;
 use text_spec::{Name, NoMemory};

@@ -10,8 +10,8 @@ ghost use Rattle.plan_back.specs.Items.{items_before_obstacles, items_before_rou
 ghost use Rattle.plan_back.specs.Places.{put_at};
 
 use crate::back::Back;
-use crate::copies::{copied_points, push_copies};
-use plan_check::{CheckFault, Plan, check};
+use crate::copies::push_copies;
+use plan_check::{CheckFault, Plan, check, copied_points};
 use plan_spec::{Edit, Item, Items, PlanData};
 use plane_spec::Point;
 use std::alloc::Global;

@@ -9,6 +9,7 @@
 //! | [`Edit`], [`EditFault`], [`Changed`] | a change of a plan, why it is refused, and the boxes in which something changes |
 //! | [`Why`], [`Limit`] | why an item or an edit is refused |
 //! | [`MAX_OBSTACLES`], [`MAX_CORNERS`], .. | how much a plan may have |
+//! | [`copied_points`] | a second list of the same points |
 //! | [`Point`], [`PlanBox`] | a point, or a direction; a box with sides along the axes |
 //! | [`Name`], [`NoMemory`] | a name; the answer for out of memory |
 #![tactic(auto)]
@@ -30,6 +31,7 @@ mod shifts;
 pub use checking::{CheckFault, check};
 pub use editing::EditFault;
 pub use plan::Plan;
+pub use plan_parts::copied_points;
 pub use plan_spec::{
     Changed, Edit, GridSpec, Item, Items, Limit, MAX_CORNERS, MAX_GRID_POINTS, MAX_OBSTACLES,
     MAX_ROUTES, MAX_SCREENS, MAX_SHIFT, MAX_STEP, PlanData, Points, Route, Screen, Why,

@@ -12,8 +12,8 @@ use text_spec::{Name, NoMemory};
 
 // ---- copies
 
-/// The same points again.
-pub(crate) fn copied_points(alloc: Global, points: &[Point]) -> Result<Points, NoMemory>
+/// The same points again. `NoMemory` where there is no memory for them.
+pub fn copied_points(alloc: Global, points: &[Point]) -> Result<Points, NoMemory>
     ensures { IfOk result (λ copy. copy ≡ points.now) }
 {
     let mut copy = Points::new(alloc);
