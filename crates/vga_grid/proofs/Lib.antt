@@ -4,5 +4,6 @@ pub mod Changes
 pub mod Counting
 pub mod EdgeLists
 pub mod EdgeCount
+pub mod Boxed
 pub mod Covered
 pub mod Numbers

@@ -9,10 +9,10 @@ ghost use Rattle.plan_spec.specs.Grid as grid;
 ghost use Rattle.plan_spec.specs.Ranges.{IsFromTo, IsGridInRange};
 ghost use Rattle.sight_spec.specs.Visibility as visibility;
 
+use crate::obstacles::{is_open_by, obstacle_boxes};
 use plan_check::Plan;
 use plan_spec::GridSpec;
 use plane_spec::Point;
-use sight_core::is_open;
 use std::alloc::Global;
 use std::marker::Model;
 use text_spec::NoMemory;
@@ -180,16 +180,18 @@ impl Grid {
 
 /// The open points of a plan's grid in order, each beside its number.
 ///
-/// Cost: a test of openness for each point of the grid.
+/// Cost: for each point of the grid a pass over the outer polygon, a comparison with the box of each obstacle, and a
+/// pass over those whose box it is in.
 pub fn open_points(alloc: Global, plan: &Plan) -> Result<Vec<(u32, Point)>, NoMemory>
     ensures points { IfOk result (λ points. points.items ≡ visibility.open_points plan.now) }
     ensures sound { IsTrue (is_sound plan.now) }
 {
     let grid = Grid::of(plan);
+    let boxes = obstacle_boxes(alloc, plan)?;
     let mut open = Vec::new(alloc);
     for number in 0..grid.count() {
         let point = grid.place(number);
-        if is_open(plan, point) {
+        if is_open_by(plan, &boxes, point) {
             open.push((number, point))?;
         }
     }

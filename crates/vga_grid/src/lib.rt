@@ -24,6 +24,7 @@ mod edges;
 mod grid;
 mod limits;
 mod naive;
+mod obstacles;
 
 pub use bit_graph::{BitGraph, types_are_shared};
 pub use edges::Edges;

@@ -10,21 +10,24 @@ ghost use Rattle.vga_grid.specs.Openness.{openness_of};
 
 use crate::bit_graph::BitGraph;
 use crate::grid::Grid;
+use crate::obstacles::{is_open_by, obstacle_boxes};
 use plan_check::Plan;
-use sight_core::{Scene, free, is_open};
+use sight_core::{Scene, free};
 use std::alloc::Global;
 use text_spec::NoMemory;
 
 /// Whether each point of the plan's grid is open, by its number.
 ///
-/// Cost: a test of openness for each point.
+/// Cost: for each point a pass over the outer polygon, a comparison with the box of each obstacle, and a pass over those
+/// whose box it is in.
 pub fn openness(alloc: Global, plan: &Plan, grid: &Grid) -> Result<Vec<bool>, NoMemory>
     requires { grid.now ≡ plan.now.grid }
     ensures { IfOk result (λ flags. flags.items ≡ openness_of plan.now (length (grid_points plan.now.grid))) }
 {
+    let boxes = obstacle_boxes(alloc, plan)?;
     let mut flags = Vec::new(alloc);
     for i in 0..grid.count() {
-        flags.push(is_open(plan, grid.place(i)))?;
+        flags.push(is_open_by(plan, &boxes, grid.place(i)))?;
     }
     Ok(flags)
 }
