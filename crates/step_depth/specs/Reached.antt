@@ -1,5 +1,5 @@
 -- What a node reaches, as a value.
-use Rattle.std.specs.Prelude.{ℕ, ◌-◌, ◌*◌, List, map, count_by, is_some, min}
+use Rattle.std.specs.Prelude.{ℕ, List, map, count_by, is_some}
 use Rattle.std.specs.List.{range_with_len}
 use Rattle.graph_spec.specs.Graphs.{Graph, Measures, nodes, depths_of, total_depth, measures_of}
 use Rattle.step_depth.specs.declared.reach.Reach.{Reach}
@@ -16,10 +16,6 @@ reach_of graph i =
 -- what so many nodes from the first on reach
 abbrev pub reaches_of : Graph → ℕ → ℕ → List Reach
 reaches_of graph first count = map (reach_of graph) (range_with_len first count)
-
--- how many nodes part k of n nodes has, where each part but the last has 32
-abbrev pub part_length : ℕ → ℕ → ℕ
-part_length n k = min 32 (n - 32 * k)
 
 -- the measures of so many nodes from the first on
 abbrev pub measures_from : Graph → ℕ → ℕ → List Measures

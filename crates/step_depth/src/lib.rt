@@ -4,6 +4,7 @@
 //! |---|---|
 //! | [`depths`] | the depth of each node from one of them |
 //! | [`measures`], [`Measure`] | connectivity, reach, total and mean depth and relative asymmetry of each node |
+//! | [`mean_of`] | the mean depth, where so many nodes are reached and their depths have such a sum |
 //! | [`types_are_shared`] | measures may be moved to a thread and shared between threads |
 //!
 //! The depth of a node is the least number of edges of a walk to it. From node 0 of this graph:
@@ -25,5 +26,5 @@ mod sets;
 mod workers;
 
 pub use marking::depths;
-pub use measuring::{Measure, types_are_shared};
+pub use measuring::{Measure, mean_of, types_are_shared};
 pub use workers::measures;

@@ -37,8 +37,10 @@ impl Model for Measure {
     ghost inverse = { λ v. record { connectivity = v.connectivity; reached = v.reached; total = v.total; mean = v.mean; ra = v.asymmetry } };
 }
 
-/// The mean depth of the other nodes reached.
-fn mean_of(reached: u32, total: u64) -> Option<Frac>
+/// The mean of depths whose sum is `total`, over all but one of the `reached` nodes: none where no other is reached.
+///
+/// Cost: one fraction in lowest terms.
+pub fn mean_of(reached: u64, total: u64) -> Option<Frac>
     ensures { result ≡ mean_depth reached total }
 {
     if reached < 2 {
@@ -100,7 +102,7 @@ fn measure_of(reach: Reach) -> Measure
         connectivity: reach.connectivity,
         reached: reach.reached,
         total: reach.total,
-        mean: mean_of(reach.reached, reach.total),
+        mean: mean_of(u64::from(reach.reached), reach.total),
         ra: asymmetry_of(reach.reached, reach.total),
     }
 }

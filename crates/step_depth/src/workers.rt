@@ -1,17 +1,17 @@
-//! What is measured at each node of a graph, by one worker or by as many as there are processors.
+//! What is measured at each node of a graph, by one worker or by several.
 
-ghost use Rattle.std.specs.Prelude.{◌≡◌, ℕ, ◌+◌, ◌-◌, ◌*◌, ◌/◌, ◌<◌, ◌≤◌, length, IfOk};
-ghost use Rattle.std.specs.List.{AllZip, range_with_len};
+ghost use Rattle.std.specs.Prelude.{◌≡◌, ℕ, ◌+◌, ◌-◌, ◌<◌, ◌≤◌, length, IfOk};
+ghost use Rattle.std.specs.Thread.{IsSync};
 ghost use Rattle.vga_grid.specs.Rows.{width, graph_of};
 ghost use Rattle.graph_spec.specs.Graphs.{measures_of_nodes};
-ghost use Rattle.step_depth.specs.Reached.{reaches_of, measures_from, part_length};
+ghost use Rattle.step_depth.specs.Reached.{reaches_of, measures_from};
 
 use crate::levels::spread;
 use crate::measuring::{Measure, measure_each};
 use crate::reach::Reach;
-use rayon::prelude::*;
-use std::alloc::{AllocError, Global};
-use std::thread::Threads;
+use rayon::current_num_threads;
+use std::alloc::Global;
+use std::thread::{Threads, join};
 use text_spec::NoMemory;
 use vga_grid::BitGraph;
 
@@ -43,83 +43,85 @@ fn reaches_from(
     Ok(reaches)
 }
 
-/// What the nodes of part `k` reach.
-fn reaches_of_part(alloc: Global, graph: &BitGraph, k: u32) -> Result<Vec<Reach>, NoMemory>
-    requires { 32 * k < graph.now.count }
-    ensures { IfOk result (λ rs. rs.items ≡ reaches_of (graph_of graph.now) (32 * k) (part_length graph.now.count k)) }
+/// The measures of the nodes from `first` up to `end`, by one worker.
+fn measures_between(
+    alloc: Global,
+    graph: &BitGraph,
+    first: u32,
+    end: u32,
+) -> Result<Vec<Measure>, NoMemory>
+    requires order { first ≤ end }
+    requires nodes { end ≤ graph.now.count }
+    ensures { IfOk result (λ ms. ms.items ≡ measures_from (graph_of graph.now) first (end - first)) }
 {
-    let n = graph.len();
-    let end = if 32 * k + 32 <= n { 32 * k + 32 } else { n };
-    reaches_from(alloc, graph, 32 * k, end)
-}
-
-/// The measures of the nodes of part `k`.
-fn measures_of_part(alloc: Global, graph: &BitGraph, k: u32) -> Result<Vec<Measure>, NoMemory>
-    requires { 32 * k < graph.now.count }
-    ensures { IfOk result (λ ms. ms.items
-        ≡ measures_from (graph_of graph.now) (32 * k) (part_length graph.now.count k)) }
-{
-    let reaches = reaches_of_part(alloc, graph, k)?;
+    let reaches = reaches_from(alloc, graph, first, end)?;
     measure_each(alloc, &reaches)
 }
 
-/// Of how many parts a task has at least: with one worker there is one task.
-fn least_length(workers: usize) -> usize {
-    if workers == 1 { usize::MAX } else { 1 }
-}
-
-/// The measures of the nodes of each part. Where there may be more than one worker, each part is a task of its own, so
-/// that a worker that is done takes the next.
-fn each_part(
-    rt: &(impl Threads + Sync),
-    alloc: Global,
-    graph: &BitGraph,
-    workers: usize,
-) -> Result<Vec<Result<Vec<Measure>, NoMemory>>, AllocError>
-    ensures { IfOk result (λ parts. AllZip (λ k part. IfOk part (λ ms. ms.items
-        ≡ measures_from (graph_of graph.now) (32 * k) (part_length graph.now.count k)))
-        (range_with_len 0 ((graph.now.count + 31) / 32)) parts.items) }
+/// How many of the nodes are for `more` of the workers: their share.
+fn share(nodes: u32, more: u32, workers: u32) -> u32
+    requires { 0 < workers }
+    ensures { result ≤ nodes }
 {
-    (0..(graph.len() + 31) / 32)
-        .into_par_iter()
-        .with_min_len(least_length(workers))
-        .map(
-            |k: u32| -> Result<Vec<Measure>, NoMemory>
-                requires { 32 * k < graph.now.count }
-                ensures { IfOk result (λ ms. ms.items
-                    ≡ measures_from (graph_of graph.entry.now) (32 * k) (part_length graph.entry.now.count k)) }
-            { measures_of_part(alloc, graph, k) },
-        )
-        .collect(rt, alloc)
+    (nodes.saturating_mul(more) / workers).min(nodes)
 }
 
-/// What the parts hold, one after another, if none is out of memory.
-fn join_parts(
+/// The measures of the nodes from `first` up to `end`, by so many workers. This thread is one of them, since starting a
+/// thread takes as long as many searches in a dense graph.
+fn measure_all<R: Threads + Sync>(
+    rt: &R,
     alloc: Global,
     graph: &BitGraph,
-    parts: &[Result<Vec<Measure>, NoMemory>],
+    first: u32,
+    end: u32,
+    workers: u32,
 ) -> Result<Vec<Measure>, NoMemory>
-    requires { AllZip (λ k part. IfOk part (λ ms. ms.items
-        ≡ measures_from (graph_of graph.now) (32 * k) (part_length graph.now.count k)))
-        (range_with_len 0 ((graph.now.count + 31) / 32)) parts.now }
-    ensures { IfOk result (λ ms. ms.items ≡ measures_of_nodes (graph_of graph.now)) }
+    requires order { first ≤ end }
+    requires nodes { end ≤ graph.now.count }
+    requires workers { 0 < workers }
+    ensures { IfOk result (λ ms. ms.items ≡ measures_from (graph_of graph.now) first (end - first)) }
 {
-    let _n = graph.len();
-    let mut measures = Vec::new(alloc);
-    for part in parts {
-        match part {
-            Ok(found) => measures.extend_from_slice(found)?,
-            Err(_) => return Err(NoMemory),
-        }
+    if workers == 1 {
+        return measures_between(alloc, graph, first, end);
     }
+    let fewer = workers / 2;
+    let more = workers - fewer;
+    let here = share(end - first, more, workers);
+    let middle = first + here;
+    let (left, right) = join(
+        rt,
+        move || -> Result<Vec<Measure>, NoMemory>
+            requires { IsSync R.row × (first ≤ middle) × (middle ≤ graph.now.count) × (0 < more) }
+            ensures { IfOk result (λ ms. ms.items
+                ≡ measures_from (graph_of graph.entry.now) first (middle - first)) }
+        { measure_all(rt, alloc, graph, first, middle, more) },
+        move || -> Result<Vec<Measure>, NoMemory>
+            requires { IsSync R.row × (middle ≤ end) × (end ≤ graph.now.count) × (0 < fewer) }
+            ensures { IfOk result (λ ms. ms.items ≡ measures_from (graph_of graph.entry.now) middle (end - middle)) }
+        { measure_all(rt, alloc, graph, middle, end, fewer) },
+    );
+    let mut measures = left?;
+    let others = right?;
+    measures.extend_from_slice(&others)?;
     Ok(measures)
 }
 
-/// The measures of each node, by this thread alone where `workers` is 1, and else by as many workers as there are
-/// processors: they are the same for every number, whichever worker is at which node, and in whichever order.
+/// How many workers there are for so many nodes: no more than processors, and one where the nodes are few.
+fn workers_for(rt: &impl Threads, workers: usize, nodes: u32) -> u32
+    ensures { 0 < result }
+{
+    if nodes < 256 {
+        return 1;
+    }
+    (workers.min(current_num_threads(rt)).min(64) as u32).max(1)
+}
+
+/// The measures of each node, by so many workers, but by no more than there are processors, and by this thread alone
+/// where there are fewer than 256 nodes: they are the same for every number of workers.
 ///
 /// Cost: a search from each node, level by level (see [`depths`](crate::depths)), and two fractions in lowest terms.
-/// Memory: besides the measures, six sets of nodes for each worker.
+/// Each worker has as many nodes, one after another; this thread is one of the workers.
+/// Memory: besides the measures, six sets of nodes for each worker, and what its nodes reach.
 ///
 /// Source: step depth, total and mean depth and relative asymmetry after Hillier and Hanson (1984); on visibility graphs
 /// after Turner, Doxa, O'Sullivan and Penn (2001).
@@ -131,6 +133,6 @@ pub fn measures(
 ) -> Result<Vec<Measure>, NoMemory>
     ensures { IfOk result (λ ms. ms.items ≡ measures_of_nodes (graph_of graph.now)) }
 {
-    let parts = each_part(rt, alloc, graph, workers)?;
-    join_parts(alloc, graph, &parts)
+    let n = graph.len();
+    measure_all(rt, alloc, graph, 0, n, workers_for(rt, workers, n))
 }
