@@ -42,14 +42,25 @@ fn parts_of(fraction: Option<Frac>) -> Option<(i128, i128)> {
     }
 }
 
-/// The first nodes have these measures.
+/// The first nodes have these measures, by one worker and by several.
 fn measure_as(
     rt: &(impl Abort + Threads + Sync),
     alloc: Global,
     graph: &BitGraph,
     expected: &[Expected],
 ) {
-    let workers = if graph.len() % 2 == 0 { 1 } else { 2 };
+    measure_by(rt, alloc, graph, 1, expected);
+    measure_by(rt, alloc, graph, 5, expected);
+}
+
+/// The first nodes have these measures, by so many workers.
+fn measure_by(
+    rt: &(impl Abort + Threads + Sync),
+    alloc: Global,
+    graph: &BitGraph,
+    workers: usize,
+    expected: &[Expected],
+) {
     let found = match measures(rt, alloc, graph, workers) {
         Ok(found) => found,
         Err(_) => panic!(rt; "there is memory"),
@@ -177,8 +188,9 @@ fn path(rt: &impl Abort, alloc: Global, n: u32) -> BitGraph {
     graph
 }
 
-/// From the end of a path the depths are 1, 2, 3 and so on: with 64 nodes in one word, with 65 past it. In a star of 4096
-/// nodes all others lie at 1 from the middle, and all but the middle at 2 from the others.
+/// From the end of a path the depths are 1, 2, 3 and so on: with 64 nodes in one word, with 65 past it, and with 300 so
+/// many that several workers share them. In a star of 4096 nodes all others lie at 1 from the middle, and all but the
+/// middle at 2 from the others.
 #[test]
 fn paths_and_stars_have_their_measures(rt: HostRuntime) {
     let alloc = rt.alloc();
@@ -186,6 +198,14 @@ fn paths_and_stars_have_their_measures(rt: HostRuntime) {
     measure_as(&rt, alloc, &path(&rt, alloc, 64), &[end]);
     let longer_end = (1, 65, 2080, Some((65, 2)), Some((1, 1)));
     measure_as(&rt, alloc, &path(&rt, alloc, 65), &[longer_end]);
+    let longest_end = (1, 300, 44850, Some((150, 1)), Some((1, 1)));
+    let beside_it = (2, 300, 44552, Some((44552, 299)), Some((297, 299)));
+    measure_as(
+        &rt,
+        alloc,
+        &path(&rt, alloc, 300),
+        &[longest_end, beside_it],
+    );
     let mut star = empty(&rt, alloc, 4096);
     for i in 1..4096u32 {
         join(&rt, &mut star, 0, i);
