@@ -190,7 +190,7 @@ shown_from before sectors place count s order some c read =
 -- ---- what it shows in a gap
 
 -- the sum of the directions of a gap is one
-sum_direction : (gap : Gap) → IsDirection (sum_of gap.from.step gap.to.step)
+pub sum_direction : (gap : Gap) → IsDirection (sum_of gap.from.step gap.to.step)
 sum_direction gap = record {
   x = within gap.from.step.x gap.to.step.x gap.from.small.x gap.to.small.x;
   y = within gap.from.step.y gap.to.step.y gap.from.small.y gap.to.small.y;

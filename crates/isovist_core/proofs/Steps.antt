@@ -18,7 +18,7 @@ step_is_direction d h = record {
 }
 
 -- left of the first of two directions is their sum, where the second is
-sum_left : (e f : Point) → cross_of e (sum_of e f) ≡ cross_of e f
+pub sum_left : (e f : Point) → cross_of e (sum_of e f) ≡ cross_of e f
 sum_left e f =
     let x = times_sum e.x e.y f.y in
     let y = times_sum e.y e.x f.x in

@@ -17,6 +17,13 @@ pub record IsCountUpTo (sectors : List Sector) (place count : ℕ) : Type 0 wher
   pub reached : (s : Sector) → 0 < count → (get_or sectors (count - 1) s).place ≤ place
   pub beyond : (s : Sector) → count < length sectors → place < (get_or sectors count s).place
 
+-- so many of the sectors have a place up to the first of two, and the others one from the second on, which is greater
+pub record IsCountBetween (sectors : List Sector) (first second count : ℕ) : Type 0 where
+  pub forward : first < second
+  pub within : count ≤ length sectors
+  pub reached : (s : Sector) → 0 < count → (get_or sectors (count - 1) s).place ≤ first
+  pub beyond : (s : Sector) → count < length sectors → second ≤ (get_or sectors count s).place
+
 -- the wall or screen that is seen first in the direction of the sum of two: none between two directions of a half turn or
 -- more, nor where one looks into what is blocked
 abbrev pub wall_shown : View → Point × Point → Option ℕ

@@ -3,13 +3,15 @@
 ghost use Rattle.std.specs.Prelude.{◌≡◌, ◌<◌, ◌≤◌, ◌||◌, length, int_le, pos, true};
 ghost use Rattle.plane_spec.specs.Cones.{IsCornerInRange};
 ghost use Rattle.plane_spec.specs.Segments.{IsSegmentInRange};
+ghost use Rattle.plane_spec.specs.Vectors as vectors;
 ghost use Rattle.plane_spec.specs.Vectors.{IsDirected, IsDirection, cross_of};
+ghost use Rattle.sight_spec.specs.Isovist as isovists;
 ghost use Rattle.sight_sweep.specs.Grounds.{IsGroundInRange};
 ghost use Rattle.turn_laws.specs.Places as places;
 ghost use Rattle.view_laws.specs.Views as views;
-ghost use Rattle.view_laws.specs.Views.{AreInOrder, radial_by};
+ghost use Rattle.view_laws.specs.Views.{AreInOrder, radial_by, radial_of};
 ghost use Rattle.isovist_core.specs.Gaps.{pair_of};
-ghost use Rattle.isovist_core.specs.Shown.{IsCountUpTo, wall_shown};
+ghost use Rattle.isovist_core.specs.Shown.{IsCountBetween, IsCountUpTo, wall_shown};
 
 use crate::gap::Gap;
 use crate::gaps::sum_of;
@@ -72,6 +74,13 @@ fn number_of(front: Option<Front>) -> Option<u32>
     }
 }
 
+/// The number of what is seen first after a sector.
+fn number_after(sector: &Sector) -> Option<u32>
+    ensures { result ≡ views.number_by sector.now.after }
+{
+    number_of(sector.after)
+}
+
 /// What a sector shows at a place that is its own, or comes before the next sector's.
 fn number_by(sector: &Sector, place: u64) -> Option<u32>
     ensures { result ≡ views.number_by (views.radial_at sector.now place).front }
@@ -79,7 +88,7 @@ fn number_by(sector: &Sector, place: u64) -> Option<u32>
     if place == sector.place {
         number_of(sector.on)
     } else {
-        number_of(sector.after)
+        number_after(sector)
     }
 }
 
@@ -96,10 +105,59 @@ fn number_at(view: &View, near: &mut usize, place: u64) -> Option<u32>
     number_by(&view.sectors[count - 1], place)
 }
 
+/// Whether so many sectors have a place up to that where the gap begins, and the others one from that on where it ends.
+/// It is so of no gap past (1,0).
+fn is_count_between(view: &View, count: usize, gap: &Gap) -> bool
+    ensures { result ≡ true → IsCountBetween view.now.sectors.items gap.now.from.place gap.now.to.place count }
+{
+    let sectors = &view.sectors;
+    gap.from.place < gap.to.place
+        && count <= sectors.len()
+        && (count == 0 || sectors[count - 1].place <= gap.from.place)
+        && (count == sectors.len() || gap.to.place <= sectors[count].place)
+}
+
+/// The number of the wall or screen that is seen first in a gap without a sector, after so many of them.
+///
+/// Cost: no division.
+fn number_between(view: &View, count: usize, gap: &Gap) -> Option<u32>
+    requires order { AreInOrder view.now.sectors.items }
+    requires turned { vectors.turns_left gap.now.from.step gap.now.to.step ≡ true }
+    requires between { IsCountBetween view.now.sectors.items gap.now.from.place gap.now.to.place count }
+    ensures { result ≡ views.number_by (radial_of view.now
+        (isovists.sum_of gap.now.from.step gap.now.to.step)).front }
+{
+    if count == 0 {
+        return number_of(view.before);
+    }
+    number_after(&view.sectors[count - 1])
+}
+
+/// The number of the wall or screen that is seen first in the direction of the sum of a gap's two. No place is computed
+/// where no sector is in the gap, and the search stood at it or at the sector before it.
+fn number_in(view: &View, near: &mut usize, gap: &Gap, way: Point) -> Option<u32>
+    requires order { AreInOrder view.now.sectors.items }
+    requires turned { vectors.turns_left gap.now.from.step gap.now.to.step ≡ true }
+    requires way { way ≡ isovists.sum_of gap.now.from.step gap.now.to.step }
+    requires direction { IsDirection way }
+    requires directed { IsDirected way }
+    ensures { result ≡ views.number_by (radial_of view.now way).front }
+{
+    let count = *near;
+    if is_count_between(view, count, gap) {
+        return number_between(view, count, gap);
+    }
+    if count < view.sectors.len() && is_count_between(view, count + 1, gap) {
+        *near = count + 1;
+        return number_between(view, count + 1, gap);
+    }
+    number_at(view, near, place_of(way))
+}
+
 /// The wall or screen that a view shows in a gap: the first one in the direction of the sum of its two, but none in a
 /// gap of a half turn or more, nor where that direction leads into what is blocked.
 ///
-/// Cost: one division; a search in the sectors, unless the last gap was just before.
+/// Cost: a few comparisons where the last gap was just before; else one division and a search in the sectors.
 pub(crate) fn wall_in(view: &View, near: &mut usize, gap: &Gap) -> Option<u32>
     requires order { AreInOrder view.now.sectors.items }
     requires ground_in { IsGroundInRange view.now.ground }
@@ -112,5 +170,5 @@ pub(crate) fn wall_in(view: &View, near: &mut usize, gap: &Gap) -> Option<u32>
     if is_led_into(view.ground, way) {
         return None;
     }
-    number_at(view, near, place_of(way))
+    number_in(view, near, gap, way)
 }
