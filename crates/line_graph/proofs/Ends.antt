@@ -87,7 +87,8 @@ pub on_of : (scene : Scene) (l : AxialLine) → IsThroughCorners scene l
 on_of scene l h =
     let p = first_of scene l in
     let q = second_of scene l in
-    subst (λ r. IsOn r p (vector p q)) (sym h.to) (on_by p q (stop_of scene q (vector p q)) (stop_hit scene p q h.differ))
+    subst (λ r. IsOn r p (vector p q)) (sym h.to)
+    (on_by p q (stop_of scene q (vector p q)) (stop_hit scene p q h.differ))
 
 -- parameters of both ends, of any form, are in order
 pub in_order : (scene : Scene) (l : AxialLine) (n m k i : ℤ) (p d : Point) → IsBack l.from p d → IsOn l.to p d

@@ -118,7 +118,8 @@ front_more near after count j false front e f g =
 
 -- one more number in front
 listed_more : (test : ℕ → Bool) (a n b : ℕ)
-    → has_number (filter test (range_with_len (a + 1) n)) b ≡ ((not (nat_lt b (a + 1)) && nat_lt b (a + 1 + n)) && test b)
+    → has_number (filter test (range_with_len (a + 1) n)) b
+    ≡ ((not (nat_lt b (a + 1)) && nat_lt b (a + 1 + n)) && test b)
     → has_number (filter test (range_with_len a (suc n))) b ≡ ((not (nat_lt b a) && nat_lt b (a + suc n)) && test b)
 listed_more test a n b rest = elim (cases_eq a b) [
   | inl same ↦ with_here (test a) refl same
@@ -154,13 +155,15 @@ listed_more test a n b rest = elim (cases_eq a b) [
         ∙ ap (λ (k : ℕ). (not (nat_lt b a) && nat_lt b k) && test b) same_end
 
     with_here : (t : Bool) → test a ≡ t → a ≡ b
-        → has_number (if t then a ∷ filter test (range_with_len (a + 1) n) else filter test (range_with_len (a + 1) n)) b
+        → has_number
+        (if t then a ∷ filter test (range_with_len (a + 1) n) else filter test (range_with_len (a + 1) n)) b
         ≡ ((not (nat_lt b a) && nat_lt b (a + suc n)) && test b)
     with_here true e same = ap (λ t. t || others) (eq-eqb a b same) ∙ here true e same
     with_here false e same = here false e same
 
     with_there : (t : Bool) → a ≢ b
-        → has_number (if t then a ∷ filter test (range_with_len (a + 1) n) else filter test (range_with_len (a + 1) n)) b
+        → has_number
+        (if t then a ∷ filter test (range_with_len (a + 1) n) else filter test (range_with_len (a + 1) n)) b
         ≡ ((not (nat_lt b a) && nat_lt b (a + suc n)) && test b)
     with_there true apart = ap (λ t. t || others) (ne_eqb a b apart) ∙ there apart
     with_there false apart = there apart
@@ -233,11 +236,13 @@ module _ (meets : ℕ → Bool) (i k a b : ℕ) (rises : i < k) (up : a < b) whe
         now_is ∙ rw (was_is, turned_pair, met, eq-eqb k b same, eq-eqb b k (sym same)) (all before first (a == i))
     | inr apart ↦
         now_is
-        ∙ rw (was_is, turned_pair, ne_eqb k b apart, ne_eqb b k (λ e. apart (sym e))) (none before first (a == i) (meets b))
+        ∙ rw (was_is, turned_pair, ne_eqb k b apart, ne_eqb b k (λ e. apart (sym e)))
+        (none before first (a == i) (meets b))
   ]
     where
       all : (before first here : Bool)
-          → ((before || (here && (first && true))) || ((here && true) || false)) ≡ (before || (here && ((first || true) && true)))
+          → ((before || (here && (first && true))) || ((here && true) || false))
+          ≡ (before || (here && ((first || true) && true)))
       all true first here = refl
       all false true true = refl
       all false true false = refl
@@ -245,7 +250,8 @@ module _ (meets : ℕ → Bool) (i k a b : ℕ) (rises : i < k) (up : a < b) whe
       all false false false = refl
 
       none : (before first here met : Bool)
-          → ((before || (here && (first && met))) || ((here && false) || false)) ≡ (before || (here && ((first || false) && met)))
+          → ((before || (here && (first && met))) || ((here && false) || false))
+          ≡ (before || (here && ((first || false) && met)))
       none true first here met = refl
       none false true true true = refl
       none false true true false = refl
@@ -270,7 +276,8 @@ module _ (meets : ℕ → Bool) (i k a b : ℕ) (rises : i < k) (up : a < b) whe
           → (before || (here && (first && false))) ≡ (before || (here && ((first || new) && false)))
       none first here new = ap (λ t. before || (here && t)) (and_false first ∙ sym (and_false (first || new)))
 
-      same : (first : Bool) → (before || (a == i && (first && meets b))) ≡ (before || (a == i && ((first || false) && meets b)))
+      same : (first : Bool) → (before || (a == i && (first && meets b)))
+          ≡ (before || (a == i && ((first || false) && meets b)))
       same true = refl
       same false = refl
 
@@ -304,7 +311,8 @@ near_first stretches lines measured i j i_in j_in apart =
         (get_or_default stretches k none (stretch_at k) (omega (arith, measured.sized, below)))
         (get_or_default lines k no_line (line_of_number lines k) below)
 
-    extent_at : (k : ℕ) → k < length lines → extent_of (line_of_number lines k) ≡ get_or (map extent_of lines) k no_extent
+    extent_at : (k : ℕ) → k < length lines
+        → extent_of (line_of_number lines k) ≡ get_or (map extent_of lines) k no_extent
     extent_at k below = sym (get_or-map extent_of lines k no_line no_extent below)
 
 -- after a row of the graph that row is done

@@ -43,7 +43,8 @@ some_left k x xs ys e =
 one_less : {X : Type 0} (k : ℕ) (x : X) (xs ys : List X) → drop k xs ≡ x ∷ ys → drop (k + 1) xs ≡ ys
 one_less k x xs ys e = ap (drop 1) (sym (drop_more xs k x (some_left k x xs ys e)) ∙ e)
 
-numbered : (scene : Scene) (k : ℕ) (corners : List Corner) → drop k scene.corners ≡ corners → All IsCornerInRange corners
+numbered : (scene : Scene) (k : ℕ) (corners : List Corner) → drop k scene.corners ≡ corners
+    → All IsCornerInRange corners
     → All (IsCornerOf scene) (enumerate_from k (map here_of corners))
 numbered scene k [] e in_range = All-nil (IsCornerOf scene)
 numbered scene k (c ∷ corners) e in_range =
@@ -53,7 +54,8 @@ numbered scene k (c ∷ corners) e in_range =
       here = at_number scene k c corners e;
       in_range = (All-head IsCornerInRange c corners in_range).here;
     })
-    (numbered scene (k + 1) corners (one_less k c scene.corners corners e) (All-tail IsCornerInRange c corners in_range))
+    (numbered scene (k + 1) corners (one_less k c scene.corners corners e)
+    (All-tail IsCornerInRange c corners in_range))
 
 -- ---- lines
 
@@ -104,6 +106,7 @@ all_through scene sound =
     (through_is scene) (pairs corners) (each_pair (IsCornerOf scene) corners known))
 
 -- a line of the scene leads through the corners of its numbers
-pub line_is_through : (scene : Scene) → IsOfSoundPlan scene → (l : AxialLine) → IsLineOf scene l → IsThroughCorners scene l
+pub line_is_through : (scene : Scene) → IsOfSoundPlan scene → (l : AxialLine) → IsLineOf scene l
+    → IsThroughCorners scene l
 line_is_through scene sound l h =
     All-contains (IsThroughCorners scene) (axial_lines scene) l (all_through scene sound) h

@@ -52,7 +52,8 @@ value_by : (f : Fraction) (z d : ℤ) (up : Bool) → int_lt (pos 0) (d *ℤ f.d
 value_by f z d true e here there = here refl
 value_by f z d false e here there = there refl
 
-pub parameter_has_value : (f : Fraction) (z d : ℤ) → pos 1 ≤ℤ f.den → IsNonzero d → HasValueAt f z d (parameter_in z d f)
+pub parameter_has_value : (f : Fraction) (z d : ℤ) → pos 1 ≤ℤ f.den → IsNonzero d
+    → HasValueAt f z d (parameter_in z d f)
 parameter_has_value f z d up (inr more) =
     let e = positive_product d f.den more (omega (arith, ints)) in
     value_by f z d (int_lt (pos 0) (d *ℤ f.den)) refl (λ _. value_up f z d up more)
@@ -137,11 +138,13 @@ line_is_measured scene l sound h = record {
 
 -- ---- with the parameters as the code has them
 
-pub parameter_upright : (p d : Point) (r : RPoint) → int_eq d.x (pos 0) ≡ true → parameter_in p.y d.y r.y ≡ parameter_of p d r
+pub parameter_upright : (p d : Point) (r : RPoint) → int_eq d.x (pos 0) ≡ true
+    → parameter_in p.y d.y r.y ≡ parameter_of p d r
 unfolding parameter_of
 parameter_upright p d r e = rw e refl
 
-pub parameter_aside : (p d : Point) (r : RPoint) → int_eq d.x (pos 0) ≡ false → parameter_in p.x d.x r.x ≡ parameter_of p d r
+pub parameter_aside : (p d : Point) (r : RPoint) → int_eq d.x (pos 0) ≡ false
+    → parameter_in p.x d.x r.x ≡ parameter_of p d r
 unfolding parameter_of
 parameter_aside p d r e = rw e refl
 

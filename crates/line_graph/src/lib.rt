@@ -14,10 +14,12 @@
 //! ```
 //!
 //! The ends of lines are fractions of some eighteen digits. No orientation of three of them is computed, whose parts
-//! have a hundred digits: each line is known as a stretch of the line through its two corners, and stretches are compared
-//! by cross products of whole points. Most pairs that don't meet are told before by whole numbers round their ends.
+//! have a hundred digits: each line is known as a stretch of the line through its two corners, and stretches are
+//! compared by cross products of whole points. Most pairs that don't meet are told before by whole numbers round their
+//! ends.
 #![tactic(auto)]
 
+mod compare;
 mod extents;
 mod limits;
 mod meeting;

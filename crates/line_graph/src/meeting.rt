@@ -4,8 +4,7 @@
 //! other, with `k` the cross product of the directions. So the stretches meet where these lie between the parameters of
 //! their ends, which four comparisons of products of two 64-bit numbers tell.
 
-ghost use Rattle.std.specs.Prelude.{◌≡◌, pos, int_lt, ◌&&◌, ◌||◌};
-ghost use Rattle.std.specs.Ordering.{int_eq};
+ghost use Rattle.std.specs.Prelude.{◌≡◌, ◌&&◌, ◌||◌};
 ghost use Rattle.plane_spec.specs.Vectors.{IsDirection, IsWithin, cross_of, vector as vector_of};
 ghost use Rattle.plane_spec.specs.Fractions as fractions;
 ghost use Rattle.plane_spec.specs.RPoints.{is_between_fractions};
@@ -16,6 +15,7 @@ ghost use Rattle.meet_laws.specs.Stretches.{do_extents_meet, is_between_paramete
 ghost use Rattle.line_graph.specs.Bounds.{HasComparableEnds};
 ghost use Rattle.line_graph.specs.Measured.{IsMeasured};
 
+use crate::compare::{is_negative, is_positive, is_zero};
 use crate::stretch::Stretch;
 use axial_lines::AxialLine;
 use exact_geom::{Frac, RPoint, vector};
@@ -30,24 +30,6 @@ fn cross(d: Point, e: Point) -> i64
     ensures within { IsWithin MAX_CROSS result }
 {
     exact_geom::cross(d, e) as i64
-}
-
-fn is_positive(z: i64) -> bool
-    ensures { result ≡ int_lt (pos 0) z }
-{
-    0 < z
-}
-
-fn is_negative(z: i64) -> bool
-    ensures { result ≡ int_lt z (pos 0) }
-{
-    z < 0
-}
-
-fn is_zero(z: i64) -> bool
-    ensures { result ≡ int_eq z (pos 0) }
-{
-    z == 0
 }
 
 /// Whether `t / k` lies between the parameters of the ends, for `k` above 0.

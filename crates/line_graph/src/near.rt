@@ -3,6 +3,7 @@
 ghost use Rattle.std.specs.Prelude.{◌≡◌, ◌<◌, ◌≤◌, ◌+◌, ◌-◌, ℕ, Bool, filter, if◌then◌else◌};
 ghost use Rattle.std.specs.Prelude.{length, slice_index, take};
 ghost use Rattle.std.specs.List.{range_with_len};
+ghost use Rattle.plan_spec.specs.declared.limits.TheConstants.{MAX_AXIAL_LINES};
 ghost use Rattle.line_graph.specs.Extents as extents;
 ghost use Rattle.line_graph.specs.Rows.{AreColumns, near_below};
 
@@ -26,7 +27,7 @@ fn mark(
     i: usize,
     here: Extent,
 )
-    requires few { length flags.old ≤ 16384 }
+    requires few { length flags.old ≤ MAX_AXIAL_LINES }
     requires within { i < length flags.old }
     requires left { length left.now ≡ length flags.old }
     requires right { length right.now ≡ length flags.old }
@@ -54,7 +55,7 @@ fn mark(
 /// Writes the numbers after `i` that are marked to the front of `near`, in order, and answers how many they are. Each
 /// number is written, and stays where it counts.
 fn pick(flags: &[u8], i: usize, near: &mut [u32]) -> usize
-    requires few { length flags.now ≤ 16384 }
+    requires few { length flags.now ≤ MAX_AXIAL_LINES }
     requires within { i < length flags.now }
     requires sized { length near.old ≡ length flags.now }
     requires bits { (j : ℕ) → i < j → j < length flags.now → slice_index flags.now j ≤ 1 }
@@ -81,7 +82,7 @@ pub(crate) fn gather(
     flags: &mut [u8],
     near: &mut [u32],
 ) -> usize
-    requires few { length extents.now ≤ 16384 }
+    requires few { length extents.now ≤ MAX_AXIAL_LINES }
     requires columns { AreColumns columns.now.left.items columns.now.right.items columns.now.below.items
         columns.now.above.items extents.now }
     requires flags { length flags.old ≡ length extents.now }

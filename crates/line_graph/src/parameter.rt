@@ -1,6 +1,6 @@
 //! Where a point lies on a line, as a fraction of 64-bit parts.
 
-ghost use Rattle.std.specs.Prelude.{◌≡◌, ◌≢◌, pos, neg_ℤ, ◌≤ℤ◌, ◌-ℤ◌, ◌*ℤ◌, false, int_lt, int_le};
+ghost use Rattle.std.specs.Prelude.{◌≡◌, ◌≢◌, pos, ◌≤ℤ◌, ◌-ℤ◌, ◌*ℤ◌, false, int_le};
 ghost use Rattle.std.specs.Ordering.{int_eq};
 ghost use Rattle.plane_spec.specs.Vectors.{IsWithin};
 ghost use Rattle.plane_spec.specs.declared.TheConstants.{MAX_COMPONENT, MAX_COORDINATE};
@@ -10,6 +10,7 @@ ghost use Rattle.line_graph.specs.Bounds.{HasEndParts, IsParameter};
 ghost use Rattle.line_graph.specs.Stretches as stretches;
 ghost use Rattle.line_graph.specs.declared.limits.TheConstants.{MAX_END_NUMERATOR, MAX_PARAMETER_PART};
 
+use crate::compare::is_positive;
 use exact_geom::{Frac, wide_product};
 use std::marker::Model;
 
@@ -68,12 +69,6 @@ fn minus(a: i64, b: i64) -> i64
     ensures within { IsWithin MAX_PARAMETER_PART result }
 {
     a - b
-}
-
-fn is_positive(z: i64) -> bool
-    ensures { result ≡ int_lt (pos 0) z }
-{
-    0 < z
 }
 
 /// `num / den` over a positive denominator.

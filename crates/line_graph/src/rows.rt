@@ -52,7 +52,7 @@ fn join_row(
     near: &[u32],
 )
     requires measured { AreMeasured stretches.now lines.now }
-    requires few { length lines.now ≤ 16384 }
+    requires few { length lines.now ≤ MAX_AXIAL_LINES }
     requires nodes { graph.old.count ≡ length lines.now }
     requires i_in { i < length lines.now }
     requires near_in { (m : ℕ) → m < length near.now
@@ -81,7 +81,7 @@ fn join_rows(
     near: &mut [u32],
 )
     requires measured { AreMeasured stretches.now lines.now }
-    requires few { length lines.now ≤ 16384 }
+    requires few { length lines.now ≤ MAX_AXIAL_LINES }
     requires extents { extents.now ≡ map extent_of lines.now }
     requires columns { AreColumns columns.now.left.items columns.now.right.items columns.now.below.items
         columns.now.above.items extents.now }

@@ -1,7 +1,6 @@
 //! An axial line as a stretch of the line through its corners.
 
-ghost use Rattle.std.specs.Prelude.{◌≡◌, ◌<◌, ◌≤ℤ◌, ℤ, pos, length};
-ghost use Rattle.std.specs.Ordering.{int_eq};
+ghost use Rattle.std.specs.Prelude.{◌≡◌, ◌<◌, length};
 ghost use Rattle.plane_spec.specs.Vectors.{InRange, IsDirected, IsDirection, vector as vector_of};
 ghost use Rattle.sight_spec.specs.Axial.{IsLineOf};
 ghost use Rattle.sight_spec.specs.Dirty.{corner_point};
@@ -10,6 +9,7 @@ ghost use Rattle.line_graph.specs.Bounds.{AreEndParts};
 ghost use Rattle.line_graph.specs.Stretches as stretches;
 ghost use Rattle.line_graph.specs.Measured.{IsMeasured};
 
+use crate::compare::is_zero;
 use crate::parameter::{Parameter, parameter_in};
 use axial_lines::AxialLine;
 use exact_geom::{RPoint, vector};
@@ -37,12 +37,6 @@ impl Model for Stretch {
     ghost invariant = { λ a. IsSmallStretch (record { p = a.p; d = a.d; from = a.from; to = a.to }) };
 
     ghost inverse = { λ s. record { p = s.p; d = s.d; from = s.from; to = s.to } };
-}
-
-fn is_zero(z: i64) -> bool
-    ensures { result ≡ int_eq z (pos 0) }
-{
-    z == 0
 }
 
 /// The parameter of an end on the line through `p` in direction `d`.

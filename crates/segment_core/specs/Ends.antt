@@ -5,6 +5,7 @@ use Rattle.std.specs.List.{flat_map, enumerate_from}
 use Rattle.plane_spec.specs.Fractions.{RPoint}
 use Rattle.route_spec.specs.Routes.{Piece}
 use Rattle.segment_core.specs.declared.ends.End.{End}
+use Rattle.segment_core.specs.declared.limits.TheConstants.{MAX_STEPS}
 
 -- the end at a point, with the number of the step that leads from it
 abbrev pub end_of : RPoint → ℕ → End
@@ -37,7 +38,7 @@ node_of_end ends tails j = get_or tails (end_at ends j).step 0
 
 -- ends in order by their parts: their steps differ, and ends of one point have only ends of that point between them
 pub record AreSortedEnds (ends : List End) (count : ℕ) : Type 0 where
-  pub at_most : length ends ≤ 131072
+  pub at_most : length ends ≤ MAX_STEPS
   pub inside : (j : ℕ) → j < length ends → (end_at ends j).step < count
   pub apart : (i j : ℕ) → i < j → j < length ends → (end_at ends i).step ≢ (end_at ends j).step
   pub between : (i j : ℕ) → i ≤ j → j + 1 < length ends → is_one_point (end_at ends i) (end_at ends (j + 1)) ≡ true

@@ -6,6 +6,7 @@ use Rattle.plane_spec.specs.Vectors.{point}
 use Rattle.plane_spec.specs.Fractions.{whole_point, same_rpoint}
 use Rattle.route_laws.specs.Bounds.{IsPieceInRange}
 use Rattle.route_spec.specs.Routes.{Piece, DirectedPiece, TurnWalk, can_follow, turn_between, heading_direction, head_of, tail_of}
+use Rattle.segment_core.specs.declared.limits.TheConstants.{MAX_PIECES}
 
 -- stands for pieces that aren't there
 abbrev pub no_piece : Piece
@@ -58,9 +59,9 @@ lesser_below far forward back =
     let least = if nat_lt back forward then back else forward in
     if nat_lt least far then Some least else None
 
--- no more pieces than 256 routes have, each with small parts
+-- no more pieces than a plan has, each with small parts
 pub record AreInRange (pieces : List Piece) : Type 0 where
-  pub at_most : length pieces ≤ 65536
+  pub at_most : length pieces ≤ MAX_PIECES
   pub each : (k : ℕ) → k < length pieces → IsPieceInRange (piece_at pieces k)
 
 -- the direction of a step

@@ -202,15 +202,15 @@ fn times(a: i64, b: i64) -> i64
     requires a_in { IsWithin MAX_COMPONENT a }
     requires b_in { IsWithin MAX_STOP_PART b }
     ensures value { result ≡ a *ℤ b }
-    ensures within { IsWithin (pos 400000000000000000) result }
+    ensures within { IsWithin (MAX_COMPONENT *ℤ MAX_STOP_PART) result }
 {
     a * b
 }
 
 /// `a + b`, of two such products.
 fn sum(a: i64, b: i64) -> i64
-    requires a_in { IsWithin (pos 400000000000000000) a }
-    requires b_in { IsWithin (pos 400000000000000000) b }
+    requires a_in { IsWithin (MAX_COMPONENT *ℤ MAX_STOP_PART) a }
+    requires b_in { IsWithin (MAX_COMPONENT *ℤ MAX_STOP_PART) b }
     ensures value { result ≡ a +ℤ b }
     ensures within { IsWithin MAX_COORDINATE_PART result }
 {

@@ -23,6 +23,7 @@ mod cut_routes;
 mod cuts;
 mod depths;
 mod ends;
+mod limits;
 mod narrowing;
 mod nodes;
 mod piece;

@@ -1,6 +1,7 @@
 //! The nodes where pieces end, and the steps that lead from each.
 
 ghost use Rattle.std.specs.Prelude.{◌≡◌, ◌≤◌, ◌<◌, ◌*◌, ◌++◌, ◌∷◌, [], IfOk, OnOk, ℕ, get_or, length, replicate};
+ghost use Rattle.segment_core.specs.declared.limits.TheConstants.{MAX_STEPS};
 ghost use Rattle.segment_core.specs.Steps.{AreInRange, reversed_step, row_of};
 ghost use Rattle.segment_core.specs.Nodes.{AreNodesOf, leaving_of};
 
@@ -58,7 +59,7 @@ impl Star {
 
 /// The step on the same piece in the other heading.
 fn reversed_step(step: usize) -> usize
-    requires { step < 131072 }
+    requires { step < MAX_STEPS }
     ensures { result ≡ reversed_step step }
 {
     if step % 2 == 1 { step - 1 } else { step + 1 }
@@ -99,7 +100,7 @@ fn empty_stars(alloc: Global, count: u32) -> Result<Vec<Star>, NoMemory>
 }
 
 fn leaving(alloc: Global, tails: &[u32], count: u32) -> Result<Vec<Star>, NoMemory>
-    requires at_most { length tails.now ≤ 131072 }
+    requires at_most { length tails.now ≤ MAX_STEPS }
     requires below { (s : ℕ) → s < length tails.now → get_or tails.now s 0 < count }
     ensures one_each { IfOk result (λ leaving. length leaving.items ≡ count) }
     ensures members { IfOk result (λ leaving. (node : ℕ) → node < count → get_or leaving.items node [] ≡ leaving_of tails.now node) }

@@ -3,6 +3,7 @@
 ghost use Rattle.std.specs.Prelude.{◌≡◌, ◌≤◌, ◌<◌, ◌*◌, ◌+◌, IfOk, ℕ, filter, length, map};
 ghost use Rattle.std.specs.List.{enumerate_from};
 ghost use Rattle.route_spec.specs.Routes.{ArePiecesOfPlan, neighbour_counts, neighbours_of};
+ghost use Rattle.segment_core.specs.declared.limits.TheConstants.{MAX_STEPS};
 ghost use Rattle.segment_core.specs.Steps.{AreInRange, piece_at, row_of};
 ghost use Rattle.segment_core.specs.Nodes.{AreNodesOf, counts_apart, counts_at};
 
@@ -40,7 +41,7 @@ fn count_first(pieces: &[Piece], nodes: &Nodes, k: usize, from: u32) -> u32
     requires nodes { AreNodesOf pieces.now nodes.now.tails.items nodes.now.leaving.items }
     requires piece { k < length pieces.now }
     ensures value { result ≡ length (filter (counts_at nodes.now.tails.items k from) (row_of pieces.now (2 * k))) }
-    ensures at_most { result ≤ 131072 }
+    ensures at_most { result ≤ MAX_STEPS }
 {
     let mut count = 0;
     for step in nodes.after(pieces, 2 * k) {
@@ -57,7 +58,7 @@ fn count_second(pieces: &[Piece], nodes: &Nodes, k: usize, from: u32, to: u32) -
     requires nodes { AreNodesOf pieces.now nodes.now.tails.items nodes.now.leaving.items }
     requires piece { k < length pieces.now }
     ensures value { result ≡ length (filter (counts_apart nodes.now.tails.items k to from) (row_of pieces.now (2 * k + 1))) }
-    ensures at_most { result ≤ 131072 }
+    ensures at_most { result ≤ MAX_STEPS }
 {
     let mut count = 0;
     for step in nodes.after(pieces, 2 * k + 1) {

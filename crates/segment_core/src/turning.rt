@@ -4,6 +4,7 @@ ghost use Rattle.std.specs.Prelude.{◌≡◌, ◌+◌, ◌≤◌, ◌^◌, ℕ,
 ghost use Rattle.std.specs.Ordering.{int_eq};
 ghost use Rattle.plane_spec.specs.Vectors.{IsDirection, IsWithin, cross_of, point};
 ghost use Rattle.exact_geom.specs.declared.limits.TheConstants.{MAX_CROSS};
+ghost use Rattle.segment_core.specs.declared.limits.TheConstants.{MAX_TABLE_COMPONENT};
 ghost use Rattle.route_spec.specs.Routes.{turn_of, relative_direction, is_straight_back};
 
 use crate::narrowing::narrow;
@@ -33,10 +34,10 @@ fn relative_direction(d: Point, e: Point) -> Point
 }
 
 fn product(a: i64, b: i64) -> i64
-    requires a_in { IsWithin (pos 1000) a }
+    requires a_in { IsWithin MAX_TABLE_COMPONENT a }
     requires b_in { IsWithin MAX_CROSS b }
     ensures value { result ≡ a *ℤ b }
-    ensures within { IsWithin (pos 320000000000000) result }
+    ensures within { IsWithin (MAX_TABLE_COMPONENT *ℤ MAX_CROSS) result }
 {
     a * b
 }
@@ -49,8 +50,8 @@ fn is_not_less(a: i64, b: i64) -> bool
 
 /// 1 where the direction `(x, y)` of the table is passed on the way to `r`, and 0 elsewhere.
 fn passed(x: i64, y: i64, r: Point) -> u8
-    requires x_in { IsWithin (pos 1000) x }
-    requires y_in { IsWithin (pos 1000) y }
+    requires x_in { IsWithin MAX_TABLE_COMPONENT x }
+    requires y_in { IsWithin MAX_TABLE_COMPONENT y }
     requires rx_in { IsWithin MAX_CROSS r.x }
     requires ry_in { IsWithin MAX_CROSS r.y }
     ensures value { result ≡ cond (int_le (pos 0) (cross_of (point x y) r)) 1 0 }

@@ -1,7 +1,9 @@
 //! The boxes of a trial plan.
 
-ghost use Rattle.std.specs.Prelude.{◌≡◌, ◌<◌, ◌≤◌, ◌++◌, IfOk, codes, pos};
+ghost use Rattle.std.specs.Prelude.{◌≡◌, ◌<◌, ◌≤◌, ◌≤ℤ◌, ◌++◌, IfOk, codes, pos};
 ghost use Rattle.std.specs.Fmt.{decimal};
+ghost use Rattle.options_spec.specs.declared.options.TheConstants.{MAX_TRIAL_BOXES};
+ghost use Rattle.plane_spec.specs.declared.TheConstants.{MAX_COORDINATE};
 ghost use Rattle.report_spec.specs.Trial.{square_at, trial_box};
 
 use arrayvec::ArrayVec;
@@ -23,9 +25,9 @@ fn corner(x: u32, y: u32) -> Point
 
 /// The square with sides of `side` from its lower left corner, counterclockwise.
 pub fn square_at(alloc: Global, x: u32, y: u32, side: u32) -> Result<Points, NoMemory>
-    requires x_in { x ≤ 100000 }
-    requires y_in { y ≤ 100000 }
-    requires side_in { side ≤ 100000 }
+    requires x_in { pos x ≤ℤ MAX_COORDINATE }
+    requires y_in { pos y ≤ℤ MAX_COORDINATE }
+    requires side_in { pos side ≤ℤ MAX_COORDINATE }
     ensures { IfOk result (λ points. points ≡ square_at x y side) }
 {
     let mut points = Points::new(alloc);
@@ -38,7 +40,7 @@ pub fn square_at(alloc: Global, x: u32, y: u32, side: u32) -> Result<Points, NoM
 
 /// The name of box `i`: `b` and its number.
 fn name_of_box(i: u32) -> Name
-    requires { i < 250 }
+    requires { i < MAX_TRIAL_BOXES }
     ensures { result ≡ codes "b" ++ decimal i }
 {
     let mut digits = Buffer::new();
@@ -54,7 +56,7 @@ fn name_of_box(i: u32) -> Name
 pub fn trial_box(alloc: Global, c: u32, i: u32) -> Result<Item, NoMemory>
     requires some { 0 < c }
     requires few { c ≤ 16 }
-    requires i_in { i < 250 }
+    requires i_in { i < MAX_TRIAL_BOXES }
     ensures { IfOk result (λ item. item ≡ trial_box c i) }
 {
     let x = 100 * (i % c) + 10 + (17 * i) % 41;

@@ -31,7 +31,8 @@ returns-then-is_zero c =
     let f = simp to_z-of_z at c.is_negative.ensures in
     let g = simp to_z-of_z at c.is_zero.ensures in
     c.do_overlap.ensures
-    ∙ meets_in_line c.args.a.now c.args.b.now c.args.l.now c.args.m.now c.args.u c.args.k c.requires.a_of c.requires.b_of
+    ∙ meets_in_line c.args.a.now c.args.b.now c.args.l.now c.args.m.now c.args.u c.args.k c.requires.a_of
+    c.requires.b_of
     c.requires.u_is c.requires.k_is (sym e ∙ c.if-is_positive.false) (sym f ∙ c.if-is_negative.false)
     (sym g ∙ c.if-is_zero.true)
 

@@ -29,16 +29,19 @@ loop-i-preserved c =
     let i = c.loop-i.i in
     let before = c.loop-i.invariant in
     let after = c.join_row.ensures in
-    let near = near_is lines c.args.extents.now i (take c.gather-count.result c.gather-count.new.near) c.requires.extents
+    let near = near_is lines c.args.extents.now i (take c.gather-count.result c.gather-count.new.near)
+    c.requires.extents
     c.gather-count.ensures.near in
     record {
       nodes = after.nodes;
       simple = after.simple;
       joined = λ a b up.
           after.joined a b up
-          ∙ ap (λ t. t || (a == i && (has_number (take c.gather-count.result c.gather-count.new.near) b && do_meet_at lines i b)))
+          ∙ ap (λ t. t || (a == i && (has_number (take c.gather-count.result c.gather-count.new.near) b
+          && do_meet_at lines i b)))
           (before.joined a b up)
-          ∙ ap (λ xs. ((crossing_graph lines).joins a b && nat_lt a i) || (a == i && (has_number xs b && do_meet_at lines i b))) near
+          ∙ ap (λ xs. ((crossing_graph lines).joins a b && nat_lt a i)
+          || (a == i && (has_number xs b && do_meet_at lines i b))) near
           ∙ row_done c.args.stretches.now lines c.requires.measured i a b up c.loop-i-test.true;
     }
 
@@ -46,7 +49,8 @@ pub join_row-requires-clause-near_in : goal.join_row-requires-clause-near_in
 join_row-requires-clause-near_in c =
     let lines = c.args.lines.now in
     let i = c.loop-i.i in
-    let near = near_is lines c.args.extents.now i (take c.gather-count.result c.gather-count.new.near) c.requires.extents
+    let near = near_is lines c.args.extents.now i (take c.gather-count.result c.gather-count.new.near)
+    c.requires.extents
     c.gather-count.ensures.near in
     subst (λ xs. (m : ℕ) → m < length xs → (i < get_or xs m 0) × (get_or xs m 0 < length lines)) (sym near)
     (λ m below. near_past (map extent_of lines) i (length lines) m c.loop-i-test.true below)
