@@ -37,7 +37,8 @@ same_text : (fields : List (List ℕ)) → row_text flexible fields ≡ row_text
 unfolding is_blank
 same_text [] = refl
 same_text (field ∷ rest) =
-    ap (λ t. (t ++ fields_text flexible rest) ++ ((if is_blank flexible (field ∷ rest) then 34 ∷ 34 ∷ [] else []) ++ 10 ∷ []))
+    ap (λ t. (t ++ fields_text flexible rest)
+    ++ ((if is_blank flexible (field ∷ rest) then 34 ∷ 34 ∷ [] else []) ++ 10 ∷ []))
     (same_field field)
     ∙ ap (λ t. (field_text default_writer field ++ t)
     ++ ((if is_blank flexible (field ∷ rest) then 34 ∷ 34 ∷ [] else []) ++ 10 ∷ [])) (same_fields rest)

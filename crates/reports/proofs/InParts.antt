@@ -17,7 +17,8 @@ head_put before now form kind rows put =
     (begun before [] form kind rows None refl) put
 
 pub head_begun : (before now : Option (List ℕ)) (form : Form) (kind : List ℕ) (rows : List (List (List ℕ)))
-    → WritesPrefix before now (record_bytes form (head kind)) → WritesPrefix before now (records_bytes form (table kind rows))
+    → WritesPrefix before now (record_bytes form (head kind))
+    → WritesPrefix before now (records_bytes form (table kind rows))
 head_begun before now form kind rows put =
     keeps-prefix before before now _ [] (record_bytes form (head kind)) (after_head form rows None)
     (begun before [] form kind rows None refl) put
@@ -35,14 +36,16 @@ rows_begun before mid now whole form rows so_far put =
     keeps-prefix before mid now whole [] (records_bytes form rows) (after_rows form (length rows) None) so_far put
 
 pub end_put : (before mid now : Option (List ℕ)) (whole : List ℕ) (form : Form) (count : ℕ)
-    → WritesAndBuffers before mid whole (after_rows form count None) → now ≡ appended_to mid (record_bytes form (end count))
+    → WritesAndBuffers before mid whole (after_rows form count None)
+    → now ≡ appended_to mid (record_bytes form (end count))
     → now ≡ appended_to before whole
 end_put before mid now whole form count so_far put =
     keeps-all before now now whole []
     (keeps-put before mid now whole (record_bytes form (end count)) [] so_far put) (appended_to-nothing now)
 
 pub end_begun : (before mid now : Option (List ℕ)) (whole : List ℕ) (form : Form) (count : ℕ)
-    → WritesAndBuffers before mid whole (after_rows form count None) → WritesPrefix mid now (record_bytes form (end count))
+    → WritesAndBuffers before mid whole (after_rows form count None)
+    → WritesPrefix mid now (record_bytes form (end count))
     → WritesPrefix before now whole
 end_begun before mid now whole form count so_far put =
     keeps-prefix before mid now whole [] (record_bytes form (end count)) [] so_far put

@@ -1,9 +1,20 @@
--- Numbers of any size, and fractions of them, need no quotes.
+-- Numbers of any size, fractions of them, and the keywords of plans need no quotes.
 use Rattle.std.proofs.Common.{◌≡◌, ◌≤◌, ◌+◌, ◌/◌, ◌%◌, ℕ, zero, suc, ◌==◌, nat_lt, true, false, ◌&&◌, List, [], ◌∷◌, ◌++◌, ℤ, pos, negsuc, decimal, refl, ap, ◌∙◌, arith}
 use Rattle.std.specs.Prelude.{codes}
 use Rattle.std.specs.Fmt.{digit_glyph, digits, digits_onto, signed_decimal}
 use Rattle.std.proofs.lemmas.Bool.{cond_both}
 use Rattle.plane_spec.specs.Fractions.{Fraction}
+use Rattle.grammar_spec.specs.declared.plan_line.PlanWord.{PlanWord}
+use Rattle.grammar_spec.specs.declared.plan_line.PlanWord.TheVariants.{
+  Grid,
+  Outer,
+  Outerbox,
+  Obstacle,
+  Box,
+  Screen,
+  Route,
+}
+use Rattle.grammar_spec.specs.PlanText.{keyword}
 use Rattle.report_spec.specs.Records.{fraction_field}
 use Rattle.csv_laws.specs.Plain.{is_plain_byte, is_plain}
 use Rattle.std.proofs.lemmas.List.Folds.{list_all-append}
@@ -38,3 +49,12 @@ fraction_plain f =
     ∙ ap (λ t. t && is_plain (signed_decimal f.den))
     (list_all-append is_plain_byte (signed_decimal f.num) (codes "/"))
     ∙ rw (signed_plain f.num, signed_plain f.den) refl
+
+pub keyword_plain : (word : PlanWord) → is_plain (keyword word) ≡ true
+keyword_plain Grid = refl
+keyword_plain Outer = refl
+keyword_plain Outerbox = refl
+keyword_plain Obstacle = refl
+keyword_plain Box = refl
+keyword_plain Screen = refl
+keyword_plain Route = refl

@@ -46,7 +46,8 @@ in_parts : (form : Form) (kind : List ℕ) (rows : List (List (List ℕ))) (tota
 in_parts form kind rows total =
     ap (λ t. record_bytes form (head kind) ++ t)
     (flat_map-append (record_bytes form) rows (totals total ++ end (length rows) ∷ [])
-    ∙ ap (λ t. records_bytes form rows ++ t) (flat_map-append (record_bytes form) (totals total) (end (length rows) ∷ [])))
+    ∙ ap (λ t. records_bytes form rows ++ t)
+    (flat_map-append (record_bytes form) (totals total) (end (length rows) ∷ [])))
 
 -- nothing is put, and nothing waits
 pub begun : (before : Option (List ℕ)) (waiting : List ℕ) (form : Form) (kind : List ℕ) (rows : List (List (List ℕ)))
@@ -55,7 +56,8 @@ pub begun : (before : Option (List ℕ)) (waiting : List ℕ) (form : Form) (kin
     (waiting ++ (record_bytes form (head kind) ++ after_head form rows total))
 begun before waiting form kind rows total none = (
   [],
-  ap (λ w. w ++ (record_bytes form (head kind) ++ after_head form rows total)) none ∙ sym (in_parts form kind rows total),
+  ap (λ w. w ++ (record_bytes form (head kind) ++ after_head form rows total)) none
+  ∙ sym (in_parts form kind rows total),
   appended_to-nothing before,
 )
 

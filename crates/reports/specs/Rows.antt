@@ -46,4 +46,5 @@ lines_left true at items = map item_words (drop at items)
 
 -- the open grid points of a number and above, each beside its number
 abbrev pub open_points_from : Plan → ℕ → List (ℕ × Point)
-open_points_from plan number = filter (λ e. is_open plan e.1) (enumerate_from number (drop number (grid_points plan.grid)))
+open_points_from plan number =
+    filter (λ e. is_open plan e.1) (enumerate_from number (drop number (grid_points plan.grid)))

@@ -63,7 +63,8 @@ impl<'a> Rows for OpenIsovists<'a> {
     ghost use Rattle.report_spec.specs.Tables.{isovist_row};
     ghost use Rattle.reports.specs.Rows.{open_points_from};
 
-    ghost left = { λ s. map isovist_row (map (λ e. (e.0, isovist_in (scene_of s.plan.now) e.1)) (open_points_from s.plan.now s.number)) };
+    ghost left = { λ s. map isovist_row
+        (map (λ e. (e.0, isovist_in (scene_of s.plan.now) e.1)) (open_points_from s.plan.now s.number)) };
 
     fn next_row(&mut self, row: &mut Record) -> Result<bool, NoMemory> {
         let Some((number, point)) = next_open(self.plan, self.number) else {
@@ -79,8 +80,8 @@ impl<'a> Rows for OpenIsovists<'a> {
 /// Prints the table of the isovists of a plan's open grid points, in the order of their numbers: number, number of
 /// triangles, and the sums of the floors and of the ceilings of their doubled areas. The scene is the plan's.
 ///
-/// Cost: one table of the scene, an isovist's totals for each open point, and a call of the sink for each 64 KiB; memory
-/// for one isovist's directions, one row, and in csv form for some thousand records.
+/// Cost: one table of the scene, an isovist's totals for each open point, and a call of the sink for each 64 KiB;
+/// memory for one isovist's directions, one row, and in csv form for some thousand records.
 #[tactic(auto, unfolding(report_spec::specs::Tables::isovists_table))]
 pub fn put_isovists<O: Sink>(
     alloc: Global,

@@ -1,14 +1,12 @@
 //! The table of a plan: the lines of its text.
 
-ghost use Rattle.std.specs.Prelude.{◌≡◌, ◌∷◌, ◌++◌, [], true, map, OnErr, OnOk};
+ghost use Rattle.std.specs.Prelude.{◌≡◌, ◌∷◌, ◌++◌, [], map, OnErr, OnOk};
 ghost use Rattle.std.specs.Fmt.{signed_decimal};
-ghost use Rattle.std.specs.List.{list_any};
 ghost use Rattle.dm_io.specs.Streams.{WritesPrefix, appended_to};
 ghost use Rattle.grammar_spec.specs.Arguments.{field_words, numbers_of_points};
-ghost use Rattle.grammar_spec.specs.PlanText.{fields_of_item, header_words, is_screen, item_words, keyword, shape_of, word_of_item};
+ghost use Rattle.grammar_spec.specs.PlanText.{fields_of_item, header_words, item_words, shape_of, word_of_item};
 ghost use Rattle.report_spec.specs.Records.{records_bytes};
 ghost use Rattle.report_spec.specs.Tables.{plan_table};
-ghost use Rattle.csv_laws.specs.Plain.{is_plain};
 ghost use Rattle.reports.specs.Faults.{Counts};
 
 use crate::fault::ReportFault;
@@ -18,21 +16,10 @@ use crate::table::{Rows, put_table};
 use dm_io::Sink;
 use options_spec::Form;
 use plan_spec::Item;
+use plan_text::{have_screens, keyword};
 use plane_spec::Point;
 use std::alloc::Global;
 use text_spec::{Name, NoMemory};
-
-fn is_screen(item: &Item) -> bool
-    ensures { result ≡ is_screen item.now }
-{
-    matches!(item, Item::Screen(..))
-}
-
-fn have_screens(items: &[Item]) -> bool
-    ensures { result ≡ list_any is_screen items.now }
-{
-    items.iter().any(is_screen)
-}
 
 /// The version that a plan with these items is of.
 fn make_header(row: &mut Record, items: &[Item]) -> Result<(), NoMemory>
@@ -76,20 +63,6 @@ fn add_segment(row: &mut Record, name: &Name, from: Point, to: Point) -> Result<
 {
     row.name(name)?;
     add_numbers(row, &[from.x, from.y, to.x, to.y])
-}
-
-/// The keyword of an item.
-fn keyword(item: &Item) -> &'static [u8]
-    ensures word { result.now ≡ keyword (word_of_item item.now) }
-    ensures plain { is_plain result.now ≡ true }
-{
-    match item {
-        Item::Grid(_) => b"grid",
-        Item::Outer(_) => b"outer",
-        Item::Obstacle(..) => b"obstacle",
-        Item::Screen(..) => b"screen",
-        Item::Route(..) => b"route",
-    }
 }
 
 /// Adds the words of an item after its keyword.

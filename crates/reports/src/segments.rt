@@ -80,7 +80,8 @@ impl<'a> Rows for SegmentRows<'a> {
     ghost use Rattle.std.specs.List.{enumerate_from};
     ghost use Rattle.report_spec.specs.Tables.{segment_row};
 
-    ghost left = { λ s. map (segment_row s.plan.now.routes s.neighbours.now) (enumerate_from s.at (drop s.at s.pieces.now)) };
+    ghost left = { λ s. map (segment_row s.plan.now.routes s.neighbours.now)
+        (enumerate_from s.at (drop s.at s.pieces.now)) };
 
     #[tactic(auto, using(crate::proofs::Elements::numbered_none))]
     fn next_row(&mut self, row: &mut Record) -> Result<bool, NoMemory> {

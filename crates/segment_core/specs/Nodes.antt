@@ -22,8 +22,8 @@ pub record AreNodesOf (pieces : List Piece) (nodes : List ℕ) (leaving : List (
   pub below : (s : ℕ) → s < 2 * length pieces → get_or nodes s 0 < length leaving
   pub members : (node : ℕ) → node < length leaving → get_or leaving node [] ≡ leaving_of nodes node
 
--- a step from the node `at` stands for a piece but k: one that has both ends there does so by its step against the route
--- alone
+-- a step from the node `at` stands for a piece but k: one that has both ends there does so by its step against the
+-- route alone
 abbrev pub counts_at : List ℕ → ℕ → ℕ → ℕ → Bool
 counts_at tails k at s = not (s / 2 == k) && not ((s % 2 == 1) && (at == get_or tails (reversed_step s) 0))
 

@@ -158,8 +158,8 @@ fn lesser_below(forward: u32, back: u32, far: u32) -> Option<u32>
 ///        3
 /// ```
 ///
-/// Cost: one sort of the ends of all pieces; then each piece is settled once in each heading, in the order of costs, with
-/// a turn for each piece that can follow.
+/// Cost: one sort of the ends of all pieces; then each piece is settled once in each heading, in the order of costs,
+/// with a turn for each piece that can follow.
 ///
 /// Source: angular depth of segments after Turner (2007); sixteenths of a half turn are ours.
 pub fn turn_depths(

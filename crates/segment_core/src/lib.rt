@@ -15,8 +15,8 @@
 //! | [`turn`] | the turn from one direction to another, 0 straight on to 16 straight back |
 //! | [`turn_depths`] | the least sum of turns of a walk from one piece to each |
 //!
-//! A piece is walked with its route or against it: in this crate a *step* is a piece in a heading, by number. Steps begin
-//! at *nodes*, the points where pieces end. All that is compared or counted is exact.
+//! A piece is walked with its route or against it: in this crate a *step* is a piece in a heading, by number. Steps
+//! begin at *nodes*, the points where pieces end. All that is compared or counted is exact.
 #![tactic(auto)]
 
 mod cut_routes;

@@ -12,8 +12,8 @@ use std::alloc::Global;
 use std::marker::Model;
 use text_spec::NoMemory;
 
-/// Where the steps of pieces begin: for each step the number of the node from which it leads, and for each node the steps
-/// that lead from it. The steps of piece `k` are `2 k`, against its route, and `2 k + 1`, with it.
+/// Where the steps of pieces begin: for each step the number of the node from which it leads, and for each node the
+/// steps that lead from it. The steps of piece `k` are `2 k`, against its route, and `2 k + 1`, with it.
 #[derive(Drop)]
 pub(crate) struct Nodes {
     pub tails: Vec<u32>,

@@ -9,7 +9,8 @@ use Rattle.reports.proofs.edges.put_edges_as_csv.Goals as goal
 pub returns-clause-all : goal.returns-clause-all
 returns-clause-all g c =
     on_ok_weaker c.put_table.result
-    (λ all. all ∙ ap (λ edges. appended_to (g.O.Sink.written c.args.out.now) (records_bytes Csv (edges_table edges))) c.edges.ensures)
+    (λ all. all ∙ ap (λ edges. appended_to (g.O.Sink.written c.args.out.now) (records_bytes Csv (edges_table edges)))
+    c.edges.ensures)
     c.put_table.ensures.all
 
 pub returns-clause-prefix : goal.returns-clause-prefix

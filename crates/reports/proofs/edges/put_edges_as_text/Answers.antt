@@ -21,14 +21,16 @@ returns-in_err-put_record-clause-prefix g c =
 pub returns-in_err-count-clause-prefix : goal.returns-in_err-count-clause-prefix
 returns-in_err-count-clause-prefix g c =
     let rows = map edge_row (edges_of (graph_of c.args.graph.now)) in
-    let begun = head_put _ _ Text (codes "edges") rows (rw c.in_ok-make_head.ensures at c.in_ok-put_record.ensures.all) in
+    let begun =
+    head_put _ _ Text (codes "edges") rows (rw c.in_ok-make_head.ensures at c.in_ok-put_record.ensures.all) in
     on_err-always c.from_residual-in_err-count.result
     (rows_begun _ _ _ _ Text rows begun c.in_err-count.ensures.prefix)
 
 pub returns-in_err-make_end-clause-prefix : goal.returns-in_err-make_end-clause-prefix
 returns-in_err-make_end-clause-prefix g c =
     let rows = map edge_row (edges_of (graph_of c.args.graph.now)) in
-    let begun = head_put _ _ Text (codes "edges") rows (rw c.in_ok-make_head.ensures at c.in_ok-put_record.ensures.all) in
+    let begun =
+    head_put _ _ Text (codes "edges") rows (rw c.in_ok-make_head.ensures at c.in_ok-put_record.ensures.all) in
     on_err-always c.from_residual-in_err-make_end.result
     (part _ _ _ _ (rows_put _ _ _ _ Text rows begun c.in_ok-count.ensures.all))
 
@@ -36,7 +38,8 @@ pub returns-clause-all : goal.returns-clause-all
 returns-clause-all g c =
     let edges = edges_of (graph_of c.args.graph.now) in
     let rows = map edge_row edges in
-    let begun = head_put _ _ Text (codes "edges") rows (rw c.in_ok-make_head.ensures at c.in_ok-put_record.ensures.all) in
+    let begun =
+    head_put _ _ Text (codes "edges") rows (rw c.in_ok-make_head.ensures at c.in_ok-put_record.ensures.all) in
     let with_rows = rows_put _ _ _ _ Text rows begun c.in_ok-count.ensures.all in
     let count : c.in_ok-count.count ≡ length rows = c.in_ok-count.ensures.count ∙ sym (length-map edges edge_row) in
     on_ok_weaker c.put_record-2.result
@@ -47,7 +50,8 @@ pub returns-clause-prefix : goal.returns-clause-prefix
 returns-clause-prefix g c =
     let edges = edges_of (graph_of c.args.graph.now) in
     let rows = map edge_row edges in
-    let begun = head_put _ _ Text (codes "edges") rows (rw c.in_ok-make_head.ensures at c.in_ok-put_record.ensures.all) in
+    let begun =
+    head_put _ _ Text (codes "edges") rows (rw c.in_ok-make_head.ensures at c.in_ok-put_record.ensures.all) in
     let with_rows = rows_put _ _ _ _ Text rows begun c.in_ok-count.ensures.all in
     let count : c.in_ok-count.count ≡ length rows = c.in_ok-count.ensures.count ∙ sym (length-map edges edge_row) in
     on_err_weaker c.put_record-2.result

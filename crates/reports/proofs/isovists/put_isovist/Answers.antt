@@ -13,7 +13,8 @@ returns-clause-all g c =
     let last : drop 1 c.make_sums.new.row ≡ sums = ap (drop 1) c.in_ok-make_sums.ensures in
     on_ok_weaker c.put_table_with_total.result
     (λ all. all ∙ ap (λ fields. appended_to (g.O.Sink.written c.args.out.now)
-    (records_bytes c.args.form (table_with_total (codes "isovist") (map triangle_row c.triangles-triangles.result.now) fields))) last
+    (records_bytes c.args.form (table_with_total (codes "isovist") (map triangle_row c.triangles-triangles.result.now)
+    fields))) last
     ∙ ap (λ triangles. appended_to (g.O.Sink.written c.args.out.now)
     (records_bytes c.args.form (table_with_total (codes "isovist") (map triangle_row triangles) sums)))
     c.triangles-triangles.ensures)
@@ -26,9 +27,11 @@ returns-clause-prefix g c =
     let sums : List (List ℕ) = signed_decimal c.args.seen.now.floor ∷ signed_decimal c.args.seen.now.ceil ∷ [] in
     let last : drop 1 c.make_sums.new.row ≡ sums = ap (drop 1) c.in_ok-make_sums.ensures in
     on_err_weaker c.put_table_with_total.result
-    (λ prefix. subst (λ triangles. WritesPrefix (sink.written c.args.out.now) (sink.written c.put_table_with_total.new.out)
+    (λ prefix. subst (λ triangles. WritesPrefix (sink.written c.args.out.now)
+    (sink.written c.put_table_with_total.new.out)
     (records_bytes c.args.form (table_with_total (codes "isovist") (map triangle_row triangles) sums)))
     c.triangles-triangles.ensures
     (subst (λ fields. WritesPrefix (sink.written c.args.out.now) (sink.written c.put_table_with_total.new.out)
-    (records_bytes c.args.form (table_with_total (codes "isovist") (map triangle_row c.triangles-triangles.result.now) fields))) last prefix))
+    (records_bytes c.args.form (table_with_total (codes "isovist") (map triangle_row c.triangles-triangles.result.now)
+    fields))) last prefix))
     c.put_table_with_total.ensures.prefix

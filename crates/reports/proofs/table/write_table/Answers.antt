@@ -27,11 +27,13 @@ returns-in_err-count-clause-prefix g c =
     let rows = g.R.Rows.left c.args.rows.now in
     let total = option_map (λ t. t.now) c.args.total in
     let whole = records_bytes form (table_by kind rows total) in
-    let begun_with = headed old (g.O.Sink.written c.add.new.out) c.args.writer.now.bytes c.add.new.self.bytes form kind rows total
+    let begun_with = headed old (g.O.Sink.written c.add.new.out) c.args.writer.now.bytes c.add.new.self.bytes form kind
+    rows total
     c.make_head.new.row c.requires.empty c.in_ok-make_head.ensures c.in_ok-add.ensures.all in
     let same = c.in_ok-add.ensures.form in
     on_err-always c.from_residual-in_err-count.result
-    (keeps-prefix _ _ _ _ c.add.new.self.bytes (records_bytes form rows) (after_rows form (length rows) total) begun_with
+    (keeps-prefix _ _ _ _ c.add.new.self.bytes (records_bytes form rows) (after_rows form (length rows) total)
+    begun_with
     (rw same at c.in_err-count.ensures.prefix))
 
 pub returns-in_err-add_total-clause-prefix : goal.returns-in_err-add_total-clause-prefix
@@ -42,14 +44,17 @@ returns-in_err-add_total-clause-prefix g c =
     let rows = g.R.Rows.left c.args.rows.now in
     let total = option_map (λ t. t.now) c.args.total in
     let whole = records_bytes form (table_by kind rows total) in
-    let begun_with = headed old (g.O.Sink.written c.add.new.out) c.args.writer.now.bytes c.add.new.self.bytes form kind rows total
+    let begun_with = headed old (g.O.Sink.written c.add.new.out) c.args.writer.now.bytes c.add.new.self.bytes form kind
+    rows total
     c.make_head.new.row c.requires.empty c.in_ok-make_head.ensures c.in_ok-add.ensures.all in
     let same = c.in_ok-add.ensures.form in
-    let with_rows = rowed old (g.O.Sink.written c.add.new.out) (g.O.Sink.written c.add_rows.new.out) whole c.add.new.self.bytes
+    let with_rows = rowed old (g.O.Sink.written c.add.new.out) (g.O.Sink.written c.add_rows.new.out) whole
+    c.add.new.self.bytes
     c.add_rows.new.writer.bytes form c.add.new.self.form rows total same begun_with c.in_ok-count.ensures.all in
     let same_rows = c.in_ok-count.ensures.form ∙ same in
     on_err-always c.from_residual-in_err-add_total.result
-    (keeps-prefix _ _ _ _ c.add_rows.new.writer.bytes (records_bytes form (totals total)) (after_total form (length rows)) with_rows
+    (keeps-prefix _ _ _ _ c.add_rows.new.writer.bytes (records_bytes form (totals total))
+    (after_total form (length rows)) with_rows
     (rw same_rows at c.in_err-add_total.ensures.prefix))
 
 pub returns-in_err-make_end-clause-prefix : goal.returns-in_err-make_end-clause-prefix
@@ -60,14 +65,17 @@ returns-in_err-make_end-clause-prefix g c =
     let rows = g.R.Rows.left c.args.rows.now in
     let total = option_map (λ t. t.now) c.args.total in
     let whole = records_bytes form (table_by kind rows total) in
-    let begun_with = headed old (g.O.Sink.written c.add.new.out) c.args.writer.now.bytes c.add.new.self.bytes form kind rows total
+    let begun_with = headed old (g.O.Sink.written c.add.new.out) c.args.writer.now.bytes c.add.new.self.bytes form kind
+    rows total
     c.make_head.new.row c.requires.empty c.in_ok-make_head.ensures c.in_ok-add.ensures.all in
     let same = c.in_ok-add.ensures.form in
-    let with_rows = rowed old (g.O.Sink.written c.add.new.out) (g.O.Sink.written c.add_rows.new.out) whole c.add.new.self.bytes
+    let with_rows = rowed old (g.O.Sink.written c.add.new.out) (g.O.Sink.written c.add_rows.new.out) whole
+    c.add.new.self.bytes
     c.add_rows.new.writer.bytes form c.add.new.self.form rows total same begun_with c.in_ok-count.ensures.all in
     let same_rows = c.in_ok-count.ensures.form ∙ same in
     let with_total = totalled old (g.O.Sink.written c.add_rows.new.out) (g.O.Sink.written c.add_total.new.out) whole
-    c.add_rows.new.writer.bytes c.add_total.new.writer.bytes form c.add_rows.new.writer.form (length rows) total same_rows
+    c.add_rows.new.writer.bytes c.add_total.new.writer.bytes form c.add_rows.new.writer.form (length rows) total
+    same_rows
     with_rows c.in_ok-add_total.ensures.all in
     let same_total = c.in_ok-add_total.ensures.form ∙ same_rows in
     on_err-always c.from_residual-in_err-make_end.result (part _ _ _ _ with_total)
@@ -80,14 +88,17 @@ returns-in_err-add-2-clause-prefix g c =
     let rows = g.R.Rows.left c.args.rows.now in
     let total = option_map (λ t. t.now) c.args.total in
     let whole = records_bytes form (table_by kind rows total) in
-    let begun_with = headed old (g.O.Sink.written c.add.new.out) c.args.writer.now.bytes c.add.new.self.bytes form kind rows total
+    let begun_with = headed old (g.O.Sink.written c.add.new.out) c.args.writer.now.bytes c.add.new.self.bytes form kind
+    rows total
     c.make_head.new.row c.requires.empty c.in_ok-make_head.ensures c.in_ok-add.ensures.all in
     let same = c.in_ok-add.ensures.form in
-    let with_rows = rowed old (g.O.Sink.written c.add.new.out) (g.O.Sink.written c.add_rows.new.out) whole c.add.new.self.bytes
+    let with_rows = rowed old (g.O.Sink.written c.add.new.out) (g.O.Sink.written c.add_rows.new.out) whole
+    c.add.new.self.bytes
     c.add_rows.new.writer.bytes form c.add.new.self.form rows total same begun_with c.in_ok-count.ensures.all in
     let same_rows = c.in_ok-count.ensures.form ∙ same in
     let with_total = totalled old (g.O.Sink.written c.add_rows.new.out) (g.O.Sink.written c.add_total.new.out) whole
-    c.add_rows.new.writer.bytes c.add_total.new.writer.bytes form c.add_rows.new.writer.form (length rows) total same_rows
+    c.add_rows.new.writer.bytes c.add_total.new.writer.bytes form c.add_rows.new.writer.form (length rows) total
+    same_rows
     with_rows c.in_ok-add_total.ensures.all in
     let same_total = c.in_ok-add_total.ensures.form ∙ same_rows in
     let last : c.make_end.new.row ≡ end (length rows) = c.in_ok-make_end.ensures ∙ ap end c.in_ok-count.ensures.count in
@@ -103,22 +114,27 @@ returns-clause-all g c =
     let rows = g.R.Rows.left c.args.rows.now in
     let total = option_map (λ t. t.now) c.args.total in
     let whole = records_bytes form (table_by kind rows total) in
-    let begun_with = headed old (g.O.Sink.written c.add.new.out) c.args.writer.now.bytes c.add.new.self.bytes form kind rows total
+    let begun_with = headed old (g.O.Sink.written c.add.new.out) c.args.writer.now.bytes c.add.new.self.bytes form kind
+    rows total
     c.make_head.new.row c.requires.empty c.in_ok-make_head.ensures c.in_ok-add.ensures.all in
     let same = c.in_ok-add.ensures.form in
-    let with_rows = rowed old (g.O.Sink.written c.add.new.out) (g.O.Sink.written c.add_rows.new.out) whole c.add.new.self.bytes
+    let with_rows = rowed old (g.O.Sink.written c.add.new.out) (g.O.Sink.written c.add_rows.new.out) whole
+    c.add.new.self.bytes
     c.add_rows.new.writer.bytes form c.add.new.self.form rows total same begun_with c.in_ok-count.ensures.all in
     let same_rows = c.in_ok-count.ensures.form ∙ same in
     let with_total = totalled old (g.O.Sink.written c.add_rows.new.out) (g.O.Sink.written c.add_total.new.out) whole
-    c.add_rows.new.writer.bytes c.add_total.new.writer.bytes form c.add_rows.new.writer.form (length rows) total same_rows
+    c.add_rows.new.writer.bytes c.add_total.new.writer.bytes form c.add_rows.new.writer.form (length rows) total
+    same_rows
     with_rows c.in_ok-add_total.ensures.all in
     let same_total = c.in_ok-add_total.ensures.form ∙ same_rows in
     let last : c.make_end.new.row ≡ end (length rows) = c.in_ok-make_end.ensures ∙ ap end c.in_ok-count.ensures.count in
     let done = ended old (g.O.Sink.written c.add_total.new.out) (g.O.Sink.written c.add-2.new.out) whole
-    c.add_total.new.writer.bytes c.add-2.new.self.bytes form c.add_total.new.writer.form (length rows) c.make_end.new.row
+    c.add_total.new.writer.bytes c.add-2.new.self.bytes form c.add_total.new.writer.form (length rows)
+    c.make_end.new.row
     same_total last with_total c.in_ok-add-2.ensures.all in
     on_ok_weaker c.flush.result
-    (keeps-all old (g.O.Sink.written c.add-2.new.out) (g.O.Sink.written c.flush.new.out) whole c.add-2.new.self.bytes done)
+    (keeps-all old (g.O.Sink.written c.add-2.new.out) (g.O.Sink.written c.flush.new.out) whole c.add-2.new.self.bytes
+    done)
     c.flush.ensures.all
 
 pub returns-clause-prefix : goal.returns-clause-prefix
@@ -129,20 +145,25 @@ returns-clause-prefix g c =
     let rows = g.R.Rows.left c.args.rows.now in
     let total = option_map (λ t. t.now) c.args.total in
     let whole = records_bytes form (table_by kind rows total) in
-    let begun_with = headed old (g.O.Sink.written c.add.new.out) c.args.writer.now.bytes c.add.new.self.bytes form kind rows total
+    let begun_with = headed old (g.O.Sink.written c.add.new.out) c.args.writer.now.bytes c.add.new.self.bytes form kind
+    rows total
     c.make_head.new.row c.requires.empty c.in_ok-make_head.ensures c.in_ok-add.ensures.all in
     let same = c.in_ok-add.ensures.form in
-    let with_rows = rowed old (g.O.Sink.written c.add.new.out) (g.O.Sink.written c.add_rows.new.out) whole c.add.new.self.bytes
+    let with_rows = rowed old (g.O.Sink.written c.add.new.out) (g.O.Sink.written c.add_rows.new.out) whole
+    c.add.new.self.bytes
     c.add_rows.new.writer.bytes form c.add.new.self.form rows total same begun_with c.in_ok-count.ensures.all in
     let same_rows = c.in_ok-count.ensures.form ∙ same in
     let with_total = totalled old (g.O.Sink.written c.add_rows.new.out) (g.O.Sink.written c.add_total.new.out) whole
-    c.add_rows.new.writer.bytes c.add_total.new.writer.bytes form c.add_rows.new.writer.form (length rows) total same_rows
+    c.add_rows.new.writer.bytes c.add_total.new.writer.bytes form c.add_rows.new.writer.form (length rows) total
+    same_rows
     with_rows c.in_ok-add_total.ensures.all in
     let same_total = c.in_ok-add_total.ensures.form ∙ same_rows in
     let last : c.make_end.new.row ≡ end (length rows) = c.in_ok-make_end.ensures ∙ ap end c.in_ok-count.ensures.count in
     let done = ended old (g.O.Sink.written c.add_total.new.out) (g.O.Sink.written c.add-2.new.out) whole
-    c.add_total.new.writer.bytes c.add-2.new.self.bytes form c.add_total.new.writer.form (length rows) c.make_end.new.row
+    c.add_total.new.writer.bytes c.add-2.new.self.bytes form c.add_total.new.writer.form (length rows)
+    c.make_end.new.row
     same_total last with_total c.in_ok-add-2.ensures.all in
     on_err_weaker c.flush.result
-    (keeps_all-prefix old (g.O.Sink.written c.add-2.new.out) (g.O.Sink.written c.flush.new.out) whole c.add-2.new.self.bytes done)
+    (keeps_all-prefix old (g.O.Sink.written c.add-2.new.out) (g.O.Sink.written c.flush.new.out) whole
+    c.add-2.new.self.bytes done)
     c.flush.ensures.prefix

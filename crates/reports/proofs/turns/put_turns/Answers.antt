@@ -12,7 +12,8 @@ returns-clause-all g c =
     let last : drop 1 c.make_totals.new.row ≡ turn_totals c.args.depths.now = ap (drop 1) c.in_ok-make_totals.ensures in
     on_ok_weaker c.put_table_with_total.result
     (λ all. all ∙ ap (λ fields. appended_to (g.O.Sink.written c.args.out.now)
-    (records_bytes c.args.form (table_with_total (codes "turns") (map turn_row (enumerate_from 0 c.args.depths.now)) fields))) last)
+    (records_bytes c.args.form (table_with_total (codes "turns") (map turn_row (enumerate_from 0 c.args.depths.now))
+    fields))) last)
     c.put_table_with_total.ensures.all
 
 pub returns-clause-prefix : goal.returns-clause-prefix
@@ -22,5 +23,6 @@ returns-clause-prefix g c =
     let last : drop 1 c.make_totals.new.row ≡ turn_totals c.args.depths.now = ap (drop 1) c.in_ok-make_totals.ensures in
     on_err_weaker c.put_table_with_total.result
     (subst (λ fields. WritesPrefix (sink.written c.args.out.now) (sink.written c.put_table_with_total.new.out)
-    (records_bytes c.args.form (table_with_total (codes "turns") (map turn_row (enumerate_from 0 c.args.depths.now)) fields))) last)
+    (records_bytes c.args.form (table_with_total (codes "turns") (map turn_row (enumerate_from 0 c.args.depths.now))
+    fields))) last)
     c.put_table_with_total.ensures.prefix

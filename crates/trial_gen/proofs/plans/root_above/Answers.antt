@@ -15,4 +15,5 @@ loop-root-preserved c =
 
 pub returns-clause-value : goal.returns-clause-value
 returns-clause-value c =
-    sym (found c.args.n c.loop-root.root (c.args.n - c.loop-root.root) c.loop-root-test.false) ∙ c.loop-root.invariant.sought
+    sym (found c.args.n c.loop-root.root (c.args.n - c.loop-root.root) c.loop-root-test.false)
+    ∙ c.loop-root.invariant.sought
