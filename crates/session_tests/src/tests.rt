@@ -91,7 +91,7 @@ fn leaves(
 )
     requires { HasShift edit.now }
 {
-    assert!(rt; session.apply(rt, alloc, edit, &NoGate).is_ok() == expected.0);
+    assert!(rt; session.apply(alloc, edit).is_ok() == expected.0);
     assert!(rt; line_count(rt, alloc, session) == expected.1);
     assert!(rt; edge_count(rt, alloc, session) == expected.2);
 }
@@ -171,7 +171,8 @@ fn two_workers_meet_over_an_edit(rt: HostRuntime) {
     assert!(&rt; session.make_graph(&rt, alloc, &NoGate).is_ok());
     let gate = MeetingGate::new();
     let add = Edit::Add(name(&rt, b'A'), box_points(&rt, alloc, at(4, 4), at(6, 6)));
-    assert!(&rt; session.apply(&rt, alloc, &add, &gate).is_ok());
+    assert!(&rt; session.apply(alloc, &add).is_ok());
+    assert!(&rt; session.make_graph(&rt, alloc, &gate).is_ok());
     assert!(&rt; gate.have_two_met());
     has_edges_round_the_box(&rt, alloc, &mut session);
 }
