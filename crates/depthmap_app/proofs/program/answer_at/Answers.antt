@@ -91,8 +91,8 @@ returns-in-Err-Write g c = λ before after files.
       (refl, n.counts.0, omega (arith, rose, n.counts.1, c.requires.out_below)),
     )
 
-pub returns : goal.returns
-returns g c = λ before after files.
+pub returns-in-Err-NoMemory : goal.returns-in-Err-NoMemory
+returns-in-Err-NoMemory g c = λ before after files.
     let plan = c.args.desk.now.session.plan in
     let left = c.answer_script.new.answerer in
     let n = c.in-All.ensures in
