@@ -16,6 +16,7 @@ use Rattle.depthmap_app.specs.Ends.{EndsOverPlan, IsAnswered, IsAnsweredInPart, 
 use Rattle.depthmap_app.specs.Lines.{DeskState, desk, line_step}
 use Rattle.depthmap_app.specs.Statuses.{done_status}
 use Rattle.depthmap_app.specs.Streams.{Faults, Streams, faults, streams}
+use Rattle.depthmap_app.specs.declared.status.Status.{Status}
 use Rattle.depthmap_app.proofs.Replied.{bytes-are, output-begun, output-refusal, output-written, plan-left, refusal-is, replies-begun}
 
 -- the script's count and the output's stay
@@ -23,6 +24,11 @@ pub same_counts : (files scripts scripts_after outs outs_after : ℕ) → script
     → faults files scripts_after outs_after ≡ faults files scripts outs
 same_counts files scripts scripts_after outs outs_after s o =
     ap (λ f. faults files f outs_after) s ∙ ap (λ f. faults files scripts f) o
+
+-- what is said over a plan is said over the same one
+pub same_plan : (mode : Mode) (form : Form) (plan other : Plan) (old new : Streams) (status : Status) → other ≡ plan
+    → EndsOverPlan mode form other old new status → EndsOverPlan mode form plan old new status
+same_plan mode form plan other old new status e ends = subst (λ p. EndsOverPlan mode form p old new status) e ends
 
 -- ---- the output was written whole
 

@@ -35,6 +35,39 @@ fn done(refused: bool, mode_refused: bool) -> Status
     }
 }
 
+/// Answers the script at a desk, and prints the tables of the mode over the plan that it leaves there.
+fn answer_at<S: Source, O: Sink, G: Gate>(
+    rt: &(impl Threads + Sync),
+    desk: &mut Desk,
+    mode: Mode,
+    form: Form,
+    script: &mut S,
+    out: &mut O,
+    gate: &G,
+) -> Status
+    requires form { desk.old.form ≡ form }
+    requires script_below { S.faults script.old < 2 ^ 64 - 1 }
+    requires out_below { O.faults out.old < 2 ^ 64 - 1 }
+    ensures { (before after : Option (List ℕ)) (files : ℕ) →
+        EndsOverPlan mode form desk.old.session.plan
+        (streams before (S.left script.old) (O.written out.old) (faults files (S.faults script.old) (O.faults out.old)))
+        (streams after (S.left script.new) (O.written out.new) (faults files (S.faults script.new) (O.faults out.new)))
+        result }
+{
+    let refused = match answer_script(rt, desk, MAX_SCRIPT_BYTES, script, out) {
+        ScriptEnd::All(refused) => refused,
+        ScriptEnd::Failed => return Status::ReadFault,
+        ScriptEnd::Unwritten => return Status::WriteFault,
+        ScriptEnd::NoMemory => return Status::NoMemory,
+        ScriptEnd::Over => return Status::TooLong,
+    };
+    match put_mode(rt, desk.alloc, &mut desk.session, form, mode, out, gate) {
+        Ok(mode_refused) => done(refused, mode_refused),
+        Err(ReportFault::Write) => Status::WriteFault,
+        Err(ReportFault::NoMemory) => Status::NoMemory,
+    }
+}
+
 /// Answers the script over a plan, and prints the tables of the mode over the plan that it leaves.
 fn answer_over<S: Source, O: Sink, G: Gate>(
     rt: &(impl Threads + Sync),
@@ -64,18 +97,7 @@ fn answer_over<S: Source, O: Sink, G: Gate>(
         session,
         form,
     };
-    let refused = match answer_script(rt, &mut desk, MAX_SCRIPT_BYTES, script, out) {
-        ScriptEnd::All(refused) => refused,
-        ScriptEnd::Failed => return Status::ReadFault,
-        ScriptEnd::Unwritten => return Status::WriteFault,
-        ScriptEnd::NoMemory => return Status::NoMemory,
-        ScriptEnd::Over => return Status::TooLong,
-    };
-    match put_mode(rt, alloc, &mut desk.session, form, mode, out, gate) {
-        Ok(mode_refused) => done(refused, mode_refused),
-        Err(ReportFault::Write) => Status::WriteFault,
-        Err(ReportFault::NoMemory) => Status::NoMemory,
-    }
+    answer_at(rt, &mut desk, mode, form, script, out, gate)
 }
 
 /// Answers the script over the plan in the file of a name. Where the file holds none, it says why on `err`.
@@ -212,9 +234,9 @@ fn answer<F: Files, S: Source, O: Sink, E: Sink, G: Gate>(
 /// only once every line that was taken whole is answered. A trial takes nothing of the files and of the script.
 ///
 /// `words` are the command's arguments without the program's name. `rt` lends the threads. `gate` is told each row of the
-/// visibility graph that a worker claims for the tables of the mode or for a trial; workers that answer the script tell
-/// none. Each count of faults must be able to rise, and the file's name must be one that `files` allows, as `DirFiles`
-/// allows all.
+/// visibility graph that one of several workers claims for the tables of the mode or for a trial; workers that answer
+/// the script tell none. Each count of faults must be able to rise, and the file's name must be one that `files` allows,
+/// as `DirFiles` allows all.
 ///
 /// The first event in the order of work decides the status: words, file, plan, the script's lines, tables. A fault of
 /// `err` changes none, nor does the number of workers.

@@ -1,4 +1,5 @@
 mod Printed
+mod Keeping
 mod PlanTables
 mod Shown
 mod Asked

@@ -8,6 +8,7 @@ ghost use Rattle.plan_spec.specs.Grid.{grid_points, number_of_point};
 ghost use Rattle.sight_spec.specs.Scene.{scene_of};
 ghost use Rattle.sight_spec.specs.Axial as axial;
 ghost use Rattle.report_spec.specs.Replies.{has_too_many_lines};
+ghost use Rattle.plan_answers.specs.Answered.{Keeps};
 
 use axial_lines::LinesFault;
 use line_graph::crossing_graph;
@@ -41,6 +42,7 @@ pub fn find_lines(alloc: Global, session: &mut Session) -> Result<bool, NoMemory
     ensures few { IfOk result (λ few. has_too_many_lines (scene_of session.old.plan) ≡ not few) }
     ensures kept { IfOk result (λ few. IsTrue few → IsTrue session.new.keeps_lines) }
     ensures plan { session.new.plan ≡ session.old.plan }
+    ensures keeps { Keeps session.old session.new }
 {
     match session.make_lines(alloc) {
         Ok(()) => Ok(true),

@@ -5,7 +5,7 @@ ghost use Rattle.dm_io.specs.Streams.{WritesPrefix, appended_to};
 ghost use Rattle.report_spec.specs.Output.{mode_is_refused, mode_records};
 ghost use Rattle.report_spec.specs.Records.{records_bytes};
 ghost use Rattle.reports.specs.Faults.{Counts};
-ghost use Rattle.plan_answers.specs.Answered.{Answers};
+ghost use Rattle.plan_answers.specs.Answered.{Answers, Keeps};
 
 use crate::found::{find_lines, line_measures};
 use crate::replies::{put_both, put_one, put_refusal};
@@ -33,6 +33,7 @@ fn put_vga<O: Sink, G: Gate>(
 ) -> Result<bool, ReportFault>
     ensures answers { Answers form (O.written out.old) (O.written out.new) (mode_records Mode.Vga session.old.plan) (mode_is_refused Mode.Vga session.old.plan) result }
     ensures plan { session.new.plan ≡ session.old.plan }
+    ensures keeps { Keeps session.old session.new }
     ensures faults { Counts result (O.faults out.old) (O.faults out.new) }
 {
     session.make_graph(rt, alloc, gate)?;
@@ -74,6 +75,7 @@ fn put_axial_map<O: Sink>(
 ) -> Result<bool, ReportFault>
     ensures answers { Answers form (O.written out.old) (O.written out.new) (mode_records Mode.AxialMap session.old.plan) (mode_is_refused Mode.AxialMap session.old.plan) result }
     ensures plan { session.new.plan ≡ session.old.plan }
+    ensures keeps { Keeps session.old session.new }
     ensures faults { Counts result (O.faults out.old) (O.faults out.new) }
 {
     if !find_lines(alloc, session)? {
@@ -130,9 +132,10 @@ fn put_text_of<O: Sink>(
 
 /// Prints the tables of a mode over the plan of a session, or the refusal of too many axial lines, where the mode asks
 /// for them; `refused 0 lines` is that. Whether it is refused. After a fault a prefix was written. Each worker tells the
-/// gate each row of the visibility graph that it claims.
+/// gate each row of the visibility graph that it claims. What the session kept it still keeps.
 ///
 /// Cost: that of what the tables show, where the session doesn't keep it.
+#[tactic(auto, using(crate::proofs::Keeping::keeps_itself))]
 pub fn put_mode<O: Sink, G: Gate>(
     rt: &(impl Threads + Sync),
     alloc: Global,
@@ -146,6 +149,7 @@ pub fn put_mode<O: Sink, G: Gate>(
     ensures refused { IfOk result (λ refused. refused ≡ mode_is_refused mode session.old.plan) }
     ensures prefix { OnErr result (WritesPrefix (O.written out.old) (O.written out.new) (records_bytes form (mode_records mode session.old.plan))) }
     ensures plan { session.new.plan ≡ session.old.plan }
+    ensures keeps { Keeps session.old session.new }
     ensures faults { Counts result (O.faults out.old) (O.faults out.new) }
 {
     match mode {

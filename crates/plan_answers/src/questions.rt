@@ -2,7 +2,7 @@
 
 ghost use Rattle.std.specs.Prelude.{◌≡◌};
 ghost use Rattle.reports.specs.Faults.{Counts};
-ghost use Rattle.plan_answers.specs.Answered.{Replies, question};
+ghost use Rattle.plan_answers.specs.Answered.{Keeps, Replies, question};
 
 use crate::found::{find_lines, first_piece, grid_point, line_measures};
 use crate::replies::{put_answer, put_refusal};
@@ -42,6 +42,7 @@ fn answer_edges<O: Sink, G: Gate>(
 ) -> Result<bool, ReportFault>
     ensures answers { Replies form (O.written out.old) (O.written out.new) (question session.old.plan number Query.Edges) result }
     ensures plan { session.new.plan ≡ session.old.plan }
+    ensures keeps { Keeps session.old session.new }
     ensures faults { Counts result (O.faults out.old) (O.faults out.new) }
 {
     session.make_graph(rt, alloc, gate)?;
@@ -64,6 +65,7 @@ fn answer_points<O: Sink, G: Gate>(
 ) -> Result<bool, ReportFault>
     ensures answers { Replies form (O.written out.old) (O.written out.new) (question session.old.plan number Query.Points) result }
     ensures plan { session.new.plan ≡ session.old.plan }
+    ensures keeps { Keeps session.old session.new }
     ensures faults { Counts result (O.faults out.old) (O.faults out.new) }
 {
     session.make_graph(rt, alloc, gate)?;
@@ -87,6 +89,7 @@ fn answer_axial<O: Sink>(
 ) -> Result<bool, ReportFault>
     ensures answers { Replies form (O.written out.old) (O.written out.new) (question session.old.plan number Query.Axial) result }
     ensures plan { session.new.plan ≡ session.old.plan }
+    ensures keeps { Keeps session.old session.new }
     ensures faults { Counts result (O.faults out.old) (O.faults out.new) }
 {
     if !find_lines(alloc, session)? {
@@ -110,6 +113,7 @@ fn answer_lines<O: Sink>(
 ) -> Result<bool, ReportFault>
     ensures answers { Replies form (O.written out.old) (O.written out.new) (question session.old.plan number Query.Lines) result }
     ensures plan { session.new.plan ≡ session.old.plan }
+    ensures keeps { Keeps session.old session.new }
     ensures faults { Counts result (O.faults out.old) (O.faults out.new) }
 {
     if !find_lines(alloc, session)? {
@@ -177,6 +181,7 @@ fn answer_depth<O: Sink, G: Gate>(
 ) -> Result<bool, ReportFault>
     ensures answers { Replies form (O.written out.old) (O.written out.new) (question session.old.plan number (Query.Depth p)) result }
     ensures plan { session.new.plan ≡ session.old.plan }
+    ensures keeps { Keeps session.old session.new }
     ensures faults { Counts result (O.faults out.old) (O.faults out.new) }
 {
     let Some(source) = grid_point(session.plan(), p) else {
@@ -244,6 +249,7 @@ fn answer_turns<O: Sink>(
 }
 
 /// Prints the reply to a question: `ok N` and the table, or `refused N WHY`. Whether it is refused.
+#[tactic(auto, using(crate::proofs::Keeping::keeps_itself))]
 pub fn answer_query<O: Sink, G: Gate>(
     rt: &(impl Threads + Sync),
     alloc: Global,
@@ -256,6 +262,7 @@ pub fn answer_query<O: Sink, G: Gate>(
 ) -> Result<bool, ReportFault>
     ensures answers { Replies form (O.written out.old) (O.written out.new) (question session.old.plan number query.now) result }
     ensures plan { session.new.plan ≡ session.old.plan }
+    ensures keeps { Keeps session.old session.new }
     ensures faults { Counts result (O.faults out.old) (O.faults out.new) }
 {
     match query {

@@ -9,13 +9,15 @@
 //! ```text
 //!   edit of            scene    graph     axial lines
 //!   a route            stays    stays     stay
-//!   an obstacle        anew     mended    mended, where they aren't too many now
-//!   a screen           anew     mended    likewise
+//!   an obstacle        anew     let go    mended, where they aren't too many now
+//!   a screen           anew     let go    likewise
 //! ```
 //!
-//! Graph and lines are made where they are first asked for: a session that is asked for neither pays for neither.
+//! Graph and lines are made where they are first asked for: a session that is asked for neither pays for neither. Where
+//! a graph that is let go was that of the plan before the edit, the next one is mended from it.
 #![tactic(auto)]
 
+mod past;
 mod session;
 
 pub use session::Session;

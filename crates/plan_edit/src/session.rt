@@ -4,7 +4,7 @@ ghost use Rattle.std.specs.Prelude.{Err, IfErr, IfOk, IsTrue, None, OnErr, OnOk,
 ghost use Rattle.std.specs.Option.{IfSome};
 ghost use Rattle.options_spec.specs.declared.options.TheConstants.{MAX_WORKERS};
 ghost use Rattle.plan_spec.specs.declared.limits.TheConstants.{MAX_AXIAL_LINES};
-ghost use Rattle.plan_spec.specs.Edits.{HasShift, IsEditBetween, why_not_edit};
+ghost use Rattle.plan_spec.specs.Edits.{HasShift, why_not_edit};
 ghost use Rattle.sight_spec.specs.Scene as scenes;
 ghost use Rattle.sight_spec.specs.Visibility.{visibility_graph};
 ghost use Rattle.sight_spec.specs.Axial.{axial_lines};
@@ -14,20 +14,25 @@ ghost use Rattle.plan_check.specs.Faults.{IfRefused};
 ghost use Rattle.vga_grid.specs.Rows.{graph_of};
 ghost use Rattle.axial_lines.specs.declared.fault.LinesFault.TheVariants.{TooManyLines};
 ghost use Rattle.plan_edit.specs.Sessions as sessions;
+ghost use Rattle.plan_edit.specs.Sessions.{IsPast};
 
+use crate::past::{Past, past_of};
 use axial_lines::{AxialLine, LinesFault, Steps, all_lines, update_lines};
 use dm_io::Gate;
 use plan_check::{Changed, Edit, EditFault, Plan};
 use sight_core::{Scene, scene_of};
 use std::alloc::Global;
 use std::marker::Model;
+use std::mem;
 use std::thread::Threads;
 use text_spec::NoMemory;
 use vga_fill::{fill_all, refill};
 use vga_grid::BitGraph;
+use vga_looks::graph_by_looks;
 
-/// A plan, its scene, and its visibility graph and axial lines. These two are made where they are first asked for, and
-/// mended over edits from then on. Contracts see the plan, how many workers fill the graph, and whether the graph and
+/// A plan, its scene, and its visibility graph and axial lines. These two are made where they are first asked for. After
+/// an edit the lines are mended at once, and the graph where it is next asked for, from the one before the edit; after
+/// more than one edit it is made anew. Contracts see the plan, how many workers fill the graph, and whether the graph and
 /// the lines are kept.
 #[derive(Drop)]
 pub struct Session {
@@ -35,6 +40,7 @@ pub struct Session {
     workers: u32,
     scene: Scene,
     graph: Option<BitGraph>,
+    past: Option<Past>,
     lines: Option<Vec<AxialLine>>,
 }
 
@@ -46,7 +52,7 @@ impl Model for Session {
 
     ghost view = { λ a. record { plan = a.plan; workers = a.workers; keeps_graph = is_some a.graph; keeps_lines = is_some a.lines } };
 
-    ghost invariant = { λ a. IsKept a.plan a.scene a.graph (option_map (λ v. v.items) a.lines) a.workers };
+    ghost invariant = { λ a. IsKept a.plan a.scene a.graph a.past (option_map (λ v. v.items) a.lines) a.workers };
 }
 
 /// Whether the edit is of a route, which blocks nothing.
@@ -60,31 +66,57 @@ fn is_of_route(edit: &Edit) -> bool
     }
 }
 
-/// The visibility graph after an edit, from the one before it where it was kept.
-fn graph_after<R: Threads + Sync, G: Gate>(
+/// The visibility graph of a plan, made anew. A lone worker shares no row, so it fills the graph itself.
+fn graph_anew<R: Threads + Sync, G: Gate>(
     rt: &R,
     alloc: Global,
-    kept: &Option<BitGraph>,
-    before: &Plan,
-    after: &Plan,
+    plan: &Plan,
     scene: &Scene,
-    boxes: Changed,
     workers: u32,
     gate: &G,
-) -> Result<Option<BitGraph>, NoMemory>
-    requires kept_is { IfSome kept.now (λ graph. graph_of graph ≡ visibility_graph before.now) }
-    requires edited { IsEditBetween before.now after.now boxes }
-    requires scene { scene.now ≡ scenes.scene_of after.now }
+) -> Result<BitGraph, NoMemory>
+    requires scene { scene.now ≡ scenes.scene_of plan.now }
     requires some { 0 < workers }
     requires at_most { workers ≤ 64 }
-    ensures kept { IfOk result (λ new. is_some new ≡ is_some kept.now) }
-    ensures graph { IfOk result (λ new. IfSome new (λ graph. graph_of graph ≡ visibility_graph after.now)) }
+    ensures { IfOk result (λ graph. graph_of graph ≡ visibility_graph plan.now) }
 {
-    let Some(old) = kept else {
-        return Ok(None);
-    };
-    let graph = refill(rt, alloc, before, after, scene, old, boxes, workers, gate)?;
-    Ok(Some(graph))
+    if workers == 1 {
+        graph_by_looks(alloc, plan, scene)
+    } else {
+        fill_all(rt, alloc, plan, scene, workers, gate)
+    }
+}
+
+/// The visibility graph of a plan: what the last edit touched anew, where there is a graph from before it, and else all.
+fn graph_now<R: Threads + Sync, G: Gate>(
+    rt: &R,
+    alloc: Global,
+    past: &Option<Past>,
+    plan: &Plan,
+    scene: &Scene,
+    workers: u32,
+    gate: &G,
+) -> Result<BitGraph, NoMemory>
+    requires past_is { IfSome past.now (IsPast plan.now) }
+    requires scene { scene.now ≡ scenes.scene_of plan.now }
+    requires some { 0 < workers }
+    requires at_most { workers ≤ 64 }
+    ensures { IfOk result (λ graph. graph_of graph ≡ visibility_graph plan.now) }
+{
+    match past {
+        Some(past) => refill(
+            rt,
+            alloc,
+            &past.plan,
+            plan,
+            scene,
+            &past.graph,
+            past.boxes,
+            workers,
+            gate,
+        ),
+        None => graph_anew(rt, alloc, plan, scene, workers, gate),
+    }
 }
 
 /// The axial lines after an edit, from those before it where they were kept; none where there are too many.
@@ -127,6 +159,7 @@ impl Session {
             workers,
             scene,
             graph: None,
+            past: None,
             lines: None,
         })
     }
@@ -154,21 +187,15 @@ impl Session {
 
     /// Changes the plan by the edit. Where the edit is refused, or there is no memory, nothing is changed.
     ///
-    /// An edit of a route touches neither graph nor lines. After any other the graph, where it was kept, is that of the
-    /// new plan, and so are the lines, which are let go where there are more than `MAX_AXIAL_LINES`. `rt` lends the
-    /// threads of the workers, and each of them tells the gate each row that it claims.
+    /// An edit of a route touches neither graph nor lines. After any other the graph is kept no longer, but where it was,
+    /// the next one is mended from it. Lines that were kept are those of the new plan, or are let go where there are more
+    /// than `MAX_AXIAL_LINES`.
     ///
     /// `Err(Refused)` names the first cause for which the edit is refused. The shift of a move is at most `MAX_SHIFT`.
     ///
-    /// Cost: that of `Plan::with`; where the edit is of an obstacle or a screen that of the scene, too, where the graph
-    /// is kept that of `refill`, and where lines are kept that of `update_lines`.
-    pub fn apply<R: Threads + Sync, G: Gate>(
-        &mut self,
-        rt: &R,
-        alloc: Global,
-        edit: &Edit,
-        gate: &G,
-    ) -> Result<(), EditFault>
+    /// Cost: that of `Plan::with`; where the edit is of an obstacle or a screen that of the scene, too, and where lines
+    /// are kept that of `update_lines`.
+    pub fn apply(&mut self, alloc: Global, edit: &Edit) -> Result<(), EditFault>
         requires shift { HasShift edit.now }
         ensures session { OnOk result (self.new ≡ sessions.session_after self.old edit.now) }
         ensures valid { OnOk result (why_not_edit self.old.plan edit.now ≡ None) }
@@ -178,35 +205,27 @@ impl Session {
         let plan = self.plan.with(alloc, edit)?;
         if is_of_route(edit) {
             self.plan = plan;
+            self.past = None;
             return Ok(());
         }
         let scene = scene_of(alloc, &plan)?;
         // a plan says that it is sound where its outer polygon is read
         let _outer = self.plan.outer();
         let boxes = self.plan.changed(edit);
-        let graph = graph_after(
-            rt,
-            alloc,
-            &self.graph,
-            &self.plan,
-            &plan,
-            &scene,
-            boxes,
-            self.workers,
-            gate,
-        )?;
         let lines = lines_after(alloc, &self.lines, &self.scene, &scene, boxes)?;
-        self.plan = plan;
+        let before = mem::replace(&mut self.plan, plan);
+        let graph = mem::replace(&mut self.graph, None);
+        self.past = past_of(graph, before, &self.plan, boxes);
         self.scene = scene;
-        self.graph = graph;
         self.lines = lines;
         Ok(())
     }
 
-    /// Makes the visibility graph of the plan, where it isn't kept. It is kept from then on. Without memory nothing is
-    /// changed. `rt` lends the threads of the workers, and each of them tells the gate each row that it claims.
+    /// Makes the visibility graph of the plan, where it isn't kept. Without memory nothing is changed. `rt` lends the
+    /// threads of the workers, and where they share the rows, each tells the gate each row that it claims.
     ///
-    /// Cost: that of `fill_all`, once for a session.
+    /// Cost: after one edit of a plan whose graph was kept that of `refill`, and else that of `fill_all`, or with one
+    /// worker of `graph_by_looks`.
     pub fn make_graph<R: Threads + Sync, G: Gate>(
         &mut self,
         rt: &R,
@@ -217,8 +236,17 @@ impl Session {
         ensures stays { OnErr result (self.new ≡ self.old) }
     {
         if self.graph.is_none() {
-            let graph = fill_all(rt, alloc, &self.plan, &self.scene, self.workers, gate)?;
+            let graph = graph_now(
+                rt,
+                alloc,
+                &self.past,
+                &self.plan,
+                &self.scene,
+                self.workers,
+                gate,
+            )?;
             self.graph = Some(graph);
+            self.past = None;
         }
         Ok(())
     }
@@ -237,7 +265,7 @@ impl Session {
     /// Finds the axial lines of the plan, where they aren't kept. Where there are too many, or no memory, nothing is
     /// changed.
     ///
-    /// Cost: that of `all_lines`, once for a plan.
+    /// Cost: that of `all_lines`, where they aren't kept.
     pub fn make_lines(&mut self, alloc: Global) -> Result<(), LinesFault>
         ensures made { OnOk result (self.new ≡ sessions.with_lines self.old) }
         ensures at_most { OnOk result (has_too_many_lines (scenes.scene_of self.old.plan) ≡ false) }

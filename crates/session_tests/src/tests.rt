@@ -1,6 +1,7 @@
-//! A session over some edits of a small room, and two workers that meet over one.
+//! A session of one worker and of two over some edits of a small room, with and without questions in between, and two
+//! workers that meet over one.
 
-ghost use Rattle.std.specs.Prelude.{◌≡◌};
+ghost use Rattle.std.specs.Prelude.{◌≡◌, ◌≤◌};
 ghost use Rattle.plan_spec.specs.Edits.{HasShift};
 
 use dm_io::NoGate;
@@ -55,9 +56,12 @@ fn room(rt: &impl Abort, alloc: Global, grid: GridSpec) -> Plan {
     }
 }
 
-/// A session of two workers on such a plan.
-fn begun(rt: &impl Abort, alloc: Global, grid: GridSpec) -> Session {
-    match Session::begin(alloc, room(rt, alloc, grid), 2) {
+/// A session of so many workers on such a plan.
+fn begun(rt: &impl Abort, alloc: Global, grid: GridSpec, workers: u32) -> Session
+    requires some { 1 ≤ workers }
+    requires few { workers ≤ 64 }
+{
+    match Session::begin(alloc, room(rt, alloc, grid), workers) {
         Ok(session) => session,
         Err(_) => panic!(rt; "there is memory"),
     }
@@ -91,7 +95,7 @@ fn leaves(
 )
     requires { HasShift edit.now }
 {
-    assert!(rt; session.apply(rt, alloc, edit, &NoGate).is_ok() == expected.0);
+    assert!(rt; session.apply(alloc, edit).is_ok() == expected.0);
     assert!(rt; line_count(rt, alloc, session) == expected.1);
     assert!(rt; edge_count(rt, alloc, session) == expected.2);
 }
@@ -112,15 +116,40 @@ fn a_box_comes_and_goes(rt: &(impl Threads + Sync + Abort), alloc: Global, sessi
     leaves(rt, alloc, session, &remove, (false, 6, 36));
 }
 
+/// A box comes and is moved to where it stands; it goes, and a route comes: what is asked for after two edits each.
+fn two_edits_between_questions(
+    rt: &(impl Threads + Sync + Abort),
+    alloc: Global,
+    session: &mut Session,
+) {
+    let (a, r) = (name(rt, b'B'), name(rt, b'Q'));
+    let add = Edit::Add(a.copy(), box_points(rt, alloc, at(4, 4), at(6, 6)));
+    assert!(rt; session.apply(alloc, &add).is_ok());
+    let stay = Edit::Move(a.copy(), 0, 0);
+    leaves(rt, alloc, session, &stay, (true, 20, 24));
+    assert!(rt; session.apply(alloc, &Edit::Remove(a)).is_ok());
+    let route = Edit::AddRoute(r, at(1, 1), at(3, 1));
+    leaves(rt, alloc, session, &route, (true, 6, 36));
+}
+
+/// What so many workers find after each edit.
+fn edits_leave(rt: &(impl Threads + Sync + Abort), alloc: Global, workers: u32)
+    requires some { 1 ≤ workers }
+    requires few { workers ≤ 64 }
+{
+    let mut session = begun(rt, alloc, grid(1, 4), workers);
+    assert!(rt; line_count(rt, alloc, &mut session) == 6);
+    assert!(rt; edge_count(rt, alloc, &mut session) == 36);
+    a_box_comes_and_goes(rt, alloc, &mut session);
+    two_edits_between_questions(rt, alloc, &mut session);
+    let screen = Edit::AddScreen(name(rt, b'S'), at(3, 4), at(7, 4));
+    leaves(rt, alloc, &mut session, &screen, (true, 13, 28));
+}
+
 #[test]
 fn graph_and_lines_are_those_of_the_plan_after_each_edit(rt: HostRuntime) {
-    let alloc = rt.alloc();
-    let mut session = begun(&rt, alloc, grid(1, 4));
-    assert!(&rt; line_count(&rt, alloc, &mut session) == 6);
-    assert!(&rt; edge_count(&rt, alloc, &mut session) == 36);
-    a_box_comes_and_goes(&rt, alloc, &mut session);
-    let screen = Edit::AddScreen(name(&rt, b'S'), at(3, 4), at(7, 4));
-    leaves(&rt, alloc, &mut session, &screen, (true, 13, 28));
+    edits_leave(&rt, rt.alloc(), 1);
+    edits_leave(&rt, rt.alloc(), 2);
 }
 
 /// The edges between the points of a grid over the whole room, of which a box hides the middle one.
@@ -167,11 +196,12 @@ fn has_edges_round_the_box(
 #[test]
 fn two_workers_meet_over_an_edit(rt: HostRuntime) {
     let alloc = rt.alloc();
-    let mut session = begun(&rt, alloc, grid(0, 5));
+    let mut session = begun(&rt, alloc, grid(0, 5), 2);
     assert!(&rt; session.make_graph(&rt, alloc, &NoGate).is_ok());
     let gate = MeetingGate::new();
     let add = Edit::Add(name(&rt, b'A'), box_points(&rt, alloc, at(4, 4), at(6, 6)));
-    assert!(&rt; session.apply(&rt, alloc, &add, &gate).is_ok());
+    assert!(&rt; session.apply(alloc, &add).is_ok());
+    assert!(&rt; session.make_graph(&rt, alloc, &gate).is_ok());
     assert!(&rt; gate.have_two_met());
     has_edges_round_the_box(&rt, alloc, &mut session);
 }

@@ -5,6 +5,7 @@ use Rattle.report_spec.specs.Replies.{edit_step}
 use Rattle.plan_answers.proofs.Printed.{nothing}
 use Rattle.plan_answers.proofs.Shown.{leaves_step}
 use Rattle.plan_answers.proofs.Stepped.{cause_is, edit_made, edit_refused, edit_replied}
+use Rattle.plan_answers.proofs.Keeping.{keeps_same, keeps_unmade}
 use Rattle.plan_answers.proofs.lines.answer_edit.Goals as goal
 
 pub returns-in-Ok-clause-answers : goal.returns-in-Ok-clause-answers
@@ -38,3 +39,15 @@ returns-in-Err-NoMemory-clause-answers g c =
 pub returns-in-Err-NoMemory-clause-leaves : goal.returns-in-Err-NoMemory-clause-leaves
 returns-in-Err-NoMemory-clause-leaves g c =
     inl (ap (λ (s : Session). s.plan) c.in-Err-NoMemory.ensures.refused_stays)
+
+pub returns-in-Ok-clause-keeps : goal.returns-in-Ok-clause-keeps
+returns-in-Ok-clause-keeps g c =
+    keeps_same _ _ c.in-Ok.ensures.session
+
+pub returns-in-Err-Refused-clause-keeps : goal.returns-in-Err-Refused-clause-keeps
+returns-in-Err-Refused-clause-keeps g c =
+    keeps_unmade _ _ _ c.in-Err-Refused.ensures.refused_stays
+
+pub returns-in-Err-NoMemory-clause-keeps : goal.returns-in-Err-NoMemory-clause-keeps
+returns-in-Err-NoMemory-clause-keeps g c =
+    keeps_unmade _ _ _ c.in-Err-NoMemory.ensures.refused_stays

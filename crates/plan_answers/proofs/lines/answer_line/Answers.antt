@@ -4,6 +4,7 @@ use Rattle.report_spec.specs.declared.reason.Reason.TheVariants.{Text as TextRea
 use Rattle.report_spec.specs.Replies.{refusal, step_by}
 use Rattle.plan_text.specs.Readings.{reading_of_shown}
 use Rattle.plan_answers.proofs.Shown.{leaves_step, shown_leaves, shown_prefix, shown_refused, shown_written, step_long, step_shown}
+use Rattle.plan_answers.proofs.Keeping.{keeps_itself}
 use Rattle.plan_answers.proofs.lines.answer_line.Goals as goal
 
 pub returns-in-Some-clause-written : goal.returns-in-Some-clause-written
@@ -63,3 +64,11 @@ returns-in-None-clause-answers g c = rw c.in-None.is c.put_refusal.ensures.answe
 
 pub returns-in-None-clause-after : goal.returns-in-None-clause-after
 returns-in-None-clause-after g c = rw c.in-None.is (leaves_step _ _ (refusal c.args.session.now.plan c.args.number (TextReason Long)) c.put_refusal.result refl)
+
+pub returns-in-Some-clause-keeps : goal.returns-in-Some-clause-keeps
+returns-in-Some-clause-keeps g c =
+    rw c.in-Some.is c.answer_shown.ensures.keeps
+
+pub returns-in-None-clause-keeps : goal.returns-in-None-clause-keeps
+returns-in-None-clause-keeps g c =
+    rw c.in-None.is (keeps_itself _)

@@ -3,6 +3,7 @@ use Rattle.report_spec.specs.Replies.{answer, query_step}
 use Rattle.plan_answers.proofs.Printed.{no_record}
 use Rattle.plan_answers.proofs.Shown.{leaves_step}
 use Rattle.plan_answers.proofs.Stepped.{question_keeps}
+use Rattle.plan_answers.proofs.Keeping.{keeps_itself}
 use Rattle.plan_answers.proofs.lines.answer_read.Goals as goal
 
 pub returns-in-Blank-clause-answers : goal.returns-in-Blank-clause-answers
@@ -27,3 +28,15 @@ returns-in-Query-clause-leaves g c =
     (leaves_step _ _ (query_step c.args.session.now.plan c.args.number (answer c.args.session.now.plan c.in-Query.query)) c.answer_query.result
     (c.answer_query.ensures.plan
     ∙ question_keeps c.args.session.now.plan c.args.number (answer c.args.session.now.plan c.in-Query.query)))
+
+pub returns-in-Blank-clause-keeps : goal.returns-in-Blank-clause-keeps
+returns-in-Blank-clause-keeps g c =
+    rw c.in-Blank.is (keeps_itself _)
+
+pub returns-in-Edit-clause-keeps : goal.returns-in-Edit-clause-keeps
+returns-in-Edit-clause-keeps g c =
+    rw c.in-Edit.is c.answer_edit.ensures.keeps
+
+pub returns-in-Query-clause-keeps : goal.returns-in-Query-clause-keeps
+returns-in-Query-clause-keeps g c =
+    rw c.in-Query.is c.answer_query.ensures.keeps

@@ -4,6 +4,7 @@ use Rattle.report_spec.specs.Replies.{refusal}
 use Rattle.plan_answers.proofs.Printed.{nothing}
 use Rattle.plan_answers.proofs.Shown.{leaves_step}
 use Rattle.plan_answers.proofs.Stepped.{line_leaves, line_replied, read_badly}
+use Rattle.plan_answers.proofs.Keeping.{keeps_read, keeps_unread}
 use Rattle.plan_answers.proofs.lines.answer_shown.Goals as goal
 
 pub returns-in-Ok-clause-answers : goal.returns-in-Ok-clause-answers
@@ -27,3 +28,15 @@ returns-in-Err-Bad-clause-leaves g c =
 pub returns-in-Err-NoMemory-clause-answers : goal.returns-in-Err-NoMemory-clause-answers
 returns-in-Err-NoMemory-clause-answers g c =
     nothing _ _
+
+pub returns-in-Ok-clause-keeps : goal.returns-in-Ok-clause-keeps
+returns-in-Ok-clause-keeps g c =
+    keeps_read _ _ _ _ c.in-Ok.ensures.reads c.answer_read.ensures.keeps
+
+pub returns-in-Err-Bad-clause-keeps : goal.returns-in-Err-Bad-clause-keeps
+returns-in-Err-Bad-clause-keeps g c =
+    keeps_unread _ _
+
+pub returns-in-Err-NoMemory-clause-keeps : goal.returns-in-Err-NoMemory-clause-keeps
+returns-in-Err-NoMemory-clause-keeps g c =
+    keeps_unread _ _

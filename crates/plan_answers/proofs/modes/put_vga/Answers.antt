@@ -5,6 +5,7 @@ use Rattle.sight_spec.specs.Visibility.{open_points, visibility_graph}
 use Rattle.plan_answers.proofs.Asked.{on_fault}
 use Rattle.plan_answers.proofs.Printed.{nothing}
 use Rattle.plan_answers.proofs.PlanTables.{edges_of_plan, points_of_plan, same_rows, two_tables}
+use Rattle.plan_answers.proofs.Keeping.{keeps_same, keeps_with_graph}
 use Rattle.plan_answers.proofs.modes.put_vga.Goals as goal
 
 pub returns-in_err-make_graph-clause-answers : goal.returns-in_err-make_graph-clause-answers
@@ -52,3 +53,19 @@ returns-clause-answers g c =
 pub returns-clause-plan : goal.returns-clause-plan
 returns-clause-plan g c =
     ap (λ (s : Session). s.plan) c.in_ok-make_graph.ensures.made
+
+pub returns-in_err-make_graph-clause-keeps : goal.returns-in_err-make_graph-clause-keeps
+returns-in_err-make_graph-clause-keeps g c =
+    keeps_same _ _ c.in_err-make_graph.ensures.stays
+
+pub returns-in_err-points-clause-keeps : goal.returns-in_err-points-clause-keeps
+returns-in_err-points-clause-keeps g c =
+    keeps_with_graph _ _ c.in_ok-make_graph.ensures.made
+
+pub returns-in_err-measures-clause-keeps : goal.returns-in_err-measures-clause-keeps
+returns-in_err-measures-clause-keeps g c =
+    keeps_with_graph _ _ c.in_ok-make_graph.ensures.made
+
+pub returns-clause-keeps : goal.returns-clause-keeps
+returns-clause-keeps g c =
+    keeps_with_graph _ _ c.in_ok-make_graph.ensures.made

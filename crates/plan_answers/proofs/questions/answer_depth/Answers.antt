@@ -12,6 +12,7 @@ use Rattle.report_spec.specs.Tables.{depth_table, depth_table_of}
 use Rattle.plan_answers.proofs.Asked.{answered, closed_point, no_point, on_fault, open_point, refused}
 use Rattle.plan_answers.proofs.Printed.{nothing}
 use Rattle.plan_answers.proofs.PlanTables.{depths_of_plan}
+use Rattle.plan_answers.proofs.Keeping.{keeps_itself, keeps_same, keeps_with_graph}
 use Rattle.plan_answers.proofs.questions.answer_depth.Goals as goal
 
 pub returns-in_default-clause-answers : goal.returns-in_default-clause-answers
@@ -78,3 +79,27 @@ returns-clause-answers g c =
 pub returns-clause-plan : goal.returns-clause-plan
 returns-clause-plan g c =
     ap (λ (s : Session). s.plan) c.in_ok-make_graph.ensures.made
+
+pub returns-in_default-clause-keeps : goal.returns-in_default-clause-keeps
+returns-in_default-clause-keeps g c =
+    keeps_itself _
+
+pub returns-then-not-is_open-clause-keeps : goal.returns-then-not-is_open-clause-keeps
+returns-then-not-is_open-clause-keeps g c =
+    keeps_itself _
+
+pub returns-in_err-make_graph-clause-keeps : goal.returns-in_err-make_graph-clause-keeps
+returns-in_err-make_graph-clause-keeps g c =
+    keeps_same _ _ c.in_err-make_graph.ensures.stays
+
+pub returns-in_err-points-clause-keeps : goal.returns-in_err-points-clause-keeps
+returns-in_err-points-clause-keeps g c =
+    keeps_with_graph _ _ c.in_ok-make_graph.ensures.made
+
+pub returns-in_err-depths-clause-keeps : goal.returns-in_err-depths-clause-keeps
+returns-in_err-depths-clause-keeps g c =
+    keeps_with_graph _ _ c.in_ok-make_graph.ensures.made
+
+pub returns-clause-keeps : goal.returns-clause-keeps
+returns-clause-keeps g c =
+    keeps_with_graph _ _ c.in_ok-make_graph.ensures.made
