@@ -33,7 +33,7 @@ fn corner_views(alloc: Global, scene: &Scene, steps: &mut Steps) -> Result<Outlo
 ///
 /// Counts one sweep for each corner: one look from it serves all its pairs. Without memory it may be fewer.
 ///
-/// But for want of memory, `Err(TooManyLines)` is answered exactly where there are more than
+/// Where there is memory, `Err(TooManyLines)` is answered exactly where there are more than
 /// [`MAX_AXIAL_LINES`](plan_spec::MAX_AXIAL_LINES); no more than one above that is made.
 ///
 /// Cost: a look for each corner; for each pair of corners a search in a view, and for those in sight two more and a

@@ -164,7 +164,7 @@ fn unchanged(alloc: Global, old: &[AxialLine]) -> Result<Vec<AxialLine>, LinesFa
 /// `before` and `after` are the scenes of a plan and of that plan after an edit that it accepts, and `boxes` those of
 /// the edit, as `Plan::with` and `Plan::changed` give them.
 ///
-/// But for want of memory, `Err(TooManyLines)` is answered exactly where there are more than [`MAX_AXIAL_LINES`].
+/// Where there is memory, `Err(TooManyLines)` is answered exactly where there are more than [`MAX_AXIAL_LINES`].
 ///
 /// Cost: after a removal a pass over the old lines, one over the dirty lines for each corner, a look for each dirty
 /// corner, and for each pair of these twice a search in a view, and where they see each other twice two more. Where

@@ -2,7 +2,7 @@
 
 ghost use Rattle.std.specs.Prelude.{◌≡◌, ◌∷◌, ◌<◌, ◌≤◌, ◌^◌, [], codes, count_by, is_some, length, unwrap_or, OnErr, OnOk};
 ghost use Rattle.dm_io.specs.Streams.{WritesPrefix, appended_to};
-ghost use Rattle.graph_spec.specs.Graphs.{mean_depth, total_depth};
+ghost use Rattle.graph_spec.specs.Graphs.{total_depth};
 ghost use Rattle.report_spec.specs.Records.{records_bytes};
 ghost use Rattle.report_spec.specs.Tables.{turn_row, turn_totals, turns_table};
 ghost use Rattle.reports.specs.Faults.{Counts};
@@ -12,9 +12,9 @@ use crate::lists::element;
 use crate::record::Record;
 use crate::table::{Rows, put_table_with_total};
 use dm_io::Sink;
-use exact_geom::Frac;
 use options_spec::Form;
 use std::alloc::Global;
+use step_depth::mean_of;
 use text_spec::NoMemory;
 
 /// The row of a piece with its turn depth.
@@ -61,16 +61,6 @@ fn sum_depths(depths: &[Option<u32>]) -> u64
         sum += depth_or_zero(*depth);
     }
     sum
-}
-
-/// The mean over all but one of those reached, where there are others.
-fn mean_of(reached: u64, total: u64) -> Option<Frac>
-    ensures { result ≡ mean_depth reached total }
-{
-    if reached < 2 {
-        return None;
-    }
-    Some(Frac::new(i128::from(total), i128::from(reached - 1)))
 }
 
 /// The record of totals: how many are reached, the sum of their depths, and the mean.
