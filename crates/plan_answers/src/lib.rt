@@ -11,8 +11,8 @@
 //! remove nobody   refused 2 missing
 //! ```
 //!
-//! All that a reply needs is computed before its first byte is written: where there is no memory, that comes before `ok`, or while the
-//! rows are made. What is printed is what `report_spec` says of the plan, whatever the session keeps.
+//! All that a reply needs is computed before its first byte is written: memory gives out before `ok`, or while the rows
+//! are made. What is printed is what `report_spec` says of the plan, whatever the session keeps.
 #![tactic(auto)]
 
 mod found;
