@@ -6,8 +6,8 @@ use Rattle.grammar_spec.specs.declared.limits.TheConstants.{MAX_PLAN_BYTES}
 use Rattle.plan_spec.specs.Plan.{Plan}
 use Rattle.report_spec.specs.declared.reason.Reason.{Reason}
 use Rattle.report_spec.specs.PlanFile.{PlanFound, plan_in_file}
-use Rattle.depthmap_app.specs.declared.plan_file.PlanFault.{PlanFault}
-use Rattle.depthmap_app.specs.declared.plan_file.PlanFault.TheVariants.{Refused, Unread, NoMemory, TooLong}
+use Rattle.plan_file.specs.declared.reading.PlanFault.{PlanFault}
+use Rattle.plan_file.specs.declared.reading.PlanFault.TheVariants.{Refused, Unread, NoMemory, TooLong}
 
 -- ---- the bytes of a plan's file
 

@@ -1,9 +1,9 @@
 use Rattle.std.proofs.Common.{◌≡◌, ◌+◌, ◌∙◌, Bor, List, [], ℕ, drop, get_or, refl, sym, ap}
 use Rattle.dm_io.proofs.Pieces.{keeps-all, keeps-prefix, keeps-put, keeps-start}
 use Rattle.dm_io.proofs.Known.{appended_to-nothing}
-use Rattle.depthmap_app.proofs.PiecesLeft.{all_of, pieces_left-first, pieces_left-none}
-use Rattle.depthmap_app.proofs.Results.{on_err-always}
-use Rattle.depthmap_app.proofs.messages.put_pieces.Goals as goal
+use Rattle.plan_file.proofs.PiecesLeft.{all_of, pieces_left-first, pieces_left-none}
+use Rattle.plan_file.proofs.Results.{on_err-always}
+use Rattle.plan_file.proofs.messages.put_pieces.Goals as goal
 
 abbrev no_piece : Bor (List ℕ)
 no_piece = record { ref_ptr = (0, 0); now = [] }

@@ -1,7 +1,7 @@
 use Rattle.std.proofs.Common.{◌≡◌, drop}
 use Rattle.std.specs.List.{flat_map}
 use Rattle.dm_io.specs.OutputBuffer.{WritesAndBuffers}
-use Rattle.depthmap_app.proofs.messages.put_pieces.Given as goal
+use Rattle.plan_file.proofs.messages.put_pieces.Given as goal
 
 abbrev pub invariant-loop-piece : goal.invariant-loop-piece
 invariant-loop-piece g l = record {
