@@ -11,11 +11,11 @@ use Rattle.plan_spec.specs.Plan.{Plan}
 use Rattle.report_spec.specs.declared.reason.Reason.{Reason}
 use Rattle.report_spec.specs.PlanFile.{PlanFound, plan_in_file}
 use Rattle.depthmap_app.specs.Ends.{Ends, EndsAnalysis, EndsJob, EndsOverPlan, EndsTrial, EndsWithoutPlan, IsComplete, IsCompleteAnalysis, IsCompleteJob, IsDone}
-use Rattle.depthmap_app.specs.PlanFiles.{HoldsPlan, IsWhole}
-use Rattle.depthmap_app.specs.Streams.{Streams}
+use Rattle.plan_file.specs.PlanFiles.{HoldsPlan, IsWhole}
+use Rattle.plan_file.specs.Streams.{Streams}
 use Rattle.depthmap_app.specs.declared.status.Status.{Status}
 use Rattle.depthmap_app.specs.declared.status.Status.TheVariants.{Done, DoneWithRefusals, BadWords, BadPlan, ReadFault, WriteFault, NoMemory, TooLong}
-use Rattle.depthmap_app.proofs.KnownBytes.{if_known, prefix-at_most, whole-known}
+use Rattle.plan_file.proofs.KnownBytes.{if_known, prefix-at_most, whole-known}
 
 no_plan : (plan : Plan) (line : ℕ) (reason : Reason) (found : PlanFound) → found ≡ Ok plan → found ≡ Err (line, reason) → ⊥
 no_plan plan line reason found e f = none (sym e ∙ f)

@@ -5,7 +5,7 @@ use Rattle.options_spec.specs.declared.options.Job.TheVariants.{Trial}
 use Rattle.options_spec.specs.declared.options.Options.{Options}
 use Rattle.words_spec.specs.CommandWords.{options_in}
 use Rattle.depthmap_app.specs.Ends.{Ends, EndsJob, EndsTrial}
-use Rattle.depthmap_app.specs.Streams.{Streams}
+use Rattle.plan_file.specs.Streams.{Streams}
 use Rattle.depthmap_app.specs.Words.{options_given}
 use Rattle.depthmap_app.specs.declared.status.Status.{Status}
 

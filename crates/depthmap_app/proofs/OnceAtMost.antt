@@ -7,59 +7,37 @@ use Rattle.options_spec.specs.declared.options.Mode.{Mode}
 use Rattle.options_spec.specs.declared.options.Options.{Options}
 use Rattle.plan_spec.specs.Plan.{Plan}
 use Rattle.depthmap_app.specs.Ends.{Ends, EndsAnalysis, EndsJob, EndsOverPlan, EndsTrial, EndsWithoutOptions, EndsWithoutPlan}
-use Rattle.depthmap_app.specs.Statuses.{IsSaid, IsSilent, SaysWhy, message_of}
-use Rattle.depthmap_app.specs.Streams.{Faults, OnlyFilesFailed, OnlyOutFailed, OnlyScriptFailed, RoseOnceAtMost, Streams}
+use Rattle.plan_file.specs.Said.{IsSaid, IsSilent, SaysWhy}
+use Rattle.plan_file.proofs.Counts.{Once, once-files, once-none, once-out, once-said, once-script}
+use Rattle.report_spec.specs.Messages.{plan_message}
+use Rattle.depthmap_app.specs.Statuses.{message_of}
+use Rattle.plan_file.specs.Streams.{RoseOnceAtMost, Streams}
 use Rattle.depthmap_app.specs.declared.status.Status.{Status}
 use Rattle.depthmap_app.specs.declared.status.Status.TheVariants.{Done, DoneWithRefusals, BadWords, BadPlan, ReadFault, WriteFault, NoMemory, TooLong}
-
--- no count of files, script and output rose by more than one
-record Once (old new : Faults) : Type 0 where
-  files : new.files ≤ old.files + 1
-  script : new.script ≤ old.script + 1
-  out : new.out ≤ old.out + 1
-
-none : (old new : Faults) → new ≡ old → Once old new
-none old new e = record {
-  files = omega (arith, ap (λ (f : Faults). f.files) e);
-  script = omega (arith, ap (λ (f : Faults). f.script) e);
-  out = omega (arith, ap (λ (f : Faults). f.out) e);
-}
-
-of_files : (old new : Faults) → OnlyFilesFailed old new → Once old new
-of_files old new e =
-    record { files = omega (arith, e.0); script = omega (arith, e.1); out = omega (arith, e.2) }
-
-of_script : (old new : Faults) → OnlyScriptFailed old new → Once old new
-of_script old new e =
-    record { files = omega (arith, e.0); script = omega (arith, e.1); out = omega (arith, e.2) }
-
-of_out : (old new : Faults) → OnlyOutFailed old new → Once old new
-of_out old new e =
-    record { files = omega (arith, e.0); script = omega (arith, e.1); out = omega (arith, e.2) }
 
 -- ---- by the status
 
 over : (mode : Mode) (form : Form) (plan : Plan) (old new : Streams) (status : Status)
     → EndsOverPlan mode form plan old new status → Once old.faults new.faults
-over mode form plan old new Done e = none old.faults new.faults e.faults
-over mode form plan old new DoneWithRefusals e = none old.faults new.faults e.faults
+over mode form plan old new Done e = once-none old.faults new.faults e.faults
+over mode form plan old new DoneWithRefusals e = once-none old.faults new.faults e.faults
 over mode form plan old new BadWords e = absurd e
 over mode form plan old new BadPlan e = absurd e
-over mode form plan old new ReadFault e = of_script old.faults new.faults e.faults
-over mode form plan old new WriteFault e = of_out old.faults new.faults e.1
-over mode form plan old new NoMemory e = none old.faults new.faults e.1
-over mode form plan old new TooLong e = none old.faults new.faults e.faults
+over mode form plan old new ReadFault e = once-script old.faults new.faults e.faults
+over mode form plan old new WriteFault e = once-out old.faults new.faults e.1
+over mode form plan old new NoMemory e = once-none old.faults new.faults e.1
+over mode form plan old new TooLong e = once-none old.faults new.faults e.faults
 
 without : (known : Option (List ℕ)) (old new : Streams) (status : Status) → EndsWithoutPlan known old new status
     → Once old.faults new.faults
 without known old new Done e = absurd e
 without known old new DoneWithRefusals e = absurd e
 without known old new BadWords e = absurd e
-without known old new BadPlan e = none old.faults new.faults e.2
-without known old new ReadFault e = of_files old.faults new.faults e.2
+without known old new BadPlan e = once-none old.faults new.faults e.2
+without known old new ReadFault e = once-files old.faults new.faults e.2
 without known old new WriteFault e = absurd e
-without known old new NoMemory e = none old.faults new.faults e.2
-without known old new TooLong e = none old.faults new.faults e.2
+without known old new NoMemory e = once-none old.faults new.faults e.2
+without known old new TooLong e = once-none old.faults new.faults e.2
 
 analysis : (mode : Mode) (form : Form) (known : Option (List ℕ)) (old new : Streams) (status : Status)
     → EndsAnalysis mode form known old new status → Once old.faults new.faults
@@ -68,23 +46,23 @@ analysis mode form known old new status (inr late) = over mode form late.0 old n
 
 trial : (form : Form) (boxes : ℕ) (old new : Streams) (status : Status) → EndsTrial form boxes old new status
     → Once old.faults new.faults
-trial form boxes old new Done e = none old.faults new.faults e.2
+trial form boxes old new Done e = once-none old.faults new.faults e.2
 trial form boxes old new DoneWithRefusals e = absurd e
 trial form boxes old new BadWords e = absurd e
 trial form boxes old new BadPlan e = absurd e
 trial form boxes old new ReadFault e = absurd e
-trial form boxes old new WriteFault e = of_out old.faults new.faults e.2
-trial form boxes old new NoMemory e = none old.faults new.faults e.2
+trial form boxes old new WriteFault e = once-out old.faults new.faults e.2
+trial form boxes old new NoMemory e = once-none old.faults new.faults e.2
 trial form boxes old new TooLong e = absurd e
 
 without_options : (old new : Streams) (status : Status) → EndsWithoutOptions old new status → Once old.faults new.faults
 without_options old new Done e = absurd e
 without_options old new DoneWithRefusals e = absurd e
-without_options old new BadWords e = none old.faults new.faults (ap (λ (s : Streams). s.faults) e)
+without_options old new BadWords e = once-none old.faults new.faults (ap (λ (s : Streams). s.faults) e)
 without_options old new BadPlan e = absurd e
 without_options old new ReadFault e = absurd e
 without_options old new WriteFault e = absurd e
-without_options old new NoMemory e = none old.faults new.faults (ap (λ (s : Streams). s.faults) e)
+without_options old new NoMemory e = once-none old.faults new.faults (ap (λ (s : Streams). s.faults) e)
 without_options old new TooLong e = absurd e
 
 by_job : (job : Job) (form : Form) (holds : List ℕ → Option (List ℕ)) (old new : Streams) (status : Status)
@@ -99,14 +77,9 @@ by_options (Some options) holds old new status e = by_job options.job options.fo
 
 -- ---- standard error
 
-said : (before after : Option (List ℕ)) (count count_after : ℕ) (message : List ℕ)
-    → IsSaid before after count count_after message → count_after ≤ count + 1
-said before after count count_after message (inl whole) = omega (arith, whole.1)
-said before after count count_after message (inr part) = omega (arith, part.1)
-
 -- what was said of a refused plan, and then nothing; or nothing, and then the line of the status
 by_line : (status : Status) (known left before mid after : Option (List ℕ)) (count count_mid count_after : ℕ)
-    → (status ≡ BadPlan → SaysWhy known left before mid count count_mid)
+    → (status ≡ BadPlan → SaysWhy plan_message known left before mid count count_mid)
     → (status ≡ BadPlan) ⊎ IsSilent before mid count count_mid
     → IfSome (message_of status) (IsSaid mid after count_mid count_after)
     → IfNone (message_of status) (IsSilent mid after count_mid count_after) → count_after ≤ count + 1
@@ -115,22 +88,22 @@ by_line Done known left before mid after count count_mid count_after why silent 
 by_line DoneWithRefusals known left before mid after count count_mid count_after why silent line none' =
     elim silent [ inl bad ↦ absurd cc | inr still ↦ omega (arith, still.1, none'.1) ]
 by_line BadPlan known left before mid after count count_mid count_after why silent line none' =
-    omega (arith, said before mid count count_mid _ (why refl).3, none'.1)
+    omega (arith, once-said before mid count count_mid _ (why refl).3, none'.1)
 by_line BadWords known left before mid after count count_mid count_after why silent line none' =
-    elim silent [ inl bad ↦ absurd cc | inr still ↦ omega (arith, still.1, said mid after count_mid count_after _ line) ]
+    elim silent [ inl bad ↦ absurd cc | inr still ↦ omega (arith, still.1, once-said mid after count_mid count_after _ line) ]
 by_line ReadFault known left before mid after count count_mid count_after why silent line none' =
-    elim silent [ inl bad ↦ absurd cc | inr still ↦ omega (arith, still.1, said mid after count_mid count_after _ line) ]
+    elim silent [ inl bad ↦ absurd cc | inr still ↦ omega (arith, still.1, once-said mid after count_mid count_after _ line) ]
 by_line WriteFault known left before mid after count count_mid count_after why silent line none' =
-    elim silent [ inl bad ↦ absurd cc | inr still ↦ omega (arith, still.1, said mid after count_mid count_after _ line) ]
+    elim silent [ inl bad ↦ absurd cc | inr still ↦ omega (arith, still.1, once-said mid after count_mid count_after _ line) ]
 by_line NoMemory known left before mid after count count_mid count_after why silent line none' =
-    elim silent [ inl bad ↦ absurd cc | inr still ↦ omega (arith, still.1, said mid after count_mid count_after _ line) ]
+    elim silent [ inl bad ↦ absurd cc | inr still ↦ omega (arith, still.1, once-said mid after count_mid count_after _ line) ]
 by_line TooLong known left before mid after count count_mid count_after why silent line none' =
-    elim silent [ inl bad ↦ absurd cc | inr still ↦ omega (arith, still.1, said mid after count_mid count_after _ line) ]
+    elim silent [ inl bad ↦ absurd cc | inr still ↦ omega (arith, still.1, once-said mid after count_mid count_after _ line) ]
 
 pub once-at_most : (options : Option Options) (holds : List ℕ → Option (List ℕ)) (old new : Streams)
     (known left before mid after : Option (List ℕ)) (count count_mid count_after : ℕ) (status : Status)
     → Ends options holds old new status
-    → (status ≡ BadPlan → SaysWhy known left before mid count count_mid)
+    → (status ≡ BadPlan → SaysWhy plan_message known left before mid count count_mid)
     → (status ≡ BadPlan) ⊎ IsSilent before mid count count_mid
     → IfSome (message_of status) (IsSaid mid after count_mid count_after)
     → IfNone (message_of status) (IsSilent mid after count_mid count_after)

@@ -15,8 +15,8 @@ use Rattle.script_loop.specs.Steps.{has_refusal_by, replies_by, state_after}
 use Rattle.depthmap_app.specs.Ends.{EndsOverPlan, IsAnswered, IsAnsweredInPart, ScriptTooLong, ScriptUnread}
 use Rattle.depthmap_app.specs.Lines.{DeskState, desk, line_step}
 use Rattle.depthmap_app.specs.Statuses.{done_status}
-use Rattle.depthmap_app.specs.Streams.{Faults, Streams, faults, streams}
 use Rattle.depthmap_app.specs.declared.status.Status.{Status}
+use Rattle.plan_file.specs.Streams.{Faults, Streams, faults, streams}
 use Rattle.depthmap_app.proofs.Replied.{bytes-are, output-begun, output-refusal, output-written, plan-left, refusal-is, replies-begun}
 
 -- the script's count and the output's stay

@@ -9,12 +9,12 @@ use Rattle.options_spec.specs.declared.options.Options.{Options}
 use Rattle.plan_spec.specs.Plan.{Plan}
 use Rattle.report_spec.specs.Output.{is_refused_by, job_is_refused, output_by, output_is_refused, output_of, output_of_job, trial_output}
 use Rattle.depthmap_app.specs.Ends.{Ends, EndsAnalysis, EndsJob, HasOutput, IsAnswered, IsOutput, OfInput}
-use Rattle.depthmap_app.specs.PlanFiles.{HoldsPlan, ReadsPlan}
+use Rattle.plan_file.specs.PlanFiles.{HoldsPlan, ReadsPlan}
 use Rattle.depthmap_app.specs.Statuses.{done_status}
-use Rattle.depthmap_app.specs.Streams.{Streams}
+use Rattle.plan_file.specs.Streams.{Streams}
 use Rattle.depthmap_app.specs.declared.status.Status.{Status}
 use Rattle.depthmap_app.specs.declared.status.Status.TheVariants.{Done, DoneWithRefusals, BadWords, BadPlan, ReadFault, WriteFault, NoMemory, TooLong}
-use Rattle.depthmap_app.proofs.KnownBytes.{if_known, whole-known}
+use Rattle.plan_file.proofs.KnownBytes.{if_known, whole-known}
 
 -- ---- the definitions by the job
 

@@ -11,9 +11,9 @@ use Rattle.options_spec.specs.declared.options.Mode.{Mode}
 use Rattle.options_spec.specs.declared.options.Options.{Options}
 use Rattle.report_spec.specs.declared.reason.Reason.{Reason}
 use Rattle.report_spec.specs.Output.{is_refused_by, output_by, output_is_refused, output_of, reply_bytes, trial_output}
-use Rattle.depthmap_app.specs.PlanFiles.{HoldsPlan, ReadsPlan, ReadsRefused, TakesPart, TakesTooMany}
+use Rattle.plan_file.specs.PlanFiles.{HoldsPlan, ReadsPlan, ReadsRefused, TakesPart, TakesTooMany}
 use Rattle.depthmap_app.specs.Statuses.{done_status}
-use Rattle.depthmap_app.specs.Streams.{OnlyFilesFailed, OnlyOutFailed, OnlyScriptFailed, Streams}
+use Rattle.plan_file.specs.Streams.{OnlyFilesFailed, OnlyOutFailed, OnlyScriptFailed, Streams}
 use Rattle.depthmap_app.specs.declared.status.Status.{Status}
 use Rattle.depthmap_app.specs.declared.status.Status.TheVariants.{Done, DoneWithRefusals, BadWords, BadPlan, ReadFault, WriteFault, NoMemory, TooLong}
 

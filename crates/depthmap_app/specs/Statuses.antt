@@ -1,9 +1,7 @@
 -- The statuses: their numbers, and what each says on standard error.
-use Rattle.std.specs.Prelude.{◌≡◌, ◌⊎◌, ◌+◌, ℕ, Bool, List, Option, Some, None, if◌then◌else◌}
-use Rattle.report_spec.specs.declared.reason.Reason.{Reason}
+use Rattle.std.specs.Prelude.{ℕ, Bool, List, Option, Some, None, if◌then◌else◌}
 use Rattle.report_spec.specs.Messages.{usage_message, plan_message, read_message, write_message, memory_message, length_message}
-use Rattle.dm_io.specs.Streams.{WritesPrefix, appended_to}
-use Rattle.depthmap_app.specs.PlanFiles.{ReadsRefused}
+use Rattle.plan_file.specs.Said.{IsSaid, IsSilent, SaysWhy}
 use Rattle.depthmap_app.specs.declared.status.Status.{Status}
 use Rattle.depthmap_app.specs.declared.status.Status.TheVariants.{Done, DoneWithRefusals, BadWords, BadPlan, ReadFault, WriteFault, NoMemory, TooLong}
 
@@ -22,31 +20,15 @@ code_of TooLong = 7
 abbrev pub done_status : Bool → Status
 done_status refused = if refused then DoneWithRefusals else Done
 
--- ---- standard error, by what was written there and how often it had failed, each before and after
+-- ---- standard error
 
--- nothing was said
-abbrev pub IsSilent : Option (List ℕ) → Option (List ℕ) → ℕ → ℕ → Type 0
-IsSilent before after faults faults_after = (after ≡ before) × (faults_after ≡ faults)
-
--- the message was written; or a prefix of it, and then standard error failed once
-abbrev pub IsSaid : Option (List ℕ) → Option (List ℕ) → ℕ → ℕ → List ℕ → Type 0
-IsSaid before after faults faults_after message =
-    ((after ≡ appended_to before message) × (faults_after ≡ faults))
-    ⊎ (WritesPrefix before after message × (faults_after ≡ faults + 1))
-
--- the file was read to its end and holds no plan, by what is known of it and what is left; the line at fault was said with
--- its reason
-abbrev pub SaysWhy : Option (List ℕ) → Option (List ℕ) → Option (List ℕ) → Option (List ℕ) → ℕ → ℕ → Type 0
-SaysWhy known left before after faults faults_after =
-    (line : ℕ) × (reason : Reason) × ReadsRefused known left line reason
-    × IsSaid before after faults faults_after (plan_message line reason)
-
--- by the status
+-- by the status, what is known of the plan's file, what is left of it, and what was written on standard error and how often
+-- that had failed, each before and after
 abbrev pub Says : Option (List ℕ) → Option (List ℕ) → Option (List ℕ) → Option (List ℕ) → ℕ → ℕ → Status → Type 0
 Says known left before after faults faults_after Done = IsSilent before after faults faults_after
 Says known left before after faults faults_after DoneWithRefusals = IsSilent before after faults faults_after
 Says known left before after faults faults_after BadWords = IsSaid before after faults faults_after usage_message
-Says known left before after faults faults_after BadPlan = SaysWhy known left before after faults faults_after
+Says known left before after faults faults_after BadPlan = SaysWhy plan_message known left before after faults faults_after
 Says known left before after faults faults_after ReadFault = IsSaid before after faults faults_after read_message
 Says known left before after faults faults_after WriteFault = IsSaid before after faults faults_after write_message
 Says known left before after faults faults_after NoMemory = IsSaid before after faults faults_after memory_message

@@ -9,14 +9,14 @@
 //!
 //! Data goes one way: words, options, the plan's file, a session on the plan, the script's lines and their replies,
 //! the tables of the mode. The definitions that the contract of [`run`] cites stand in `specs/`, in the order in
-//! which they are read: `Words` says which options the words give, `Streams` what a run reads and writes, `PlanFiles`
-//! which plan a file holds, `Ends` what each status says of them, `Statuses` what is said on standard error.
+//! which they are read: `Words` says which options the words give, `Streams` of `plan_file` what a run reads and writes,
+//! `PlanFiles` of `plan_file` which plan a file holds, `Ends` what each status says of them, `Statuses` with `Said` of
+//! `plan_file` what is said on standard error.
 #![tactic(auto)]
 
 mod desk;
 mod host;
 mod messages;
-mod plan_file;
 mod program;
 mod status;
 mod words;

@@ -3,13 +3,14 @@
 ghost use Rattle.std.specs.Prelude.{◌≡◌, ◌⊎◌, ◌≤◌, ◌<◌, ◌-◌, ◌^◌, ◌||◌, IfSome, IsTrue, List, Option, ℕ};
 ghost use Rattle.options_spec.specs.declared.options.TheConstants.{MAX_TRIAL_BOXES, MAX_WORKERS};
 ghost use Rattle.depthmap_app.specs.Ends.{Ends, EndsAnalysis, EndsJob, EndsOverPlan, EndsTrial, HasOutput, IsComplete};
-ghost use Rattle.depthmap_app.specs.Statuses.{IsSilent, Says, SaysWhy, done_status};
-ghost use Rattle.depthmap_app.specs.Streams.{RoseOnceAtMost, faults, streams};
+ghost use Rattle.plan_file.specs.Said.{IsSilent, SaysWhy};
+ghost use Rattle.plan_file.specs.Streams.{RoseOnceAtMost, faults, streams};
+ghost use Rattle.report_spec.specs.Messages.{plan_message};
+ghost use Rattle.depthmap_app.specs.Statuses.{Says, done_status};
 ghost use Rattle.depthmap_app.specs.Words.{file_of, file_of_job, known_file, options_given};
 
 use crate::desk::Desk;
-use crate::messages::{say, say_why};
-use crate::plan_file::{PlanFault, plan_in_file};
+use crate::messages::say;
 use crate::status::Status;
 use crate::words::texts_of;
 use command_words::options_in;
@@ -19,6 +20,7 @@ use options_spec::{Form, Job, Mode, Options};
 use plan_answers::{put_mode, put_trial_of};
 use plan_check::Plan;
 use plan_edit::Session;
+use plan_file::{PlanFault, plan_in_file, say_why};
 use reports::ReportFault;
 use script_loop::{ScriptEnd, answer_script};
 use std::alloc::Global;
@@ -128,7 +130,7 @@ fn analyse<F: Files, S: Source, O: Sink, E: Sink, G: Gate>(
         (faults (F.faults files.new) (S.faults script.new) (O.faults out.new)))
         result }
     ensures why { result ≡ Status.BadPlan →
-        SaysWhy (F.holds files.old name.now) (F.left files.new)
+        SaysWhy plan_message (F.holds files.old name.now) (F.left files.new)
         (E.written err.old) (E.written err.new) (E.faults err.old) (E.faults err.new) }
     ensures silent { (result ≡ Status.BadPlan)
         ⊎ IsSilent (E.written err.old) (E.written err.new) (E.faults err.old) (E.faults err.new) }
@@ -136,7 +138,7 @@ fn analyse<F: Files, S: Source, O: Sink, E: Sink, G: Gate>(
     match plan_in_file(alloc, files, name) {
         Ok(plan) => answer_over(rt, alloc, plan, mode, form, workers, script, out, gate),
         Err(PlanFault::Refused { line, reason }) => {
-            say_why(err, line, &reason);
+            say_why(err, b"depthmap", line, &reason);
             Status::BadPlan
         }
         Err(PlanFault::Unread) => Status::ReadFault,
@@ -195,7 +197,7 @@ fn answer<F: Files, S: Source, O: Sink, E: Sink, G: Gate>(
         (faults (F.faults files.new) (S.faults script.new) (O.faults out.new)))
         result }
     ensures why { result ≡ Status.BadPlan →
-        SaysWhy (known_file (options_given words.now) (F.holds files.old)) (F.left files.new)
+        SaysWhy plan_message (known_file (options_given words.now) (F.holds files.old)) (F.left files.new)
         (E.written err.old) (E.written err.new) (E.faults err.old) (E.faults err.new) }
     ensures silent { (result ≡ Status.BadPlan)
         ⊎ IsSilent (E.written err.old) (E.written err.new) (E.faults err.old) (E.faults err.new) }

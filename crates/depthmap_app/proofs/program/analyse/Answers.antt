@@ -1,7 +1,6 @@
 use Rattle.std.proofs.Common.{◌≡◌, ◌⊎◌, inl, inr, refl, ap, sym, subst, ◌∙◌}
 use Rattle.depthmap_app.specs.Ends.{EndsOverPlan}
-use Rattle.depthmap_app.specs.Statuses.{SaysWhy}
-use Rattle.depthmap_app.specs.Streams.{faults, streams}
+use Rattle.plan_file.specs.Streams.{faults, streams}
 use Rattle.depthmap_app.specs.declared.status.Status.TheVariants.{BadPlan}
 use Rattle.depthmap_app.proofs.program.analyse.Goals as goal
 

@@ -1,0 +1,3 @@
+pub mod DeskText
+pub mod Desks
+pub mod DeskOutput

@@ -1,0 +1,3 @@
+pub mod PlanFiles
+pub mod Said
+pub mod Streams
