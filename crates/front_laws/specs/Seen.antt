@@ -74,7 +74,6 @@ pub record AreTogether (d : Point) (v w : Seen) : Type 0 where
   pub apart : are_apart v w ≡ true
   pub back : are_apart w v ≡ true
 
-
 -- the wall or screen of the number, as it is seen from p
 abbrev pub seen_at : Point → List Segment → ℕ → Option Seen
 seen_at p blockers k = get_or (map (seen_of p) blockers) k None
