@@ -21,7 +21,7 @@ use Rattle.plan_spec.specs.Accepted.{segment_lies_within, touches_border, is_pro
 use Rattle.plan_spec.specs.Accepted.{screens_apart, is_sound}
 use Rattle.plan_spec.specs.Plan.{Obstacle, Plan}
 use Rattle.plan_spec.specs.declared.item.Screen.{Screen}
-use Rattle.plane_spec.specs.Polygons.{edges_of, crosses_no_segment, is_simple, has_repeat, borders_touch, is_inside}
+use Rattle.plane_spec.specs.Polygons.{edges_of, crosses_nowhere, is_simple, has_repeat, borders_touch, is_inside}
 use Rattle.plane_spec.specs.Polygons.{edges_touch, folds_back}
 use Rattle.plane_spec.specs.Segments.{do_touch, is_on_segment}
 use Rattle.plane_spec.specs.Vectors.{is_in_range, vector, cross_of, point, same_point}
@@ -54,11 +54,11 @@ edges_of_plan plan = (edges_of plan.outer ++ flat_map edges_of_obstacle plan.obs
     plan.screens
 
 pub own_edges : (points : List Point) → is_polygon points ≡ true → each_two stands (edges_of points) ≡ true
-unfolding crosses_no_segment
+unfolding crosses_nowhere
 own_edges points h =
     let a = and_parts (list_all is_in_range points) (is_simple points) h in
-    let b = and_parts (nat_le 3 (length points)) (not (has_repeat points) && crosses_no_segment points) a.1 in
-    let c = and_parts (not (has_repeat points)) (crosses_no_segment points) b.1 in
+    let b = and_parts (nat_le 3 (length points)) (not (has_repeat points) && crosses_nowhere points) a.1 in
+    let c = and_parts (not (has_repeat points)) (crosses_nowhere points) b.1 in
     polygon_stands (length points) points refl c.1
 
 within_outer : (outer points : List Point) → lies_within outer points ≡ true
