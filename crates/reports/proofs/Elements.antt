@@ -47,8 +47,15 @@ pub open_few : {X Y Z : Type 0} (g : Y → Z) (f : ℕ × X → Y) (p : ℕ × X
     → length xs < 2 ^ 64 → length (map g (map f (filter p (enumerate_from k xs)))) < 2 ^ 64
 open_few g f p k xs few =
     let numbered = enumerate_from k xs in
-    omega (arith, length-map (map f (filter p numbered)) g, length-map (filter p numbered) f, length-filter p numbered,
-    count_by-le-length p numbered, numbered_length k xs, few)
+    omega (
+      arith,
+      length-map (map f (filter p numbered)) g,
+      length-map (filter p numbered) f,
+      length-filter p numbered,
+      count_by-le-length p numbered,
+      numbered_length k xs,
+      few,
+    )
 
 -- none are left
 pub open_none : {X : Type 0} (p : ℕ × X → Bool) (k : ℕ) (xs : List X) → length xs ≤ k

@@ -57,7 +57,7 @@ pub begun : (before : Option (List ℕ)) (waiting : List ℕ) (form : Form) (kin
 begun before waiting form kind rows total none = (
   [],
   ap (λ w. w ++ (record_bytes form (head kind) ++ after_head form rows total)) none
-  ∙ sym (in_parts form kind rows total),
+      ∙ sym (in_parts form kind rows total),
   appended_to-nothing before,
 )
 

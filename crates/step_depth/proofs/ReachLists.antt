@@ -37,8 +37,8 @@ parts_joined f first middle end low high all a b left right is =
     let len : middle - first + (end - middle) ≡ end - first = omega arith in
     is ∙ ap (λ xs. xs ++ high) left ∙ ap (λ xs. map f (range_with_len first (middle - first)) ++ xs) right
     ∙ sym (ap (map f) (range_cat first (middle - first) (end - middle))
-        ∙ map-append f (range_with_len first (middle - first)) (range_with_len (first + (middle - first)) (end - middle))
-        ∙ ap (λ (k : ℕ). map f (range_with_len first (middle - first)) ++ map f (range_with_len k (end - middle))) at)
+    ∙ map-append f (range_with_len first (middle - first)) (range_with_len (first + (middle - first)) (end - middle))
+    ∙ ap (λ (k : ℕ). map f (range_with_len first (middle - first)) ++ map f (range_with_len k (end - middle))) at)
     ∙ ap (λ (k : ℕ). map f (range_with_len first k)) len
 
 measured_is : (g : Graph) (i : ℕ) → measured (reach_of g i) ≡ measures_of g i

@@ -1,6 +1,5 @@
 -- The starting points are nodes, and the visits have room.
 use Rattle.std.proofs.Common.{◌≡◌, ℕ, zero, suc, ◌+◌, ◌*◌, ◌^◌, ◌<◌, ◌≤◌, List, [], ◌∷◌, All, length, map, take, refl, sym, ap, ◌∙◌, arith, subst}
-use Rattle.std.specs.Prelude.{Option}
 use Rattle.std.specs.List.{filter, enumerate_from, sum}
 use Rattle.std.proofs.lemmas.List.Elements.{All-nil, All-cons, All-filter, All-map}
 use Rattle.plane_spec.specs.declared.Point.{Point}
@@ -8,8 +7,6 @@ use Rattle.plan_spec.specs.Plan.{Plan}
 use Rattle.plan_spec.specs.Grid.{grid_points}
 use Rattle.sight_spec.specs.Sight.{is_open}
 use Rattle.sight_spec.specs.Visibility.{open_points}
-use Rattle.dm_io.specs.Streams.{WritesPrefix, appended_to}
-use Rattle.dm_io.proofs.Known.{appended_to-nothing}
 
 -- numbers of elements are below how many there are
 numbers_below : {X : Type 0} (k n : ℕ) (xs : List X) → k + length xs ≤ n → All (λ (e : ℕ × X). e.0 < n) (enumerate_from k xs)
@@ -34,7 +31,3 @@ product_at_most (suc a) b m h =
 pub sum_has_room : (total walkers steps : ℕ) → total ≡ walkers * (steps + 1) → walkers ≤ 1000 → steps ≤ 10000 → total < 2 ^ 64
 sum_has_room total walkers steps e w s =
     omega (arith, e, product_at_most walkers (steps + 1) 10001 (omega (arith, s)), w)
-
--- nothing is a prefix
-pub writes_nothing : (old : Option (List ℕ)) (bytes : List ℕ) → WritesPrefix old old bytes
-writes_nothing old bytes = (0, omega arith, appended_to-nothing old)

@@ -27,7 +27,7 @@ pub enum WalkFault {
 }
 
 /// Prints how often walkers visit each open point of a plan's grid: number, x, y, visits; then the sum of all visits. It is
-/// the same for every number of workers. Where there is no open point, nothing is printed.
+/// the same for every number of workers. Where there is no open point, nothing is printed, also where there is no memory.
 ///
 /// Cost: that of [`plan_visits`], and of [`put_visits`].
 pub fn put_walk<R: Threads + Sync, O: Sink, G: Gate>(

@@ -1,4 +1,4 @@
-use Rattle.std.proofs.Common.{◌≡◌, ◌+◌, ◌∙◌, Bor, List, [], ℕ, drop, get_or, refl, sym, ap}
+use Rattle.std.proofs.Common.{◌+◌, ◌∙◌, Bor, List, [], ℕ, drop, get_or, refl}
 use Rattle.dm_io.proofs.Pieces.{keeps-all, keeps-prefix, keeps-put, keeps-start}
 use Rattle.dm_io.proofs.Known.{appended_to-nothing}
 use Rattle.plan_file.proofs.PiecesLeft.{all_of, pieces_left-first, pieces_left-none}

@@ -5,8 +5,13 @@ use Rattle.trial_gen.proofs.plans.trial.Goals as goal
 pub loop-i-init : goal.loop-i-init
 loop-i-init c =
     let same : c.push-2.new.self ≡ room c.root_above-c.result =
-    rw (c.in_ok-push-2.ensures.ok, c.in_ok-push.ensures.ok, c.new-items.ensures, c.in_ok-square_at.ensures,
-    c.grid.ensures) refl in
+    rw (
+      c.in_ok-push-2.ensures.ok,
+      c.in_ok-push.ensures.ok,
+      c.new-items.ensures,
+      c.in_ok-square_at.ensures,
+      c.grid.ensures,
+    ) refl in
     ap (λ items. items ++ boxes_from c.args.n c.root_above-c.result 0) same
     ∙ items_begun c.args.n c.root_above-c.result c.root_above-c.ensures.value
 

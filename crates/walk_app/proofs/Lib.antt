@@ -1,0 +1,5 @@
+mod Complete
+mod OnceAtMost
+mod OptionLimits
+mod OverPlan
+mod WholeOutput
