@@ -1,4 +1,4 @@
-//! Which cover may hide what is in a direction: by bins, 32 for each quarter turn.
+//! Which cover may hide what is in a direction: by bins, 64 for each quarter turn.
 //!
 //! A bin only proposes a cover, so nothing is proved of it.
 
@@ -12,38 +12,38 @@ use std::alloc::Global;
 use text_spec::NoMemory;
 
 /// So many bins.
-const BINS: usize = 128;
+const BINS: usize = 256;
 
 /// A bin without a cover.
 const NONE: u8 = 255;
 
 /// The bin of a direction that leads so far along the first and so far along the second side of a quarter turn.
 fn bin_in(quarter: usize, first: u64, second: u64) -> usize
-    requires quarter_in { quarter ≤ 96 }
+    requires quarter_in { quarter ≤ 192 }
     requires first_in { first ≤ 400000 }
     requires second_in { second ≤ 400000 }
-    ensures within { result ≤ 128 }
+    ensures within { result ≤ 256 }
 {
     if first + second == 0 {
         return quarter;
     }
-    quarter + (second * 32 / (first + second)) as usize
+    quarter + (second * 64 / (first + second)) as usize
 }
 
 /// The bin of a direction.
 fn bin_of(d: Point) -> usize
     requires { IsDirection d }
-    ensures within { result ≤ 128 }
+    ensures within { result ≤ 256 }
 {
     let (x, y) = (size(d.x), size(d.y));
     if is_first(d) {
         bin_in(0, x, y)
     } else if is_second(d) {
-        bin_in(32, y, x)
+        bin_in(64, y, x)
     } else if is_third(d) {
-        bin_in(64, x, y)
+        bin_in(128, x, y)
     } else {
-        bin_in(96, y, x)
+        bin_in(192, y, x)
     }
 }
 

@@ -100,7 +100,7 @@ pub(crate) fn covers_of(
     requires p_in { InRange p }
     ensures { IfOk result (λ covers. All (IsOf table.now p) covers.items) }
 {
-    let mut covers = with_room(alloc, 32)?;
+    let mut covers = with_room(alloc, 96)?;
     for k in 0..near.len() {
         let second = number_of(near[k]);
         push_cover(&mut covers, bins, table, p, second.saturating_sub(1))?;

@@ -9,6 +9,7 @@
 //! | [`sweep`] | answers all targets from one point |
 //! | [`sight_by`], [`Sighting`] | whether a view sees a point, asked of many points in turn |
 //! | [`Bearing`], [`bearing_between`] | the direction to such a point with its place, made beforehand |
+//! | [`is_led_into`] | whether a direction leads from what the station stands on into what is blocked |
 //! | [`place_of`] | the place of a direction on the circle, as a number |
 //! | [`Steps`] | how many sweeps were made |
 //! | [`types_are_shared`] | all of these may be shared between threads |
@@ -78,6 +79,7 @@ pub use bearing::{Bearing, bearing_between};
 pub use count::Steps;
 pub use looking::look;
 pub use places::place_of;
+pub use reach::is_led_into;
 pub use row::{Sighting, sight_by};
 pub use shared::types_are_shared;
 pub use sight_spec::Target;

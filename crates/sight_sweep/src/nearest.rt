@@ -18,7 +18,7 @@ use text_spec::NoMemory;
 use view_laws::Arc;
 
 /// So many pairs are proposed at most.
-const MANY: usize = 16;
+const MANY: usize = 48;
 
 /// How far off it is, and the number, in one number.
 fn key(far: u64, number: u32) -> u64

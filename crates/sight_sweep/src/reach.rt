@@ -69,8 +69,10 @@ pub(crate) fn told_at(view: &View, place: u64) -> Told
 }
 
 /// Whether the direction leads from what the station stands on into what is blocked.
+///
+/// Cost: at most three orientations.
 #[tactic(auto, unfolding(view_laws::specs::Views::is_led_into))]
-pub(crate) fn is_led_into(ground: Ground, d: Point) -> bool
+pub fn is_led_into(ground: Ground, d: Point) -> bool
     requires in_range { IsGroundInRange ground }
     requires d_in { IsDirection d }
     ensures { result ≡ views.is_led_into ground d }

@@ -55,27 +55,8 @@ fn points_of(rt: &impl Abort, alloc: Global, corners: &[Point]) -> Points {
     points
 }
 
-/// The scene of a box of side 10 with boxes and screens in it.
-fn scene(
-    rt: &impl Abort,
-    alloc: Global,
-    boxes: &[(Point, Point)],
-    screens: &[(Point, Point)],
-) -> Scene {
-    let mut items = Items::new(alloc);
-    let outer = points_of(rt, alloc, &[at(0, 0), at(10, 0), at(10, 10), at(0, 10)]);
-    push(rt, &mut items, Item::Outer(outer));
-    let mut letter = b'A';
-    for (low, high) in boxes {
-        let corners = [*low, at(high.x, low.y), *high, at(low.x, high.y)];
-        let points = points_of(rt, alloc, &corners);
-        push(rt, &mut items, Item::Obstacle(name(rt, letter), points));
-        letter = letter.wrapping_add(1);
-    }
-    for (from, to) in screens {
-        push(rt, &mut items, Item::Screen(name(rt, letter), *from, *to));
-        letter = letter.wrapping_add(1);
-    }
+/// The scene of accepted items.
+fn scene_of_items(rt: &impl Abort, alloc: Global, items: Items) -> Scene {
     let plan = match check(alloc, &PlanData { items }) {
         Ok(plan) => plan,
         Err(_) => panic!(rt; "the plan is accepted"),
@@ -84,6 +65,38 @@ fn scene(
         Ok(scene) => scene,
         Err(_) => panic!(rt; "there is memory"),
     }
+}
+
+/// The corners of the box.
+fn box_points(rt: &impl Abort, alloc: Global, low: Point, high: Point) -> Points {
+    points_of(
+        rt,
+        alloc,
+        &[low, at(high.x, low.y), high, at(low.x, high.y)],
+    )
+}
+
+/// The scene of a box of side 10 with boxes and screens in it.
+fn scene(
+    rt: &impl Abort,
+    alloc: Global,
+    boxes: &[(Point, Point)],
+    screens: &[(Point, Point)],
+) -> Scene {
+    let mut items = Items::new(alloc);
+    let outer = box_points(rt, alloc, at(0, 0), at(10, 10));
+    push(rt, &mut items, Item::Outer(outer));
+    let mut letter = b'A';
+    for (low, high) in boxes {
+        let points = box_points(rt, alloc, *low, *high);
+        push(rt, &mut items, Item::Obstacle(name(rt, letter), points));
+        letter = letter.wrapping_add(1);
+    }
+    for (from, to) in screens {
+        push(rt, &mut items, Item::Screen(name(rt, letter), *from, *to));
+        letter = letter.wrapping_add(1);
+    }
+    scene_of_items(rt, alloc, items)
 }
 
 /// The answer to one target.
@@ -293,4 +306,111 @@ fn what_a_box_hides_changes_no_answer(rt: HostRuntime) {
     ];
     sees_as_plain(&rt, alloc, &behind, &stations);
     reaches_as_plain(&rt, alloc, &behind, &stations);
+}
+
+/// The corners of a comb of 254 teeth, 1020 in all: at every second number two of them, one above the other.
+fn comb_points(rt: &impl Abort, alloc: Global) -> Points {
+    let mut points = Points::new(alloc);
+    for k in 0..510i64 {
+        let low = if k == 0 || k == 509 { 0 } else { 2 };
+        let (first, second) = if k % 2 == 0 { (low, 6) } else { (6, low) };
+        assert!(rt; points.push(at(2 * k, first)).is_ok());
+        assert!(rt; points.push(at(2 * k, second)).is_ok());
+    }
+    points
+}
+
+/// The ray reaches as far as the plain call says, and its first point is seen where the other plain call says so.
+fn answers_as_plain(rt: &impl Abort, alloc: Global, scene: &Scene, p: Point, d: Point) {
+    let (p, d) = (known(rt, p), heading(rt, d));
+    let number = near_wall(scene, p, d);
+    reaches(rt, alloc, scene, p, d, plain_stop(scene, p, d), number);
+    let q = known(rt, at(p.x.wrapping_add(d.x), p.y.wrapping_add(d.y)));
+    assert!(rt;
+        sees(rt, alloc, scene, p, q) == free(scene, p, q),
+        "({}, {}) ({}, {})",
+        p.x,
+        p.y,
+        d.x,
+        d.y
+    );
+}
+
+/// The most corners that a plan may have, in one comb, from the top of a tooth and from between two, in 512 directions.
+#[test]
+fn a_comb_of_all_corners_answers_as_the_plain_calls(rt: HostRuntime) {
+    let alloc = rt.alloc();
+    let mut items = Items::new(alloc);
+    push(
+        &rt,
+        &mut items,
+        Item::Outer(box_points(&rt, alloc, at(-10, -10), at(1030, 10))),
+    );
+    push(
+        &rt,
+        &mut items,
+        Item::Obstacle(name(&rt, b'A'), comb_points(&rt, alloc)),
+    );
+    let comb = scene_of_items(&rt, alloc, items);
+    assert!(&rt; comb.corners().len() == 1024);
+    for p in [at(509, 6), at(510, 4)] {
+        for k in -64..64i64 {
+            for d in [at(64, k), at(-64, k), at(k, 64), at(k, -64)] {
+                answers_as_plain(&rt, alloc, &comb, p, d);
+            }
+        }
+    }
+}
+
+/// A name for each number below 256.
+fn numbered(rt: &impl Abort, k: i64) -> Name {
+    let first = b'a'.wrapping_add((k / 16 % 16) as u8);
+    let second = b'a'.wrapping_add((k % 16) as u8);
+    match Name::of(&[first, second]) {
+        Some(name) => name,
+        None => panic!(rt; "two letters are a name"),
+    }
+}
+
+/// The scene of 255 boxes of many sizes in a box.
+fn scene_of_boxes(rt: &impl Abort, alloc: Global) -> Scene {
+    let mut items = Items::new(alloc);
+    push(
+        rt,
+        &mut items,
+        Item::Outer(box_points(rt, alloc, at(0, 0), at(160, 160))),
+    );
+    for k in 0..255i64 {
+        let (x, y) = (10 * (k % 16), 10 * (k / 16));
+        let high = at(x + 4 + k % 5, y + 5 + k % 4);
+        let points = box_points(rt, alloc, at(x + 1 + k % 3, y + 2), high);
+        push(rt, &mut items, Item::Obstacle(numbered(rt, k), points));
+    }
+    scene_of_items(rt, alloc, items)
+}
+
+/// A plan of 1024 corners, from each tenth of them.
+#[test]
+fn each_tenth_corner_of_the_largest_plan_answers_as_the_plain_calls(rt: HostRuntime) {
+    let alloc = rt.alloc();
+    let boxes = scene_of_boxes(&rt, alloc);
+    let corners = boxes.corners();
+    assert!(&rt; corners.len() == 1024);
+    for k in 0..103usize {
+        if 10 * k < corners.len() {
+            let p = corners[10 * k].here;
+            for d in [
+                at(1, 0),
+                at(0, 1),
+                at(-1, 0),
+                at(0, -1),
+                at(7, 4),
+                at(-9, 5),
+                at(-3, -8),
+                at(6, -6),
+            ] {
+                answers_as_plain(&rt, alloc, &boxes, p, d);
+            }
+        }
+    }
 }
