@@ -1,7 +1,7 @@
 use Rattle.std.proofs.Common.{◌≡◌, ◌∙◌, ◌||◌, ◌<◌, ℕ, List, Option, refl, ap, sym, subst, arith}
 use Rattle.depthmap_app.specs.Ends.{EndsOverPlan}
 use Rattle.depthmap_app.specs.Lines.{desk}
-use Rattle.depthmap_app.specs.Streams.{faults, streams}
+use Rattle.plan_file.specs.Streams.{faults, streams}
 use Rattle.depthmap_app.proofs.OverPlan.{answered, begun, ends-done, replied-in_part, same_counts, too_long, unread}
 use Rattle.depthmap_app.proofs.program.answer_at.Goals as goal
 

@@ -1,6 +1,6 @@
 use Rattle.std.proofs.Common.{ap, refl}
 use Rattle.plan_edit.specs.Sessions.{Session}
-use Rattle.depthmap_app.specs.Streams.{faults, streams}
+use Rattle.plan_file.specs.Streams.{faults, streams}
 use Rattle.depthmap_app.proofs.OverPlan.{nothing-answered, same_plan}
 use Rattle.depthmap_app.proofs.program.answer_over.Goals as goal
 
