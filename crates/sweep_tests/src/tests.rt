@@ -314,8 +314,9 @@ fn comb_points(rt: &impl Abort, alloc: Global) -> Points {
     for k in 0..510i64 {
         let low = if k == 0 || k == 509 { 0 } else { 2 };
         let (first, second) = if k % 2 == 0 { (low, 6) } else { (6, low) };
-        assert!(rt; points.push(at(2 * k, first)).is_ok());
-        assert!(rt; points.push(at(2 * k, second)).is_ok());
+        let x = k.wrapping_mul(2);
+        assert!(rt; points.push(at(x, first)).is_ok());
+        assert!(rt; points.push(at(x, second)).is_ok());
     }
     points
 }
@@ -363,9 +364,9 @@ fn a_comb_of_all_corners_answers_as_the_plain_calls(rt: HostRuntime) {
 }
 
 /// A name for each number below 256.
-fn numbered(rt: &impl Abort, k: i64) -> Name {
-    let first = b'a'.wrapping_add((k / 16 % 16) as u8);
-    let second = b'a'.wrapping_add((k % 16) as u8);
+fn numbered(rt: &impl Abort, k: u8) -> Name {
+    let first = b'a'.wrapping_add(k / 16);
+    let second = b'a'.wrapping_add(k % 16);
     match Name::of(&[first, second]) {
         Some(name) => name,
         None => panic!(rt; "two letters are a name"),
@@ -380,11 +381,12 @@ fn scene_of_boxes(rt: &impl Abort, alloc: Global) -> Scene {
         &mut items,
         Item::Outer(box_points(rt, alloc, at(0, 0), at(160, 160))),
     );
-    for k in 0..255i64 {
+    for number in 0..255u8 {
+        let k = i64::from(number);
         let (x, y) = (10 * (k % 16), 10 * (k / 16));
         let high = at(x + 4 + k % 5, y + 5 + k % 4);
         let points = box_points(rt, alloc, at(x + 1 + k % 3, y + 2), high);
-        push(rt, &mut items, Item::Obstacle(numbered(rt, k), points));
+        push(rt, &mut items, Item::Obstacle(numbered(rt, number), points));
     }
     scene_of_items(rt, alloc, items)
 }
