@@ -128,7 +128,7 @@ fn two_edits_between_questions(
     let stay = Edit::Move(a.copy(), 0, 0);
     leaves(rt, alloc, session, &stay, (true, 20, 24));
     assert!(rt; session.apply(alloc, &Edit::Remove(a)).is_ok());
-    let route = Edit::AddRoute(r, at(1, 1), at(3, 1));
+    let route = Edit::AddRoute(r, at(1, 9), at(3, 9));
     leaves(rt, alloc, session, &route, (true, 6, 36));
 }
 
