@@ -1,4 +1,5 @@
--- Where no step of a parse has a fault, the command takes the words: the tests of `Takes` beside the faults of `Faults`, step by step.
+-- Where no step of a parse has a fault, the command takes the words: the tests of `Takes` beside the faults of
+-- `Faults`, step by step.
 use Rattle.std.proofs.Common.{◌≡◌, ◌≤◌, ◌&&◌, ◌||◌, ◌==◌, ℕ, Bool, cond, codes, true, false, not, zero, suc, refl, sym, ap, arith, List, [], ◌∷◌, length, drop, Option, Some, None, is_some, true≢false, nat_le, nat_lt}
 use Rattle.std.proofs.lemmas.Bool.{eqb-true, le-leb, ltb-false}
 use Rattle.std.specs.Prelude.{encode_utf8, slice_get}

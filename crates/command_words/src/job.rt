@@ -135,8 +135,8 @@ fn options_of(given: Given<'_>) -> Option<Options<'_>>
     options_by(job, workers_of(given.workers), form_of_word(given.format))
 }
 
-/// What the words of the command ask for, the program's name left out; `None` where the command doesn't take the words, or
-/// their texts stand for nothing that it does.
+/// What the words of the command ask for, the program's name left out; `None` where the command doesn't take the words,
+/// or their texts stand for nothing that it does.
 #[tactic(auto, unfolding(words_spec::specs::CommandWords::options_in))]
 pub fn options_in<'a>(alloc: Global, words: &'a [&'a str]) -> Result<Option<Options<'a>>, NoMemory>
     ensures { IfOk result (λ given. given ≡ command.options_in (map (λ word. word.now) words.now)) }

@@ -8,7 +8,7 @@
 //!
 //! A law is a function without parameters and with an empty body, whose contract states it.
 //!
-//! | law | what it says | rests on |
+//! | law | what it says | breaks if .. changes |
 //! |---|---|---|
 //! | [`plain_records_are_written_as_defined`] | of plain fields the default writer of `csv` writes the record in csv form | `record_bytes` |
 //! | [`plain_records_are_read_back`] | and its default reader reads the fields of that record | `record_bytes` |

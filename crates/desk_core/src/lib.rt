@@ -14,7 +14,8 @@
 //! undo                          0                            Refused: nothing
 //! ```
 //!
-//! A change is told to all watchers, or to none: they are made ready before it is made, which is all that may take memory.
+//! A change is told to all watchers, or to none: they are made ready before it is made, which is all that may take
+//! memory.
 #![tactic(auto)]
 
 mod changes;

@@ -15,8 +15,8 @@ use plan_watch::Watch;
 use std::alloc::Global;
 use text_spec::NoMemory;
 
-/// Does what the line of this number asks for, and answers what came of it: with the reply that is made of that, it is what
-/// the definition says of the line. What is refused or finds no memory changes nothing, and no watcher is told.
+/// Does what the line of this number asks for, and answers what came of it: with the reply that is made of that, it is
+/// what the definition says of the line. What is refused or finds no memory changes nothing, and no watcher is told.
 ///
 /// Cost: of an edit or a step through the history what its change costs, and one note for each watcher.
 #[tactic(auto, unfolding(desk_spec::specs::Desks::desk_step))]

@@ -20,8 +20,8 @@ use Rattle.desk_spec.specs.declared.line.DeskLine.TheVariants.{Blank, Edit as Ed
 use Rattle.desk_spec.specs.declared.reason.DeskReason.{DeskReason}
 use Rattle.desk_spec.specs.declared.reason.DeskReason.TheVariants.{Text as TextReason, Edit as EditReason, Nothing, NoWatch}
 
--- the plan now with what can be undone and redone; and of each watcher how many notes it keeps, or none where it keeps all,
--- and those that it keeps now
+-- the plan now with what can be undone and redone; and of each watcher how many notes it keeps, or none where it keeps
+-- all, and those that it keeps now
 pub record Desk : Type 0 where
   pub history : History
   pub rooms : List (Option ℕ)
@@ -65,7 +65,8 @@ abbrev pub edit_line : Desk → ℕ → Edit → Option Why → LineStep Desk
 edit_line d number edit None = done (told d (edited d.history edit) (note_of number edit)) number []
 edit_line d number edit (Some why) = refusal d number (EditReason why)
 
--- a step through the history of a kind, by the name of what changed and the history then; refused where there is no step
+-- a step through the history of a kind, by the name of what changed and the history then; refused where there is no
+-- step
 abbrev pub history_line : Desk → ℕ → NoteKind → Option (List ℕ × History) → LineStep Desk
 history_line d number kind None = refusal d number Nothing
 history_line d number kind (Some step) =

@@ -26,7 +26,7 @@ ReadsDeskLine reading (Err line_fault.NoMemory) = is_addition reading ≡ true
 abbrev pub desk_reading_of_shown : List ℕ → Result DeskLine TextWhy
 desk_reading_of_shown shown = if is_long shown then Err Long else read_desk_line shown
 
--- where the line moves an obstacle, its shift is at most 999999999 in each coordinate
+-- where the line moves an obstacle, its shift is at most `MAX_SHIFT` in each coordinate
 abbrev pub HasShiftInDeskLine : DeskLine → Type 0
 HasShiftInDeskLine (Edit edit) = HasShift edit
 HasShiftInDeskLine _ = ⊤

@@ -10,10 +10,10 @@ use grammar_spec::TextWhy;
 use plan_text::{ReadLineFault, is_long, read_line};
 use std::alloc::Global;
 
-/// Reads a line of a script at a desk, given without its newline and without the carriage return before it. `Bad` has the
-/// first cause that holds. A shift that is read has at most nine digits in each coordinate, as an edit of a plan asks.
-/// Memory is taken for the points of `add` and `addbox` alone: of any other line, and of any that is outside the grammar,
-/// want of memory is never answered.
+/// Reads a line of a script at a desk, given without its newline and without the carriage return before it. `Bad` has
+/// the first cause that holds. A shift that is read has at most nine digits in each coordinate, as an edit of a plan
+/// asks. Memory is taken for the points of `add` and `addbox` alone: of any other line, and of any that is outside the
+/// grammar, want of memory is never answered.
 ///
 /// That the answer is the grammar's of the line as it stands in the script is the law
 /// [`crate::desk_lines_are_read`].

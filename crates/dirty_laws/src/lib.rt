@@ -16,11 +16,12 @@
 //! | [`every_corner_is_dirty_after_an_addition`] | where an edit has a box after it, each corner of the new scene is dirty |
 //!
 //! All rest on the boxes of an edit, on the plan after it (`plan_spec`, `Edits`) and on when a segment meets a box
-//! (`plane_spec`, `Boxes`). Besides, sight breaks if a wall, a screen or a corner blocks otherwise (`sight_spec`, `Sight`) or a
-//! scene is made otherwise (`sight_spec`, `Scene`); openness breaks if a point is inside a polygon otherwise (`plane_spec`, `Polygons`);
-//! edges break if the grid's points (`plan_spec`, `Grid`) or its edges (`sight_spec`, `Visibility`) change. The laws on corners break if a scene has its corners
-//! in another order (`Scene`), and the last two if a sound plan may have two obstacles of one name, or a polygon with
-//! two equal neighbours (`Accepted`).
+//! (`plane_spec`, `Boxes`). Besides, sight breaks if a wall, a screen or a corner blocks otherwise (`sight_spec`,
+//! `Sight`) or a scene is made otherwise (`sight_spec`, `Scene`); openness breaks if a point is inside a polygon
+//! otherwise (`plane_spec`, `Polygons`); edges break if the grid's points (`plan_spec`, `Grid`) or its edges
+//! (`sight_spec`, `Visibility`) change. The laws on corners break if a scene has its corners in another order
+//! (`Scene`), and the last two if a sound plan may have two obstacles of one name, or a polygon with two equal
+//! neighbours (`Accepted`).
 //!
 //! Proofs cite the laws by the lemmas in `proofs/`: `Sight`, `Openness`, `Rows`, `Unboxed`, and `Edited` for those on
 //! scenes, whose parts are in `Removal`, `ClosingUp` and `Added`.

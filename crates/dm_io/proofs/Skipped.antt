@@ -14,7 +14,8 @@ use Rattle.dm_io.specs.declared.lines.Next.TheVariants.{Line, End}
 use Rattle.dm_io.proofs.LinesOf.{lines_of-cut, lines_of-last, lines_of-nil, or-left, or-right}
 use Rattle.dm_io.proofs.Known.{prepended_to-more, prepended_to-nothing}
 
--- so many bytes were taken, the beginning of a line was dropped where it is too long, and nothing was taken while a whole line waited
+-- so many bytes were taken, the beginning of a line was dropped where it is too long, and nothing was taken while a
+-- whole line waited
 pub record Skipped (old new : LineReader) (before after : Option (List ℕ)) (long : Bool) (gone : List ℕ) : Type 0 where
   pub taken : List ℕ
   pub held : waiting old ++ taken ≡ gone ++ waiting new

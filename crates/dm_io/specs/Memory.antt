@@ -45,7 +45,8 @@ sink_most s = s.most
 abbrev pub sink_calls : MemSink → Calls
 sink_calls s = s.calls
 
--- what a sink answers to a piece of so many bytes: it fails where the call is to fail or there is no room, and takes all of them, or as many as one call takes, or as many as there is room for
+-- what a sink answers to a piece of so many bytes: it fails where the call is to fail or there is no room, and takes
+-- all of them, or as many as one call takes, or as many as there is room for
 abbrev pub sink_answer : MemSink → ℕ → Put
 sink_answer s count =
     if next_fails (sink_calls s) || (sink_room s - length (bytes_held s)) == 0

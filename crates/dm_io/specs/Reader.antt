@@ -68,7 +68,8 @@ pub record NothingAhead (old new : LineReader) (before after : Option (List ℕ)
   pub nothing_taken : after ≡ before
   pub nothing_left : saw_end old ≡ false → IsIfKnown [] after
 
--- no whole line came: this part of one waited or was taken, and all of it waits but for the beginning that was dropped where it is too long
+-- no whole line came: this part of one waited or was taken, and all of it waits but for the beginning that was dropped
+-- where it is too long
 pub record Stopped (old new : LineReader) (before after : Option (List ℕ)) (part : List ℕ) : Type 0 where
   pub was_open : saw_end old ≡ false
   pub goes_on : saw_end new ≡ false
@@ -81,17 +82,30 @@ pub record Stopped (old new : LineReader) (before after : Option (List ℕ)) (pa
 
 -- what each `Next` says of the bytes
 abbrev pub Reads : LineReader → LineReader → Option (List ℕ) → Option (List ℕ) → Next → Type 0
-Reads old new before after Line = (line : List ℕ) × LineRead old new before after line × (is_long line ≡ false) × (line_in new ≡ without_return line)
+Reads old new before after Line =
+    (line : List ℕ)
+    × LineRead old new before after line
+    × (is_long line ≡ false)
+    × (line_in new ≡ without_return line)
 Reads old new before after Long = (line : List ℕ) × LineRead old new before after line × (is_long line ≡ true)
 Reads old new before after End = NothingAhead old new before after
-Reads old new before after Failed = (part : List ℕ) × Stopped old new before after part × (bytes_read old + length part ≤ limit_of old)
-Reads old new before after Over = (part extra : List ℕ) × (rest : Option (List ℕ)) × Stopped old new before rest part × (bytes_read old + length part ≡ limit_of old) × (length extra ≡ 1) × IsPrefix rest extra after
+Reads old new before after Failed =
+    (part : List ℕ)
+    × Stopped old new before after part
+    × (bytes_read old + length part ≤ limit_of old)
+Reads old new before after Over =
+    (part extra : List ℕ) × (rest : Option (List ℕ))
+    × Stopped old new before rest part
+    × (bytes_read old + length part ≡ limit_of old)
+    × (length extra ≡ 1)
+    × IsPrefix rest extra after
 
 -- while a whole line waits, it is read and nothing is taken
 abbrev pub Waits : LineReader → Option (List ℕ) → Option (List ℕ) → Next → Type 0
 Waits old before after next = has_newline (waiting old) ≡ true → (after ≡ before) × IsLine next
 
--- these bytes were dropped from the beginning of those that wait, which leaves room for more: all that waited where they were too many for a line, and else none
+-- these bytes were dropped from the beginning of those that wait, which leaves room for more: all that waited where
+-- they were too many for a line, and else none
 pub record Skips (old new : LineReader) (full : Bool) (gone : List ℕ) : Type 0 where
   pub bytes : waiting old ≡ gone ++ waiting new
   pub counted : bytes_read new ≡ bytes_read old + length gone
@@ -101,7 +115,16 @@ pub record Skips (old new : LineReader) (full : Bool) (gone : List ℕ) : Type 0
 
 -- what asking the source for more leaves
 abbrev pub Gets : LineReader → LineReader → Option (List ℕ) → Option (List ℕ) → More → Type 0
-Gets old new before after Came = (piece : List ℕ) × (0 < length piece) × (waiting new ≡ waiting old ++ piece) × IsPrefix before piece after
+Gets old new before after Came =
+    (piece : List ℕ)
+    × (0 < length piece)
+    × (waiting new ≡ waiting old ++ piece)
+    × IsPrefix before piece after
 Gets old new before after Nothing = (waiting new ≡ waiting old) × (after ≡ before) × IsIfKnown [] after
 Gets old new before after Broken = (waiting new ≡ waiting old) × (after ≡ before)
-Gets old new before after Beyond = (waiting new ≡ waiting old) × (extra : List ℕ) × (length extra ≡ 1) × IsPrefix before extra after × (bytes_read old + length (waiting old) ≡ limit_of old)
+Gets old new before after Beyond =
+    (waiting new ≡ waiting old)
+    × (extra : List ℕ)
+    × (length extra ≡ 1)
+    × IsPrefix before extra after
+    × (bytes_read old + length (waiting old) ≡ limit_of old)

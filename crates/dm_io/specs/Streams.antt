@@ -36,7 +36,8 @@ TakesAtMost n before after = (prefix : List ℕ) × (length prefix ≤ n) × IsP
 abbrev pub WritesPrefix : Option (List ℕ) → Option (List ℕ) → List ℕ → Type 0
 WritesPrefix before after bytes = (n : ℕ) × (n ≤ length bytes) × (after ≡ appended_to before (take n bytes))
 
--- bytes that were got were the beginning of what was left and stand at the beginning of the buffer; at the end nothing was left; a fault takes nothing
+-- bytes that were got were the beginning of what was left and stand at the beginning of the buffer; at the end nothing
+-- was left; a fault takes nothing
 abbrev pub Takes : Option (List ℕ) → Option (List ℕ) → List ℕ → Take → Type 0
 Takes before after into (Got n) = (1 ≤ n) × (n ≤ length into) × IsPrefix before (take n into) after
 Takes before after into End = (after ≡ before) × IsIfKnown [] before

@@ -1,4 +1,5 @@
--- The faults of the system's streams and files, and what the streams do to the reader and the writer that they stand on.
+-- The faults of the system's streams and files, and what the streams do to the reader and the writer that they stand
+-- on.
 use Rattle.std.specs.Prelude.{◌≤◌, ℕ, List, length, take, Option}
 use Rattle.std.specs.Io.KnownBytes.{Appends, Consumes, IsAtEnd, Keeps}
 use Rattle.std.specs.declared.io.traits.Read.{Ghosts as Readers}
@@ -32,8 +33,8 @@ source_remaining {R} {reads} s = reads.remaining s.input
 abbrev pub sink_contents : {W : Type 0} {writes : Writers W} → StdSink W writes → Option (List ℕ)
 sink_contents {W} {writes} s = writes.contents s.output
 
--- by what the reader will give before and after: what was got came from its beginning, the end comes only at its end and
--- takes nothing, as a fault does
+-- by what the reader will give before and after: what was got came from its beginning, the end comes only at its end
+-- and takes nothing, as a fault does
 abbrev pub TakesFromReader : Option (List ℕ) → Option (List ℕ) → List ℕ → Take → Type 0
 TakesFromReader before after into (Got n) = Consumes before after (take n into)
 TakesFromReader before after into End = Keeps before after × IsAtEnd after

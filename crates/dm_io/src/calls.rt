@@ -49,7 +49,8 @@ impl Calls {
     }
 }
 
-/// Copies the beginning of `bytes` to the beginning of `into`: at most `most` bytes, and no more than there are and fit.
+/// Copies the beginning of `bytes` to the beginning of `into`: at most `most` bytes, and no more than there are and
+/// fit.
 pub fn copy_prefix(bytes: &[u8], most: usize, into: &mut [u8]) -> usize
     ensures count { result ≡ min (min (length bytes.now) most) (length into.old) }
     ensures copied { take result into.new ≡ take result bytes.now }

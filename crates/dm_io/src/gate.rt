@@ -1,4 +1,5 @@
-//! What is told of the rows that workers claim.
+//! A gate: what is told each row that one of several workers claims, so that a test can hold a worker until another has
+//! come.
 
 /// Is told each row that a worker claims. It answers nothing and changes nothing that a contract sees.
 pub trait Gate: Sync {
@@ -6,7 +7,7 @@ pub trait Gate: Sync {
     fn row(&self, worker: u32, row: u32);
 }
 
-/// Does nothing.
+/// The gate of every caller that holds no worker: it does nothing.
 #[derive(Clone, Copy, Debug)]
 pub struct NoGate;
 

@@ -11,11 +11,11 @@ use crate::streams::{Source, Take};
 use arrayvec::ArrayVec;
 use text_spec::MAX_LINE_BYTES;
 
-/// Reads the lines of a source as they come. It holds at most one byte more than [`MAX_LINE_BYTES`] that were taken and belong to no line that was
-/// read, and takes more only while no whole line waits among them.
+/// Reads the lines of a source as they come. It holds at most one byte more than [`MAX_LINE_BYTES`] that were taken and
+/// belong to no line that was read, and takes more only while no whole line waits among them.
 ///
-/// A line ends at a newline or at the end of the source; what ends right after a newline has no further line. One carriage
-/// return that stands last in a line isn't shown.
+/// A line ends at a newline or at the end of the source; what ends right after a newline has no further line. One
+/// carriage return that stands last in a line isn't shown.
 ///
 /// ```text
 /// source   a b \n c \r \n \n d        at most 20 bytes
@@ -100,9 +100,10 @@ impl LineReader {
         self.number
     }
 
-    /// Reads the next line. It takes from the source only while no whole line waits, at most 4096 bytes at once, and takes
-    /// no memory. After `End` comes `End` again. After `Failed` and `Over` it may be asked again, and goes on with the bytes
-    /// that wait; but the beginning of a line that is too long was dropped then, so that its rest may pass for a line.
+    /// Reads the next line. It takes from the source only while no whole line waits, at most 4096 bytes at once, and
+    /// takes no memory. After `End` comes `End` again. After `Failed` and `Over` it may be asked again, and goes on
+    /// with the bytes that wait; but the beginning of a line that is too long was dropped then, so that its rest may
+    /// pass for a line.
     ///
     /// Cost: one pass over the bytes of the line; each byte that is taken is copied at most twice.
     pub fn next<S: Source>(&mut self, source: &mut S) -> Next

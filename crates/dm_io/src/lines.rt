@@ -8,9 +8,10 @@ use text_spec::without_return;
 /// What a reader of lines tells.
 #[derive(Clone, Copy, Debug, PartialEq, Eq)]
 pub enum Next {
-    /// The next line stands in `bytes`. It has at most 20000 bytes before its newline, a carriage return counted.
+    /// The next line stands in `bytes`. It has at most [`MAX_LINE_BYTES`](text_spec::MAX_LINE_BYTES) before its
+    /// newline, a carriage return counted.
     Line,
-    /// The next line has more than 20000 bytes before its newline and was skipped to its end.
+    /// The next line has more bytes than that before its newline and was skipped to its end.
     Long,
     /// All was taken, and every line was read.
     End,

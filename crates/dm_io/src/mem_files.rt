@@ -7,8 +7,8 @@ use crate::calls::{Calls, copy_prefix};
 use crate::streams::{Files, OpenFailed, Source, Take};
 
 /// Files in memory. The openings and takes whose numbers are listed, counted together from 0, fail, and so do openings
-/// of a name that isn't there; no others do. So the count of faults never rises where none is listed and each name that is
-/// asked for is there.
+/// of a name that isn't there; no others do. So the count of faults never rises where none is listed and each name that
+/// is asked for is there.
 #[derive(Drop)]
 pub struct MemFiles {
     names: Vec<String>,

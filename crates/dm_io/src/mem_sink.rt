@@ -6,8 +6,9 @@ use crate::streams::{Put, Sink};
 use std::alloc::Global;
 use text_spec::NoMemory;
 
-/// Holds what is put, up to its room. The calls whose numbers are listed, counted from 0, fail, and so do those that find
-/// no room; no others do. So the count of faults never rises where none is listed and there is room for all that is put.
+/// Holds what is put, up to its room. The calls whose numbers are listed, counted from 0, fail, and so do those that
+/// find no room; no others do. So the count of faults never rises where none is listed and there is room for all that
+/// is put.
 #[derive(Drop)]
 pub struct MemSink {
     held: Vec<u8>,
@@ -23,8 +24,8 @@ impl MemSink {
     ghost use Rattle.dm_io.specs.Calls.{IsFresh};
     ghost use Rattle.dm_io.specs.Memory.{bytes_held, sink_calls, sink_most, sink_room};
 
-    /// A sink with room for `room` bytes, which takes at most `most` of them a call. The calls numbered in `fails` fail.
-    /// The memory for all its room is taken here.
+    /// A sink with room for `room` bytes, which takes at most `most` of them a call. The calls numbered in `fails`
+    /// fail. The memory for all its room is taken here.
     pub fn new(
         alloc: Global,
         room: usize,

@@ -4,8 +4,8 @@ ghost use Rattle.std.specs.Prelude.{◌≡◌, ◌<◌, ◌≤◌, Some, length,
 use crate::calls::{Calls, copy_prefix};
 use crate::streams::{Source, Take};
 
-/// Gives bytes from memory. The calls whose numbers are listed, counted from 0, fail, and no others: with none listed the
-/// count of faults never rises.
+/// Gives bytes from memory. The calls whose numbers are listed, counted from 0, fail, and no others: with none listed
+/// the count of faults never rises.
 #[derive(Drop)]
 pub struct MemSource {
     bytes: Vec<u8>,

@@ -32,8 +32,9 @@ impl OutputBuffer {
         }
     }
 
-    /// Adds a piece behind the bytes that wait. Where there is no room for it they are put first; a piece that is longer
-    /// than 64 KiB is put at once. After `PutFailed` a prefix of all that was to be put was written, and nothing waits.
+    /// Adds a piece behind the bytes that wait. Where there is no room for it they are put first; a piece that is
+    /// longer than 64 KiB is put at once. After `PutFailed` a prefix of all that was to be put was written, and nothing
+    /// waits.
     ///
     /// Cost: one copy of the piece, and a call of the sink for each 64 KiB.
     pub fn add<O: Sink>(&mut self, out: &mut O, piece: &[u8]) -> Result<(), PutFailed>

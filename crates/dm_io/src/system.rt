@@ -1,10 +1,10 @@
 //! The system's own streams and files. No bytes are known of them: what they give and take is up to the system. Each
 //! failed call of the system is counted as a fault, whatever its cause.
 //!
-//! The clauses of the two streams speak of the reader or the writer that they stand on, in std's own terms: what it will
-//! give and what it holds, where std knows it, as it does of a slice of bytes. Of a file std knows nothing, so that no
-//! clause of [`DirFiles`] says that a failed call of the system is told as one. Tests do: with a name that isn't there,
-//! and with a folder in place of a file.
+//! The clauses of the two streams speak of the reader or the writer that they stand on, in std's own terms: what it
+//! will give and what it holds, where std knows it, as it does of a slice of bytes. Of a file std knows nothing, so
+//! that no clause of [`DirFiles`] says that a failed call of the system is told as one. Tests do: with a name that
+//! isn't there, and with a folder in place of a file.
 ghost use Rattle.std.specs.Prelude.{◌≡◌, ◌<◌, ◌≤◌, ◌^◌, ℕ, List, Option, None, true, IfNone, IfSome, length, take};
 ghost use Rattle.std.specs.Io.KnownBytes.{Appends};
 
@@ -78,8 +78,8 @@ impl<W: Write + Drop> StdSink<W> {
         StdSink { output, faults: 0 }
     }
 
-    /// Writes some of the piece and flushes it. None where a call failed or nothing was written; where the writing did its
-    /// work and the flushing failed, a prefix of the piece was written all the same.
+    /// Writes some of the piece and flushes it. None where a call failed or nothing was written; where the writing did
+    /// its work and the flushing failed, a prefix of the piece was written all the same.
     fn write_some(&mut self, piece: &[u8]) -> Option<usize>
         ensures same { sink_faults self.new ≡ sink_faults self.old }
         ensures within { IfSome result (λ n. (1 ≤ n) × (n ≤ length piece.now)) }

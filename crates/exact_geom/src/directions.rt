@@ -50,8 +50,8 @@ pub fn turn_order(d: Point, e: Point) -> Ordering
     }
 }
 
-/// The order of directions, of any size, that aren't (0,0): none comes before (1,0), it is a strict weak order, and equal
-/// are exactly those of which a positive multiple of one is a positive multiple of the other.
+/// The order of directions, of any size, that aren't (0,0): none comes before (1,0), it is a strict weak order, and
+/// equal are exactly those of which a positive multiple of one is a positive multiple of the other.
 ///
 /// Proofs cite these laws from `proofs/TurnLaws.antt`.
 pub fn turn_order_laws()

@@ -47,8 +47,8 @@ fn overlap(m: &Frac, n: &Frac, low: i64, high: i64) -> bool
     (begins_by(m, low) || begins_by(n, low)) && (ends_by(m, high) || ends_by(n, high))
 }
 
-/// Whether the part of the line through `a` and `b` that lies between `from` and `to` meets `area`, borders counted: their
-/// extents overlap, and the corners of `area` don't all lie strictly on one side of the line.
+/// Whether the part of the line through `a` and `b` that lies between `from` and `to` meets `area`, borders counted:
+/// their extents overlap, and the corners of `area` don't all lie strictly on one side of the line.
 ///
 /// Cost: eight products, and at most eight orientations where the extents overlap.
 pub fn extent_meets_box(a: Point, b: Point, from: &RPoint, to: &RPoint, area: PlanBox) -> bool

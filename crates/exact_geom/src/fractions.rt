@@ -210,8 +210,8 @@ impl Frac {
     }
 }
 
-/// The laws of lowest terms, for fractions over denominators of at least 1: a fraction in lowest terms is the only one of
-/// its value, so that two of them are equal exactly where their values are.
+/// The laws of lowest terms, for fractions over denominators of at least 1: a fraction in lowest terms is the only one
+/// of its value, so that two of them are equal exactly where their values are.
 pub fn lowest_terms()
     ensures is_reduced { (f : fractions.Fraction) → pos 1 ≤ℤ f.den → fractions.IsReduced (fractions.reduced f) }
     ensures keeps_value { (f : fractions.Fraction) → fractions.same_value f (fractions.reduced f) ≡ true }

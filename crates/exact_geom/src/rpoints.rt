@@ -110,8 +110,8 @@ impl RPoint {
         }
     }
 
-    /// The order of two points: by the first coordinate, and by the second where the first ones have one value. It is an
-    /// order of points, as [`rpoint_order_laws`] says.
+    /// The order of two points: by the first coordinate, and by the second where the first ones have one value. It is
+    /// an order of points, as [`rpoint_order_laws`] says.
     ///
     /// Cost: two or four products.
     pub fn compare(&self, other: &RPoint) -> Ordering
@@ -138,8 +138,8 @@ pub fn along_is_by_value()
     ensures of_reduced { (p d : Point) (t : Fraction) → pos 1 ≤ℤ t.den → fractions.along p d (fractions.reduced t) ≡ fractions.along p d t }
 {}
 
-/// The order of points whose coordinates stand over denominators of at least 1, of any size: it is a strict weak order, and
-/// equal are exactly the points that are one.
+/// The order of points whose coordinates stand over denominators of at least 1, of any size: it is a strict weak order,
+/// and equal are exactly the points that are one.
 ///
 /// Proofs cite these laws from `proofs/RPointOrder.antt`.
 pub fn rpoint_order_laws()

@@ -11,7 +11,7 @@ use crate::compare::is_positive;
 use crate::products::{cross, orient};
 use plane_spec::{MAX_COORDINATE, Point};
 
-/// Whether `z` is a coordinate: from -100000 to 100000.
+/// Whether `z` is a coordinate: at most `MAX_COORDINATE` in size.
 pub fn is_coordinate(z: i64) -> bool
     ensures value { result ≡ vectors.is_coordinate z }
     ensures meaning { IsTrue result ↔ IsWithin plane.MAX_COORDINATE z }

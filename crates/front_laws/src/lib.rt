@@ -48,8 +48,8 @@ pub fn the_one_in_front_is_hit_first()
         → is_in_front v w ≡ is_before (hit_of d v) (hit_of d w) }
 {}
 
-/// Of two apart blockers that one direction spans, at least one is in front of the other (by the law above not both, since
-/// its hit comes first); and what is in front of a blocker that is in front of a third is in front of the third.
+/// Of two apart blockers that one direction spans, at least one is in front of the other (by the law above not both,
+/// since its hit comes first); and what is in front of a blocker that is in front of a third is in front of the third.
 pub fn being_in_front_is_an_order()
     ensures total { (d : Point) (v w : Seen) → AreTogether d v w → is_in_front v w ≡ false → is_in_front w v ≡ true }
     ensures passes_on { (d : Point) (u v w : Seen) → AreTogether d u v → AreTogether d v w → AreTogether d u w

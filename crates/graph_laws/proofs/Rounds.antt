@@ -1,4 +1,5 @@
--- Rounds of improvement: after so many, each directed piece has the least cost of the walks of at most so many further pieces.
+-- Rounds of improvement: after so many, each directed piece has the least cost of the walks of at most so many further
+-- pieces.
 use Rattle.std.specs.Prelude.{◌≡◌, ℕ, zero, suc, ◌≤◌, ◌==◌, true, List, map, Option, Some, None}
 use Rattle.std.specs.List.{Contains}
 use Rattle.std.proofs.Common.{refl, sym, ap, ◌∙◌, inl, inr, arith, subst}

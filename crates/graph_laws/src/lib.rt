@@ -7,7 +7,7 @@
 //!
 //! A law is a function without parameters and with an empty body, whose contract states it.
 //!
-//! | law | what it says | rests on |
+//! | law | what it says | breaks if .. changes |
 //! |---|---|---|
 //! | [`depth_is_least`] | the computed depth of a node is the least number of edges of a walk to it, or none where there is no walk | `Graphs` |
 //! | [`depth_is_unique`] | a node has one depth | `Graphs` |

@@ -1,4 +1,5 @@
-//! What no clause says: that calls succeed, over tables of sizes, pieces and failing calls, and the system's own objects.
+//! What no clause says: that calls succeed, over tables of sizes, pieces and failing calls, and the system's own
+//! objects.
 
 ghost use Rattle.std.specs.Prelude.{ℕ, List, IsTrue};
 
@@ -291,8 +292,8 @@ fn short_pieces_wait_for_few_calls(rt: HostRuntime) -> Result<(), Fail> {
     Ok(())
 }
 
-/// Calls of two files, `a` with the bytes `first` and `b` without any, of which three bytes are given at most and call 4
-/// fails: the name that is opened, if one is, and how many bytes come. None is for a fault.
+/// Calls of two files, `a` with the bytes `first` and `b` without any, of which three bytes are given at most and call
+/// 4 fails: the name that is opened, if one is, and how many bytes come. None is for a fault.
 const CALLS: [(Option<&str>, Option<usize>); 9] = [
     (None, Some(0)),
     (Some("c"), None),

@@ -13,7 +13,7 @@ use Rattle.plane_spec.specs.Cones.{IsCornerInRange}
 use Rattle.plane_spec.specs.Segments.{IsSegmentInRange}
 use Rattle.plane_spec.specs.Fractions.{Fraction, is_before, reduced, whole}
 use Rattle.sight_spec.specs.Scene.{Scene}
-use Rattle.sight_spec.specs.Stops.{stop_of}
+use Rattle.sight_spec.specs.Stops.{stop_of, nearer}
 use Rattle.sight_spec.specs.Isovist.{sum_of, stops_at_once, wall_between, sector_in, no_segment}
 use Rattle.sight_core.specs.Scenes.{IsOfSoundPlan}
 use Rattle.sight_core.proofs.Seen.{corners-in_range, walls-in_range}
@@ -21,7 +21,7 @@ use Rattle.front_laws.specs.Seen.{Seen}
 use Rattle.front_laws.proofs.Tests.{by_cases, by_lt, tested_zero}
 use Rattle.sweep_laws.specs.First.{IsFirst}
 use Rattle.sweep_laws.specs.Groups.{is_ahead, no_corner}
-use Rattle.sweep_laws.specs.Parts.{nearer_hit, start_stop}
+use Rattle.sweep_laws.specs.Parts.{start_stop}
 use Rattle.round_laws.specs.Rounds.{AreWalls}
 use Rattle.view_laws.specs.declared.view.Arc.TheVariants as arcs
 use Rattle.view_laws.specs.declared.view.Front.{Front}
@@ -50,14 +50,14 @@ abbrev IsAway : Option Fraction → Type 0
 IsAway None = true ≡ true
 IsAway (Some f) = pos 0 <ℤ f.num
 
-zero_first : (o : Option Fraction) → IsAway o → nearer_hit o (Some (whole (pos 0))) ≡ Some (whole (pos 0))
+zero_first : (o : Option Fraction) → IsAway o → nearer o (Some (whole (pos 0))) ≡ Some (whole (pos 0))
 zero_first None away = refl
 zero_first (Some f) away = ap (λ t. cond t (Some (whole (pos 0))) (Some f)) (before f.num f.den away)
   where
     before : (n d : ℤ) → pos 0 <ℤ n → int_lt (pos 0 *ℤ d) (n *ℤ pos 1) ≡ true
     before n d h = grind (arith, ints)
 
-both_away : (a b : Option Fraction) → IsAway a → IsAway b → IsAway (nearer_hit a b)
+both_away : (a b : Option Fraction) → IsAway a → IsAway b → IsAway (nearer a b)
 both_away None b h k = k
 both_away (Some f) None h k = h
 both_away (Some f) (Some g) h k = by (is_before g f)
@@ -84,11 +84,11 @@ zero_lowest : stops_at_once (option_map reduced (Some (whole (pos 0)))) ≡ true
 zero_lowest = ap (λ f. stops_at_once (Some f)) (reduced_again (whole (pos 0)) (whole_is_reduced (pos 0)))
 
 by_start : (a b : Option Fraction) (begins : Bool) → IsAway a → IsAway b
-    → stops_at_once (option_map reduced (nearer_hit a (nearer_hit b (start_stop begins)))) ≡ begins
+    → stops_at_once (option_map reduced (nearer a (nearer b (start_stop begins)))) ≡ begins
 by_start a b true h k =
-    ap (λ t. stops_at_once (option_map reduced (nearer_hit a t))) (zero_first b k)
+    ap (λ t. stops_at_once (option_map reduced (nearer a t))) (zero_first b k)
     ∙ ap (λ t. stops_at_once (option_map reduced t)) (zero_first a h) ∙ zero_lowest
-by_start a b false h k = away_lowest (nearer_hit a (nearer_hit b None)) (both_away a (nearer_hit b None) h (both_away b None k refl))
+by_start a b false h k = away_lowest (nearer a (nearer b None)) (both_away a (nearer b None) h (both_away b None k refl))
 
 -- ---- what a view tells is away from the point
 

@@ -15,6 +15,6 @@
 //! | `Single` | where one element passes a test, what stands before it and after it |
 //! | `Merged` | a list in order is those that pass a test, merged with the others |
 //!
-//! They rest on std's lists and on `pairs`, `distinct_by` and `min_by` of `plane_spec` (`Lists`), and break if those change.
-//! Their own words (`Dropped`, `IsRising`, `IsWeakOrder`, `merged`, `closed_up`) stand in `specs/`.
+//! They rest on std's lists and on `pairs`, `distinct_by` and `min_by` of `plane_spec` (`Lists`), and break if those
+//! change. Their own words (`Dropped`, `IsRising`, `IsWeakOrder`, `merged`, `closed_up`) stand in `specs/`.
 #![tactic(auto)]

@@ -1,9 +1,9 @@
-//! Laws of the two maps of a plan, the visibility graph of its grid and the crossing graph of its axial lines: neither has
-//! a direction or a loop, and the table of edges lists the edges of the first.
+//! Laws of the two maps of a plan, the visibility graph of its grid and the crossing graph of its axial lines: neither
+//! has a direction or a loop, and the table of edges lists the edges of the first.
 //!
 //! A law is a function without parameters and with an empty body, whose contract states it.
 //!
-//! | law | what it says | rests on |
+//! | law | what it says | breaks if .. changes |
 //! |---|---|---|
 //! | [`the_visibility_graph_is_simple`] | what sees is seen, and the graph's edges are the listed pairs that see each other | `Grid`, `Sight`, `Visibility` |
 //! | [`the_crossing_graph_is_simple`] | what meets is met | `Axial` |

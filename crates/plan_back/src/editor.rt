@@ -44,8 +44,8 @@ pub trait Editor: Drop {
         ensures same_plan { OnErr result (plan self.new ≡ plan self.old) }
         ensures same_state { OnErr result (state self.new ≡ state self.old) };
 
-    /// Makes the change. What is refused or finds no memory changes nothing. A place is at most the number of items of its
-    /// kind, the shift of a move at most `MAX_SHIFT`.
+    /// Makes the change. What is refused or finds no memory changes nothing. A place is at most the number of items of
+    /// its kind, the shift of a move at most `MAX_SHIFT`.
     fn apply_back(&mut self, alloc: Global, back: &Back) -> Result<(), EditFault>
         requires place { HasPlace (plan self.old) back.now }
         requires shift { HasShift (like_edit back.now) }

@@ -63,8 +63,8 @@ fn add_item(alloc: Global, draft: &mut Draft, item: &Item) -> Result<(), NoMemor
 
 /// The plan that the items make, which are added one after the other.
 ///
-/// `Err(Bad)` names the first item that is refused on the plan of the items before it, and its first cause. The answer is
-/// `Ok` exactly where the items are accepted and there is memory.
+/// `Err(Bad)` names the first item that is refused on the plan of the items before it, and its first cause. The answer
+/// is `Ok` exactly where the items are accepted and there is memory.
 ///
 /// Cost: each new part is tested against those that are there, at most one touching test for each two edges.
 pub fn check(alloc: Global, given: &PlanData) -> Result<Plan, CheckFault>

@@ -136,8 +136,8 @@ impl Plan {
         Ok(PlanData { items })
     }
 
-    /// The plan after the edit; this one is untouched. A new obstacle, screen or route goes last, a removal closes up, a
-    /// move keeps the place.
+    /// The plan after the edit; this one is untouched. A new obstacle, screen or route goes last, a removal closes up,
+    /// a move keeps the place.
     ///
     /// `Err(Refused)` names the first cause for which the edit is refused. The shift of a move is at most `MAX_SHIFT`.
     ///

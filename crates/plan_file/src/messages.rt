@@ -2,10 +2,11 @@
 
 ghost use Rattle.std.specs.Prelude.{◌≡◌, ◌<◌, ◌-◌, ◌^◌, ◌++◌, List, OnErr, OnOk, option_map, ℕ};
 ghost use Rattle.std.specs.List.{flat_map, join_with_byte};
+ghost use Rattle.report_spec.specs.Messages.{plan_message_by};
 ghost use Rattle.report_spec.specs.Replies.{reason_words};
 ghost use Rattle.reports.specs.Causes.{words_in};
 ghost use Rattle.dm_io.specs.Streams.{WritesPrefix, Rose, appended_to};
-ghost use Rattle.plan_file.specs.Said.{IsSaid, plan_message_by};
+ghost use Rattle.plan_file.specs.Said.{IsSaid};
 
 use dm_io::{PutFailed, Sink, put_all};
 use itoa::Buffer;

@@ -64,8 +64,8 @@ pub fn the_ranges_of_a_sound_plan()
     ensures grid_points_count { (g : GridSpec) → length (grid_points (Some g)) ≡ unsigned_abs g.cols * unsigned_abs g.rows }
 {}
 
-/// An edit of a sound plan is refused exactly where what it removes or moves isn't there, or the plan after it would not
-/// be sound. So an edit that isn't refused leaves a sound plan.
+/// An edit of a sound plan is refused exactly where what it removes or moves isn't there, or the plan after it would
+/// not be sound. So an edit that isn't refused leaves a sound plan.
 pub fn editing_a_sound_plan()
     ensures refused { (p : Plan) (e : Edit) → is_sound p ≡ true → is_none (why_not_edit p e) ≡ (is_there p e && is_sound (plan_after_edit p e)) }
     ensures sound { (p : Plan) (e : Edit) → is_sound p ≡ true → why_not_edit p e ≡ None → is_sound (plan_after_edit p e) ≡ true }
@@ -83,8 +83,8 @@ pub fn the_edit_between_two_plans()
     ensures boxes { (before after : Plan) (boxes : Changed) → IsEditBetween before after boxes → AreBoxesInRange boxes }
 {}
 
-/// The items of any plan make that plan. They are accepted exactly where the plan is sound, and then checking them gives
-/// the plan again.
+/// The items of any plan make that plan. They are accepted exactly where the plan is sound, and then checking them
+/// gives the plan again.
 pub fn the_items_of_a_plan()
     ensures make { (p : Plan) → with_items empty_plan (items_of p) ≡ p }
     ensures accepted { (p : Plan) → is_accepted (items_of p) ≡ is_sound p }

@@ -14,7 +14,8 @@ pub record Obstacle : Type 0 where
   pub name : List ℕ
   pub points : List Point
 
--- the parts of a plan, each kind in the order in which it came; as long as the outer polygon hasn't come, it has no points
+-- the parts of a plan, each kind in the order in which it came; as long as the outer polygon hasn't come, it has no
+-- points
 pub record Plan : Type 0 where
   pub outer : List Point
   pub grid : Option GridSpec

@@ -167,8 +167,8 @@ abbrev pub refused_at : ℕ → Option Why → Result Plan (ℕ × Why) → Resu
 refused_at number None next = next
 refused_at number (Some why) next = Err (number, why)
 
--- the items from `number` on, each added to the plan of the items before it; where no outer polygon has come by the end,
--- the number after the last item, and Order
+-- the items from `number` on, each added to the plan of the items before it; where no outer polygon has come by the
+-- end, the number after the last item, and Order
 unfoldable pub check_from : ℕ → Plan → List Item → Result Plan (ℕ × Why)
 check_from number plan [] = if has_outer plan then Ok plan else Err (number, Order)
 check_from number plan (item ∷ items) = refused_at number (why_not_item plan item) (check_from (number + 1) (with_item plan item) items)

@@ -1,5 +1,5 @@
-//! Floor plans: what a plan is, which plans are accepted, why an item or an edit is refused, and the grid. The definitions
-//! that every claim on plans rests on, and the plain data that they name.
+//! Floor plans: what a plan is, which plans are accepted, why an item or an edit is refused, and the grid. The
+//! definitions that every claim on plans rests on, and the plain data that they name.
 //!
 //! | item | what it is |
 //! |---|---|

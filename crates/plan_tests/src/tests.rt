@@ -11,8 +11,8 @@ use text_spec::Name;
 
 type Pair = (i64, i64);
 
-/// A row of a table: an item, an edit, or both. Those with a name begin with it; a box has its low and its high corner, a
-/// line its ends, a move its shift, and a grid its step, its first point, and its columns beside its rows.
+/// A row of a table: an item, an edit, or both. Those with a name begin with it; a box has its low and its high corner,
+/// a line its ends, a move its shift, and a grid its step, its first point, and its columns beside its rows.
 #[derive(Clone, Copy)]
 enum Row {
     Outer(&'static [Pair]),

@@ -46,7 +46,7 @@ pub record IsShown (line shown : List ℕ) : Type 0 where
   pub short : is_long line ≡ false
   pub bytes : without_return line ≡ shown
 
--- where the line moves an obstacle, its shift is at most 999999999 in each coordinate
+-- where the line moves an obstacle, its shift is at most `MAX_SHIFT` in each coordinate
 abbrev pub HasShiftInLine : Line → Type 0
 HasShiftInLine Blank = ⊤
 HasShiftInLine (Edit edit) = HasShift edit

@@ -19,8 +19,8 @@
 //! | [`NoMemory`] | what is answered where there is no memory |
 //! | [`MAX_PLAN_BYTES`] | how many bytes the text of a plan may have |
 //!
-//! The grammar is that of `grammar_spec`: `specs/Arguments.antt`, `specs/PlanText.antt` and `specs/ScriptText.antt`. Bytes are
-//! cut into lines and words in place: only the points of polygons, items and the printed text take memory.
+//! The grammar is that of `grammar_spec`: `specs/Arguments.antt`, `specs/PlanText.antt` and `specs/ScriptText.antt`.
+//! Bytes are cut into lines and words in place: only the points of polygons, items and the printed text take memory.
 #![tactic(auto)]
 
 mod arguments;

@@ -14,7 +14,8 @@ use plan_spec::{Items, PlanData};
 use std::alloc::Global;
 use text_spec::NoMemory;
 
-/// A plan as it is read: its items, and in `lines` the number of each item's line and, last, the number of lines plus 1.
+/// A plan as it is read: its items, and in `lines` the number of each item's line and, last, the number of lines plus
+/// 1.
 #[derive(Drop)]
 pub struct PlanText {
     /// The items of the text.
@@ -56,11 +57,12 @@ fn fault_at(line: u32, fault: ReadLineFault) -> ReadPlanFault
     }
 }
 
-/// Reads the text of a plan of at most [`MAX_PLAN_BYTES`] bytes: its items, each with the number of its line. `Bad` names the first
-/// line that is outside the grammar, and the first cause that holds there; where no line is a header, the line after the
-/// last.
+/// Reads the text of a plan of at most [`MAX_PLAN_BYTES`] bytes: its items, each with the number of its line. `Bad`
+/// names the first line that is outside the grammar, and the first cause that holds there; where no line is a header,
+/// the line after the last.
 ///
-/// Cost: one pass over the bytes, each looked at a constant number of times; memory for the items and their points alone.
+/// Cost: one pass over the bytes, each looked at a constant number of times; memory for the items and their points
+/// alone.
 pub fn read_plan(alloc: Global, bytes: &[u8]) -> Result<PlanText, ReadPlanFault>
     requires { length bytes.now ≤ MAX_PLAN_BYTES }
     ensures { ReadsPlan bytes.now result }

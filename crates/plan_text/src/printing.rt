@@ -147,8 +147,8 @@ fn header(items: &[Item]) -> &'static [u8]
     }
 }
 
-/// The text of a plan: `plan 2` where an item is a screen and `plan 1` otherwise, and then a line for each item. Where the
-/// items keep the limits of printing, it is read again, with these items and no others.
+/// The text of a plan: `plan 2` where an item is a screen and `plan 1` otherwise, and then a line for each item. Where
+/// the items keep the limits of printing, it is read again, with these items and no others.
 ///
 /// Cost: one pass over the items, and memory for the text alone.
 #[tactic(auto, unfolding(grammar_spec::specs::PlanText::plan_text_of))]

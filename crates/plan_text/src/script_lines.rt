@@ -118,9 +118,9 @@ fn shown_table(words: &[u8]) -> Result<Line, TextWhy>
 }
 
 /// Reads a line of a script, given without its newline and without the carriage return before it. `Bad` has the first
-/// cause that holds. A shift that is read has at most nine digits in each coordinate, as an edit of a plan asks. Memory is
-/// taken for the points of `add` and `addbox` alone: of any other line, and of any that is outside the grammar, want of
-/// memory is never answered.
+/// cause that holds. A shift that is read has at most nine digits in each coordinate, as an edit of a plan asks. Memory
+/// is taken for the points of `add` and `addbox` alone: of any other line, and of any that is outside the grammar, want
+/// of memory is never answered.
 ///
 /// That the answer is the grammar's of the line as it stands in the script is the law [`shown_lines_are_read`].
 ///
@@ -146,8 +146,8 @@ pub fn read_line(alloc: Global, bytes: &[u8]) -> Result<Line, ReadLineFault>
     line(alloc, word, rest)
 }
 
-/// What is read of a line without its carriage return is what the grammar reads of the line as it stands in the script; and
-/// a line that is too long there is outside the grammar for that, so it needn't be held to be refused.
+/// What is read of a line without its carriage return is what the grammar reads of the line as it stands in the script;
+/// and a line that is too long there is outside the grammar for that, so it needn't be held to be refused.
 pub fn shown_lines_are_read()
     ensures shown { (line shown : List ℕ) → IsShown line shown → reading_of_shown shown ≡ read_line_of_script line }
     ensures long { (line : List ℕ) → is_long line ≡ true → read_line_of_script line ≡ Err TextWhy.Long }

@@ -55,8 +55,8 @@ pub fn note_all(watchers: &mut Vec<Box<dyn Watch>>, note: &Note)
     }
 }
 
-/// Makes the edit and tells all watchers its note, with the number of the line that asks for it. What is refused or finds
-/// no memory changes nothing, and nobody is told. The shift of a move is at most `MAX_SHIFT`.
+/// Makes the edit and tells all watchers its note, with the number of the line that asks for it. What is refused or
+/// finds no memory changes nothing, and nobody is told. The shift of a move is at most `MAX_SHIFT`.
 pub fn watched_edit<E: Editor>(
     alloc: Global,
     editor: &mut E,
@@ -81,7 +81,8 @@ pub fn watched_edit<E: Editor>(
     Ok(())
 }
 
-/// Takes the `k`-th watcher out, counted from 0, and drops it; the later ones close up. `false` says that there is none.
+/// Takes the `k`-th watcher out, counted from 0, and drops it; the later ones close up. `false` says that there is
+/// none.
 pub fn unwatch(watchers: &mut Vec<Box<dyn Watch>>, k: usize) -> bool
     ensures found { result ≡ nat_lt k (length watchers.old.items) }
     ensures closes_up { watchers.new.items ≡ take k watchers.old.items ++ drop (k + 1) watchers.old.items }

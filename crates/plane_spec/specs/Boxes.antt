@@ -37,7 +37,8 @@ reaches_line p q area = not (is_box_left_of_line p q area) && not (is_box_left_o
 abbrev pub do_intervals_overlap : ℤ → ℤ → ℤ → ℤ → Bool
 do_intervals_overlap m n low high = (int_le low m || int_le low n) && (int_le m high || int_le n high)
 
--- the segment from p to q meets the box: their extents overlap, and the box isn't strictly on one side of the segment's line
+-- the segment from p to q meets the box: their extents overlap, and the box isn't strictly on one side of the segment's
+-- line
 unfoldable pub does_meet_box : Point → Point → PlanBox → Bool
 does_meet_box p q area =
     (do_intervals_overlap p.x q.x area.low.x area.high.x && do_intervals_overlap p.y q.y area.low.y area.high.y) && reaches_line p q area

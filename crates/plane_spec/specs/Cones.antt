@@ -14,7 +14,8 @@ pub record IsCornerInRange (c : Corner) : Type 0 where
   pub here : InRange c.here
   pub next : InRange c.next
 
--- d leads into what is blocked: strictly left of both walls where the corner turns left, and otherwise of at least one of them
+-- d leads into what is blocked: strictly left of both walls where the corner turns left, and otherwise of at least one
+-- of them
 unfoldable pub is_in_cone : Corner → Point → Bool
 is_in_cone c d =
     if is_left_of_line c.prev c.here c.next

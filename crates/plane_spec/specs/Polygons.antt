@@ -74,7 +74,8 @@ has_repeat points = list_any is_nothing (edges_of points)
 abbrev pub folds_back : Segment → Segment → Bool
 folds_back e f = is_on_edge e.a f || is_on_edge f.b e
 
--- two edges of a polygon of so many edges, each with its number, the smaller first: neighbours share only their common corner, others don't touch
+-- two edges of a polygon of so many edges, each with its number, the smaller first: neighbours share only their common
+-- corner, others don't touch
 unfoldable pub may_be_edges : ℕ → (ℕ × Segment) × (ℕ × Segment) → Bool
 may_be_edges count e =
     if e.1.0 == e.0.0 + 1 then not (folds_back e.0.1 e.1.1)
@@ -84,6 +85,7 @@ may_be_edges count e =
 unfoldable pub crosses_nowhere : List Point → Bool
 crosses_nowhere points = list_all (may_be_edges (length points)) (numbered_pairs (edges_of points))
 
--- at least three points, neighbouring points differ, neighbouring edges share only their common corner, and no other two edges touch
+-- at least three points, neighbouring points differ, neighbouring edges share only their common corner, and no other
+-- two edges touch
 abbrev pub is_simple : List Point → Bool
 is_simple points = nat_le 3 (length points) && (not (has_repeat points) && crosses_nowhere points)

@@ -51,20 +51,20 @@ pub record IsWithin (most z : ℤ) : Type 0 where
   pub low : neg_ℤ most ≤ℤ z
   pub high : z ≤ℤ most
 
--- a point whose coordinates are at most 100000 in size
+-- a point whose coordinates are at most `MAX_COORDINATE` in size
 pub record InRange (p : Point) : Type 0 where
   pub x : IsWithin MAX_COORDINATE p.x
   pub y : IsWithin MAX_COORDINATE p.y
 
--- a coordinate is at most 100000 in size
+-- a coordinate is at most `MAX_COORDINATE` in size
 abbrev pub is_coordinate : ℤ → Bool
 is_coordinate z = int_le (neg_ℤ MAX_COORDINATE) z && int_le z MAX_COORDINATE
 
--- both coordinates are at most 100000 in size
+-- both coordinates are at most `MAX_COORDINATE` in size
 abbrev pub is_in_range : Point → Bool
 is_in_range p = is_coordinate p.x && is_coordinate p.y
 
--- a direction whose components are at most 400000 in size, as a sum of two vectors between points in range is
+-- a direction whose components are at most `MAX_COMPONENT` in size, as a sum of two vectors between points in range is
 pub record IsDirection (d : Point) : Type 0 where
   pub x : IsWithin MAX_COMPONENT d.x
   pub y : IsWithin MAX_COMPONENT d.y

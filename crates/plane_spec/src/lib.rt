@@ -9,10 +9,10 @@
 //! | [`Orientation`] | which way round a polygon is given |
 //! | [`MAX_COORDINATE`], [`MAX_COMPONENT`] | how large coordinates and the components of directions are |
 //!
-//! The definitions stand in `specs/`: `Lists` (pairs, distinct elements, the least, elements in order), `Vectors` (cross,
-//! dot, orientation, ranges, the order of directions), `Segments` (on a segment, proper crossing, touching), `Polygons`
-//! (edges, inside, simple), `Cones` (the directions into what is blocked), `Fractions` (order, lowest terms, points with
-//! fractions), `RPoints` (the same as `Segments` for such points) and `Boxes` (which segments meet one).
+//! The definitions stand in `specs/`: `Lists` (pairs, distinct elements, the least, elements in order), `Vectors`
+//! (cross, dot, orientation, ranges, the order of directions), `Segments` (on a segment, proper crossing, touching),
+//! `Polygons` (edges, inside, simple), `Cones` (the directions into what is blocked), `Fractions` (order, lowest terms,
+//! points with fractions), `RPoints` (the same as `Segments` for such points) and `Boxes` (which segments meet one).
 #![tactic(auto)]
 
 /// The greatest size of a coordinate, in the plan's own unit.

@@ -11,7 +11,7 @@
 //! A law is a function without parameters and with an empty body, whose contract states it. Coordinates are any whole
 //! numbers.
 //!
-//! | law | what it says | rests on |
+//! | law | what it says | breaks if .. changes |
 //! |---|---|---|
 //! | [`a_box_is_a_simple_polygon`] | a box with sides longer than 0 is a simple polygon | `is_simple` |
 //! | [`segments_in_boxes_apart_dont_touch`] | segments between points of boxes that are apart don't touch | `do_touch` |

@@ -9,6 +9,17 @@ use Rattle.report_spec.specs.Replies.{reason_words}
 abbrev pub ended_message : List ℕ → List ℕ
 ended_message text = text ++ 10 ∷ []
 
+-- a line that begins with a program's name
+abbrev pub message_by : List ℕ → List ℕ → List ℕ
+message_by program text = ended_message (program ++ (codes ": " ++ text))
+
+-- a program's line of a file that holds no plan: plan line L: WHY
+abbrev pub plan_message_by : List ℕ → ℕ → Reason → List ℕ
+plan_message_by program line reason =
+    message_by program (codes "plan line " ++ (decimal line ++ (codes ": " ++ join_with_byte 32 (reason_words reason))))
+
+-- ---- the lines of depthmap
+
 -- the words don't stand for options
 abbrev pub usage_message : List ℕ
 usage_message = ended_message (codes "depthmap: usage: depthmap -m VGA|ISOVIST|AXIAL|SEGMENT|CHECK -f FILE [--workers N] [--format text|csv] or depthmap -m TRIAL --number N [--workers N] [--format text|csv]")

@@ -14,6 +14,6 @@ pub enum Reason {
     NoPoint,
     /// The point isn't open.
     Closed,
-    /// There are more than 16384 axial lines.
+    /// There are more than [`MAX_AXIAL_LINES`](plan_spec::MAX_AXIAL_LINES) axial lines.
     Lines,
 }

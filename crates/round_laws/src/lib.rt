@@ -27,8 +27,8 @@
 //! | [`a_hidden_body_may_be_left_out`] | bodies behind covers in all of their bins | `place_of` |
 //!
 //! Definitions: `Rounds` and `Kept`. Proofs cite `proofs/`: `Sectors` and `Endings` (the steps), `Steps` (what the list
-//! holds), `Edits`, `Begun` (put in and taken out), `Corners`, `Placing` (where), `Without`, `Bodies`, `HiddenBodies` (left
-//! out).
+//! holds), `Edits`, `Begun` (put in and taken out), `Corners`, `Placing` (where), `Without`, `Bodies`, `HiddenBodies`
+//! (left out).
 #![tactic(auto)]
 
 ghost use Rattle.std.specs.Option.{option_map};

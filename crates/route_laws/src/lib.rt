@@ -9,7 +9,7 @@
 //! Code that cuts routes and walks along their pieces counts in machine words; these laws say that it may. A law is a
 //! function without parameters and with an empty body, whose contract states it.
 //!
-//! | law | what it says | rests on |
+//! | law | what it says | breaks if .. changes |
 //! |---|---|---|
 //! | [`crossings_have_small_parts`] | where the lines of two routes cross, the parts are as small as those of a stop | `crossing_at` |
 //! | [`cuts_lie_between_the_ends`] | a cut lies strictly between its route's ends, and its parts are as small as those of a stop | `cuts_of` |

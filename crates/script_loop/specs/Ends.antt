@@ -6,8 +6,8 @@ use Rattle.script_loop.specs.Steps.{LineStep, has_refusal_by, replies_by, state_
 use Rattle.script_loop.specs.declared.script.ScriptEnd.{ScriptEnd}
 use Rattle.script_loop.specs.declared.script.ScriptEnd.TheVariants.{All, Failed, Unwritten, NoMemory, Over}
 
--- the script was taken to its end, which keeps the limit, and the replies to all its lines were written; the state that they
--- leave, and whether one of them is refused
+-- the script was taken to its end, which keeps the limit, and the replies to all its lines were written; the state that
+-- they leave, and whether one of them is refused
 pub record AllAnswered {S : Type 0} (step : S → ℕ → List ℕ → LineStep S) (limit : ℕ) (first last : S)
     (script left before after : Option (List ℕ)) (refused : Bool) : Type 0 where
   pub text : List ℕ
@@ -37,8 +37,8 @@ pub record WithinAnswered {S : Type 0} (step : S → ℕ → List ℕ → LineSt
   pub written : after ≡ appended_to before (replies_by step first 1 (whole_lines_of (take limit bytes)))
   pub leaves : last ≡ state_after step first 1 (whole_lines_of (take limit bytes))
 
--- a prefix of the replies to the whole lines of the bytes that were taken was written; or nothing is left of the script, and a
--- prefix of the replies to all its lines was
+-- a prefix of the replies to the whole lines of the bytes that were taken was written; or nothing is left of the
+-- script, and a prefix of the replies to all its lines was
 pub record PartAnswered {S : Type 0} (step : S → ℕ → List ℕ → LineStep S) (limit : ℕ) (first : S)
     (script left before after : Option (List ℕ)) : Type 0 where
   pub bytes : List ℕ

@@ -28,9 +28,9 @@ pub trait Answerer {
     /// What a line of a number does in a state.
     ghost step: { State → ℕ → List ℕ → LineStep State };
 
-    /// Answers a line on `out`, shown without its newline and a carriage return before it, or `None` where it was too long
-    /// and is skipped; whether it is refused. After a fault a prefix of the reply was written,
-    /// and any state is left. It may make threads by `rt`.
+    /// Answers a line on `out`, shown without its newline and a carriage return before it, or `None` where it was too
+    /// long and is skipped; whether it is refused. After a fault a prefix of the reply was written, and any state is
+    /// left. It may make threads by `rt`.
     fn answer<R: Threads + Sync, O: Sink>(
         &mut self,
         rt: &R,

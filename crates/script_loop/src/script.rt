@@ -22,8 +22,8 @@ pub enum ScriptEnd {
     Over,
 }
 
-/// Answers the lines of a script of at most `limit` bytes. More of the script is taken only once every line that was taken
-/// whole is answered, so that whoever types it gets each reply before the next line.
+/// Answers the lines of a script of at most `limit` bytes. More of the script is taken only once every line that was
+/// taken whole is answered, so that whoever types it gets each reply before the next line.
 ///
 /// Cost: one pass over the script's bytes, and that of the answers; memory for one line.
 pub fn answer_script<A: Answerer, S: Source, O: Sink>(

@@ -38,7 +38,8 @@ impl Answerer for Dots {
     }
 }
 
-/// Answers a script of which a take gives `most` bytes, where the calls of a number fail: how that ends, and what is written.
+/// Answers a script of which a take gives `most` bytes, where the calls of a number fail: how that ends, and what is
+/// written.
 fn answered(
     threads: &(impl Threads + Sync),
     alloc: Global,
@@ -63,7 +64,8 @@ fn answered(
     Ok((end, out))
 }
 
-/// A script, how many bytes a take gives, the limit, which takes fail, which puts fail; how it ends, and what is written.
+/// A script, how many bytes a take gives, the limit, which takes fail, which puts fail; how it ends, and what is
+/// written.
 type Row = (
     &'static [u8],
     usize,

@@ -1,7 +1,7 @@
 -- The first of the least, sought one after another and part by part.
 use Rattle.std.proofs.Common.{◌≡◌, ℕ, suc, add-one, ◌<◌, ◌≤◌, ◌+◌, List, [], ◌∷◌, ◌++◌, length, drop, get_or, refl, sym, ap, ◌∙◌}
-use Rattle.std.specs.Prelude.{Option, Some, None}
-use Rattle.std.specs.List.{filter_map, cons_option}
+use Rattle.std.specs.Prelude.{Bool, true, false, Option, Some, None, if◌then◌else◌}
+use Rattle.std.specs.List.{best_of, filter_map, cons_option}
 use Rattle.std.proofs.lemmas.List.{drop_all}
 use Rattle.std.proofs.Math.Seq.{drop-cons}
 use Rattle.std.proofs.lemmas.List.Elements.{filter_map-append}
@@ -9,8 +9,8 @@ use Rattle.plane_spec.specs.declared.Point.{Point}
 use Rattle.plane_spec.specs.Lists.{min_by}
 use Rattle.plane_spec.specs.Fractions.{Fraction, is_before}
 use Rattle.sight_spec.specs.Scene.{Scene, blockers_of_scene}
-use Rattle.sight_spec.specs.Stops.{blocker_hit, corner_hit, start_hit, hits_of}
-use Rattle.sight_core.specs.Hits.{nearer, min_from, nearest_line_of, nearest_of}
+use Rattle.sight_spec.specs.Stops.{blocker_hit, corner_hit, start_hit, hits_of, nearer}
+use Rattle.sight_core.specs.Hits.{min_from, nearest_line_of, nearest_of}
 
 -- with none before
 from_none : (hits : List Fraction) → min_from None hits ≡ min_by is_before hits
@@ -23,11 +23,18 @@ unfolding min_from
 min_from-nil None = refl
 min_from-nil (Some best) = refl
 
+-- the better of two, and then the hits after it
+best_from : (better : Bool) (hit best : Fraction) (hits : List Fraction)
+    → Some (best_of is_before (if better then hit else best) hits) ≡ min_from (if better then Some hit else Some best) hits
+unfolding min_from
+best_from true hit best hits = refl
+best_from false hit best hits = refl
+
 -- the next hit
 min_from-cons : (best : Option Fraction) (hit : Fraction) (hits : List Fraction) → min_from best (hit ∷ hits) ≡ min_from (nearer best (Some hit)) hits
 unfolding min_from
 min_from-cons None hit hits = refl
-min_from-cons (Some best) hit hits = refl
+min_from-cons (Some best) hit hits = best_from (is_before hit best) hit best hits
 
 nearer-none : (best : Option Fraction) → nearer best None ≡ best
 nearer-none None = refl

@@ -1,5 +1,5 @@
 -- The first of the least fractions, sought one after another.
-use Rattle.std.specs.Prelude.{pos, ◌-ℤ◌, ◌≤ℤ◌, Bool, false, not, List, Option, Some, None, if◌then◌else◌}
+use Rattle.std.specs.Prelude.{pos, ◌-ℤ◌, ◌≤ℤ◌, Bool, false, not, List, Option, Some, None}
 use Rattle.std.specs.List.{best_of, filter_map}
 use Rattle.plane_spec.specs.declared.Point.{Point}
 use Rattle.plane_spec.specs.declared.Segment.{Segment}
@@ -15,12 +15,6 @@ pub record IsHit (f : Fraction) : Type 0 where
   pub num : IsWithin MAX_STOP_PART f.num
   pub den : IsWithin MAX_STOP_PART f.den
   pub positive : pos 1 ≤ℤ f.den
-
--- the hit that comes before the best so far, or the best so far
-abbrev pub nearer : Option Fraction → Option Fraction → Option Fraction
-nearer None hit = hit
-nearer (Some best) None = Some best
-nearer (Some best) (Some hit) = Some (if is_before hit best then hit else best)
 
 -- the first of the least among the best so far and the hits after it
 unfoldable pub min_from : Option Fraction → List Fraction → Option Fraction

@@ -20,8 +20,8 @@ use exact_geom::{
 use plane_spec::{Corner, Point, Segment as Wall};
 use std::marker::Model;
 
-/// A `t` at which a ray is stopped, or at which its line meets a wall's: a fraction that isn't reduced, over a denominator of
-/// at least 1. Contracts see the fraction.
+/// A `t` at which a ray is stopped, or at which its line meets a wall's: a fraction that isn't reduced, over a
+/// denominator of at least 1. Contracts see the fraction.
 #[derive(Clone, Copy, Debug)]
 pub struct Hit {
     num: i128,
@@ -100,16 +100,22 @@ impl Hit {
     }
 }
 
-/// The hit where it comes before the best so far, and otherwise the best so far.
+/// The earlier of two hits, the first where neither is.
 ///
 /// Cost: two products.
 pub fn nearer(best: Option<Hit>, hit: Option<Hit>) -> Option<Hit>
-    ensures { result ≡ hits.nearer best hit }
+    ensures { result ≡ stops.nearer best hit }
 {
     match (best, hit) {
         (None, hit) => hit,
         (Some(best), None) => Some(best),
-        (Some(best), Some(hit)) => Some(if is_before(&hit, &best) { hit } else { best }),
+        (Some(best), Some(hit)) => {
+            if is_before(&hit, &best) {
+                Some(hit)
+            } else {
+                Some(best)
+            }
+        }
     }
 }
 
@@ -134,7 +140,8 @@ fn turn_to(p: Point, d: Point, x: Point) -> i128
     cross(d, vector(p, x))
 }
 
-/// Twice the area of the triangle from `p` to the wall or screen, positive where it runs counterclockwise as seen from `p`.
+/// Twice the area of the triangle from `p` to the wall or screen, positive where it runs counterclockwise as seen from
+/// `p`.
 fn wall_parameter_numerator(p: Point, wall: &Wall) -> i128
     requires p_in { InRange p }
     requires wall_in { IsSegmentInRange wall.now }

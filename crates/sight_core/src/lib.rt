@@ -19,9 +19,10 @@
 //! | [`is_open`] | whether a point is open: in the outer polygon, and inside no obstacle |
 //! | [`types_are_shared`] | a scene may be moved to a thread and shared between threads |
 //!
-//! What is blocked lies left of each wall: the outer polygon's walls are directed clockwise, those of
-//! obstacles counterclockwise, whichever way their points were given. A segment between two points is free where it crosses no wall
-//! and no screen properly, has no wall on whose left it begins or ends, and passes through no corner into what is blocked:
+//! What is blocked lies left of each wall: the outer polygon's walls are directed clockwise, those of obstacles
+//! counterclockwise, whichever way their points were given. A segment between two points is free where it crosses no
+//! wall and no screen properly, has no wall on whose left it begins or ends, and passes through no corner into what is
+//! blocked:
 //!
 //! ```text
 //!   p-----+---q    grazes a corner: free        p             passes through two corners: blocked

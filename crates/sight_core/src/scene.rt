@@ -38,7 +38,7 @@ impl Model for Scene {
 }
 
 impl Scene {
-    /// The walls, directed so that what is blocked lies on their left: at most 1024.
+    /// The walls, directed so that what is blocked lies on their left: at most `MAX_CORNERS`.
     pub fn walls(&self) -> &[Wall]
         ensures walls { result.now ≡ self.now.walls }
         ensures in_range { All IsSegmentInRange result.now }
@@ -48,7 +48,7 @@ impl Scene {
         &self.walls
     }
 
-    /// The screens, each from its first end to its second: at most 256.
+    /// The screens, each from its first end to its second: at most `MAX_SCREENS`.
     pub fn screens(&self) -> &[Wall]
         ensures screens { result.now ≡ self.now.screens }
         ensures in_range { All IsSegmentInRange result.now }
@@ -58,7 +58,7 @@ impl Scene {
         &self.screens
     }
 
-    /// The corners between the walls, and then the ends of the screens: at most 1024.
+    /// The corners between the walls, and then the ends of the screens: at most `MAX_CORNERS`.
     pub fn corners(&self) -> &[Corner]
         ensures corners { result.now ≡ self.now.corners }
         ensures in_range { All IsCornerInRange result.now }

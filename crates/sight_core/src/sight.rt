@@ -143,11 +143,11 @@ fn is_blocked(walls: &[Wall], screens: &[Wall], corners: &[Corner], p: Point, q:
 }
 
 /// Whether `p` and `q` see each other: they differ, the segment between them crosses no wall and no screen properly,
-/// neither begins nor ends on a wall with the rest to its left, and passes through no corner into what is blocked. Grazing
-/// a wall, a screen or a corner is free.
+/// neither begins nor ends on a wall with the rest to its left, and passes through no corner into what is blocked.
+/// Grazing a wall, a screen or a corner is free.
 ///
-/// Cost: one pass over the walls, screens and corners, up to the first that is in the way, and mostly two orientations a
-/// wall.
+/// Cost: one pass over the walls, screens and corners, up to the first that is in the way, and mostly two orientations
+/// a wall.
 ///
 /// Source: mutual visibility after Turner, Doxa, O'Sullivan and Penn (2001); the rule at corners is this project's own.
 #[tactic(auto, unfolding(sight_spec::specs::Sight::are_in_sight))]

@@ -77,13 +77,14 @@ fn nearest_of(scene: &Scene, p: Point, d: Point) -> Option<Hit>
     nearest_start(ahead, scene.walls(), p, d)
 }
 
-/// How far a ray reaches: the least `t` of at least 0 for which `p + t d` is where it meets a wall or a screen between its
-/// ends, where it passes through a corner into what is blocked, or where it begins, if that is on a wall, not at its ends,
-/// with what is blocked ahead. `None` exactly where nothing stops it.
+/// How far a ray reaches: the least `t` of at least 0 for which `p + t d` is where it meets a wall or a screen between
+/// its ends, where it passes through a corner into what is blocked, or where it begins, if that is on a wall, not at
+/// its ends, with what is blocked ahead. `None` exactly where nothing stops it.
 ///
 /// Cost: two passes over the walls and one over the screens and corners, and the reduction of one fraction.
 ///
-/// Source: the rays of an isovist after Benedikt (1979); the rules at corners and at the beginning are this project's own.
+/// Source: the rays of an isovist after Benedikt (1979); the rules at corners and at the beginning are this project's
+/// own.
 #[tactic(auto, unfolding(sight_spec::specs::Stops::stop_of))]
 pub fn stop(scene: &Scene, p: Point, d: Point) -> Option<Frac>
     requires p_in { InRange p }
@@ -96,9 +97,9 @@ pub fn stop(scene: &Scene, p: Point, d: Point) -> Option<Frac>
     nearest_of(scene, p, d).map(|hit| hit.reduced())
 }
 
-/// Stops are small and never behind: in each scene of a sound plan, where a ray from a point in range is stopped at `t`,
-/// numerator and denominator are at most [`MAX_STOP_PART`](exact_geom::MAX_STOP_PART) in size, and `t` is at least 0. So `RPoint::along` takes a stop of which
-/// only the definition is known.
+/// Stops are small and never behind: in each scene of a sound plan, where a ray from a point in range is stopped at
+/// `t`, numerator and denominator are at most [`MAX_STOP_PART`](exact_geom::MAX_STOP_PART) in size, and `t` is at least
+/// 0. So `RPoint::along` takes a stop of which only the definition is known.
 ///
 /// Proofs cite these laws from `proofs/StopBounds.antt`.
 pub fn stops_are_small()
@@ -136,9 +137,9 @@ fn first_hit_by(lines: &[Wall], p: Point, d: Point, other: &Hit) -> Option<usize
     lines.iter().position(|line| is_hit_by(p, d, other, line))
 }
 
-/// The number of the wall or screen that a ray meets nearest, between its ends and after its beginning: walls are numbered
-/// from 0 on, and then come the screens. Of those that it meets in one point it is the first. `None` where the ray meets
-/// none.
+/// The number of the wall or screen that a ray meets nearest, between its ends and after its beginning: walls are
+/// numbered from 0 on, and then come the screens. Of those that it meets in one point it is the first. `None` where the
+/// ray meets none.
 ///
 /// Cost: two passes over the walls and screens.
 pub fn near_wall(scene: &Scene, p: Point, d: Point) -> Option<u32>
@@ -165,9 +166,9 @@ pub fn near_walls_are_numbered()
     ensures { (scene : Scene) (p d : Point) (k : ℕ) → stops.near_wall_of scene p d ≡ Some k → k < length scene.walls + length scene.screens }
 {}
 
-/// The stop from a later point of a ray that its beginning sees: the stop from the beginning, less one step, or none with it.
-/// So one sweep at each of two points that see each other gives the stops of the line through both. The later point isn't
-/// on a screen, but for its ends.
+/// The stop from a later point of a ray that its beginning sees: the stop from the beginning, less one step, or none
+/// with it. So one sweep at each of two points that see each other gives the stops of the line through both. The later
+/// point isn't on a screen, but for its ends.
 ///
 /// Proofs cite this law from `proofs/Onward.antt`.
 pub fn stops_go_on()

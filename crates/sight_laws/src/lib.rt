@@ -28,7 +28,7 @@
 //! | [`no_sight_through_a_convex_obstacle`] | a segment that passes through a simple convex obstacle is blocked | `is_blocked`, `is_in_cone`, `is_inside` |
 //! | [`a_convex_obstacle_blocks_no_more`] | a segment that such an obstacle blocks passes through it | the same |
 //! | [`a_convex_outer_polygon_blocks_nothing`] | between points on or inside it, a convex outer polygon is never in the way | `is_blocked`, `is_in_cone`, `is_inside` |
-//! | [`sight_among_convex_polygons`] | in a plan of convex polygons, sound or not, two points see each other exactly where they differ, no screen is crossed and no obstacle passed through | `are_in_sight`, `scene_of` |
+//! | [`sight_among_convex_polygons`] | in a plan of convex polygons, sound or not, two points see each other exactly where they differ, no screen is crossed properly and no obstacle passed through | `are_in_sight`, `scene_of` |
 //! | [`what_is_seen_among_convex_polygons`] | the same of open points of a sound plan | `are_in_sight`, `is_sound`, `is_open` |
 //! | [`seeing_past_is_seeing_over_open_points`] | there, that is what plane geometry says of the whole segment | `is_open`, `is_inside` |
 //! | [`no_sight_between_open_points_through_a_convex_obstacle`] | an open point sees nothing through a convex obstacle of a sound plan | `are_in_sight`, `is_sound` |

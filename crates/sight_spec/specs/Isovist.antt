@@ -52,8 +52,8 @@ abbrev pub stops_at_once : Option Fraction → Bool
 stops_at_once None = false
 stops_at_once (Some t) = int_eq t.num (pos 0)
 
--- the wall or screen that is seen between two directions, by what the ray in the direction of their sum meets: none in a gap of
--- a half turn or more, nor from a lone direction round to itself, nor where the ray is stopped at once
+-- the wall or screen that is seen between two directions, by what the ray in the direction of their sum meets: none in
+-- a gap of a half turn or more, nor from a lone direction round to itself, nor where the ray is stopped at once
 abbrev pub wall_by : Point → Point → RayHit → Option ℕ
 wall_by e f hit = if int_le (cross_of e f) (pos 0) || stops_at_once hit.stop then None else hit.wall
 

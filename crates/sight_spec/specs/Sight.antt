@@ -37,7 +37,8 @@ corner_stops p q c = not (same_point c.here q) && (is_on_segment c.here p q && i
 abbrev pub corner_blocks : Point → Point → Corner → Bool
 corner_blocks p q c = corner_stops p q c || corner_stops q p c
 
--- a wall or a screen is crossed properly, a wall that the segment begins or ends on has it on its left, or a corner is in the way
+-- a wall or a screen is crossed properly, a wall that the segment begins or ends on has it on its left, or a corner is
+-- in the way
 unfoldable pub is_blocked : Scene → Point → Point → Bool
 is_blocked scene p q =
     list_any (crosses p q) (blockers_of_scene scene) || (list_any (starts_or_ends_in_wall p q) scene.walls || list_any (corner_blocks p q) scene.corners)

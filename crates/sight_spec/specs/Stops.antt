@@ -40,6 +40,12 @@ corner_hit p d c =
 unfoldable pub start_hit : Point → Point → Segment → Option Fraction
 start_hit p d w = if is_in_interior p w && turns_left (vector w.a w.b) d then Some (whole (pos 0)) else None
 
+-- the earlier of two hits, the first where neither is
+abbrev pub nearer : Option Fraction → Option Fraction → Option Fraction
+nearer None hit = hit
+nearer (Some best) None = Some best
+nearer (Some best) (Some hit) = if is_before hit best then Some hit else Some best
+
 -- all the t at which the ray from p in direction d is stopped
 abbrev pub hits_of : Scene → Point → Point → List Fraction
 hits_of scene p d =

@@ -1,6 +1,6 @@
-//! What is seen in a plan: its walls, screens and corners, who sees whom, how far a ray reaches, the visibility graph of
-//! the grid, isovists, axial lines, and what an edit may change of all this. Definitions, and the plain data that they
-//! name.
+//! What is seen in a plan: its walls, screens and corners, who sees whom, how far a ray reaches, the visibility graph
+//! of the grid, isovists, axial lines, and what an edit may change of all this. Definitions, and the plain data that
+//! they name.
 //!
 //! | item | what it is |
 //! |---|---|

@@ -25,7 +25,7 @@ use Rattle.sweep_laws.proofs.Grouped.{stands_where}
 use Rattle.view_laws.specs.declared.view.Arc.{Arc}
 use Rattle.view_laws.specs.declared.view.Front.{Front}
 use Rattle.view_laws.specs.declared.view.Sector.{Sector}
-use Rattle.view_laws.specs.Views.{is_in_arc, front_of, length_of, is_from, is_past_first, IsSoFarOrNone, IsReached, number_by}
+use Rattle.view_laws.specs.Views.{is_in_arc, front_of, length_of, is_up_to_end_of, is_past_first, IsSoFarOrNone, IsReached, number_by}
 use Rattle.view_laws.specs.Views.{IsAlong}
 use Rattle.view_laws.proofs.Answers.{ahead_along, behind_along}
 use Rattle.round_laws.specs.Rounds.{is_open_at, is_spanned_at, from_place, to_place, first_held}
@@ -325,7 +325,7 @@ behind_kind p d corners some = record {
       (along_of p d (get_or corners (corner_of e) no_corner).here s)) ∙ h);
 }
 
-from_up_to : (told : Option ℕ) (v : Point) → is_up_to told (length_of v) ≡ true → is_from told v ≡ true
+from_up_to : (told : Option ℕ) (v : Point) → is_up_to told (length_of v) ≡ true → is_up_to_end_of told v ≡ true
 from_up_to None v h = h
 from_up_to (Some far) v h = h
 
@@ -352,13 +352,13 @@ group_reached scene p d arc kept shown place group test leads first g d_in d_som
       });
   all = λ j lt h. by_cases (shown j)
       (λ own. told j lt h own)
-      (λ out. either_second (is_from (least_from leads (far_of p scene.corners) None group) (way_at p scene.corners j))
+      (λ out. either_second (is_up_to_end_of (least_from leads (far_of p scene.corners) None group) (way_at p scene.corners j))
       (is_past_first first (way_at p scene.corners j))
       (untold_past scene p d shown first j is d_some past lt out (k.stands j h) (k.along j h)));
 }
   where
     told : (j : ℕ) → j < length scene.corners → test (get_or scene.corners j no_corner) ≡ true → shown j ≡ true
-        → (is_from (least_from leads (far_of p scene.corners) None group) (way_at p scene.corners j)
+        → (is_up_to_end_of (least_from leads (far_of p scene.corners) None group) (way_at p scene.corners j)
         || is_past_first first (way_at p scene.corners j)) ≡ true
     told j lt h own =
         let found = some_of (λ event. corner_of event == j) group 0

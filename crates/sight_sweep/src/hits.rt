@@ -4,6 +4,7 @@ ghost use Rattle.std.specs.Prelude.{◌≡◌, ◌*ℤ◌, ◌<ℤ◌, ◌≤◌
 ghost use Rattle.std.specs.Option.{option_map};
 ghost use Rattle.plane_spec.specs.Fractions as fractions;
 ghost use Rattle.plane_spec.specs.Vectors.{IsDirected, IsDirection, IsWithin};
+ghost use Rattle.sight_spec.specs.Stops as stops;
 ghost use Rattle.sweep_laws.specs.Parts as parts;
 ghost use Rattle.view_laws.specs.Views as views;
 ghost use Rattle.sight_sweep.specs.Told.{IsFar, IsFrontTo};
@@ -60,7 +61,7 @@ impl Hit {
 
 /// The earlier of the two, the first where neither is.
 pub(crate) fn nearer(best: Option<Hit>, hit: Option<Hit>) -> Option<Hit>
-    ensures { result ≡ parts.nearer_hit best hit }
+    ensures { result ≡ stops.nearer best hit }
 {
     match (best, hit) {
         (None, hit) => hit,

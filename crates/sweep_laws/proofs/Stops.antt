@@ -23,7 +23,7 @@ use Rattle.plane_spec.specs.declared.Corner.{Corner}
 use Rattle.plane_spec.specs.declared.Point.{Point}
 use Rattle.plane_spec.specs.declared.Segment.{Segment}
 use Rattle.sight_spec.specs.Scene.{Scene, blockers_of_scene}
-use Rattle.sight_spec.specs.Stops.{blocker_hit, corner_hit, start_hit, hits_of, stop_of}
+use Rattle.sight_spec.specs.Stops.{blocker_hit, corner_hit, start_hit, hits_of, stop_of, nearer}
 use Rattle.int_laws.proofs.Ring.{dot_times, dot_times_across, times_minus}
 use Rattle.int_laws.proofs.Signs.{zero_factor, tested_positive, not_negative_product}
 use Rattle.int_laws.proofs.Tests.{agree, less_tested, not_less}
@@ -42,7 +42,7 @@ use Rattle.sweep_laws.proofs.NearWall.{front_hit, any_found, none_before_front, 
 use Rattle.sweep_laws.specs.First.{seen_first}
 use Rattle.sweep_laws.specs.First.{IsFirst}
 use Rattle.sweep_laws.specs.Groups.{stands_in, is_own, is_ahead, no_corner, IsNearest}
-use Rattle.sweep_laws.specs.Parts.{nearer_hit, blocker_stop, IsNearestOrNone, corner_stop, start_stop, leaves_left}
+use Rattle.sweep_laws.specs.Parts.{blocker_stop, IsNearestOrNone, corner_stop, start_stop, leaves_left}
 use Rattle.sweep_laws.specs.Parts.{first_stop}
 
 -- ---- tests of lists
@@ -131,7 +131,7 @@ none_earlier hits h l all h_up l_up none before =
     (none_at (λ t. is_before t h) hits k l none lt) before)
 
 pub least_append : (xs ys : List Fraction) (a b : Option Fraction) → All IsUp xs → All IsUp ys → HasLeast xs a
-    → HasLeast ys b → HasLeast (xs ++ ys) (nearer_hit a b)
+    → HasLeast ys b → HasLeast (xs ++ ys) (nearer a b)
 least_append xs ys None b x_up y_up h k = subst (λ t. HasLeast (t ++ ys) b) (sym h) k
 least_append xs ys (Some a) None x_up y_up h k =
     subst (λ t. IsLeastOf (xs ++ t) a) (sym k) (subst (λ t. IsLeastOf t a) (sym (append-nil xs)) h)
@@ -418,12 +418,12 @@ ahead_least p d corners v some own n =
 pub corner_least : (p d : Point) (corners : List Corner) (ahead : Option Point) → pos 0 <ℤ dot_of d d
     → IsNearestOrNone p d (is_ahead p d) corners ahead
     → HasLeast (filter_map (corner_hit p d) corners)
-    (nearer_hit (corner_stop d ahead) (start_stop (list_any (is_own p d) corners)))
+    (nearer (corner_stop d ahead) (start_stop (list_any (is_own p d) corners)))
 corner_least p d corners ahead some h = by_own (list_any (is_own p d) corners) refl ahead h
   where
     by_own : (b : Bool) → list_any (is_own p d) corners ≡ b → (a : Option Point)
         → IsNearestOrNone p d (is_ahead p d) corners a
-        → HasLeast (filter_map (corner_hit p d) corners) (nearer_hit (corner_stop d a) (start_stop b))
+        → HasLeast (filter_map (corner_hit p d) corners) (nearer (corner_stop d a) (start_stop b))
     by_own true own None n = own_least p d corners some own
     by_own true own (Some v) n = subst (HasLeast (filter_map (corner_hit p d) corners))
         (sym (at_once (dot_of d v) (dot_of d d) (ahead_up p d corners v n))) (own_least p d corners some own)
@@ -511,9 +511,9 @@ stop_is scene p d first ahead some front near =
     (list_any (leaves_left p d) scene.walls))
     (up_append blockers (corners ++ starts) lines_up (up_append corners starts corners_up starts_up))
     (least_append blockers (corners ++ starts) (blocker_stop d (seen_first first))
-    (nearer_hit (nearer_hit (corner_stop d ahead) (start_stop (list_any (is_own p d) scene.corners)))
+    (nearer (nearer (corner_stop d ahead) (start_stop (list_any (is_own p d) scene.corners)))
     (start_stop (list_any (leaves_left p d) scene.walls))) lines_up
     (up_append corners starts corners_up starts_up) (blocker_least scene p d first front)
-    (least_append corners starts (nearer_hit (corner_stop d ahead)
+    (least_append corners starts (nearer (corner_stop d ahead)
     (start_stop (list_any (is_own p d) scene.corners))) (start_stop (list_any (leaves_left p d) scene.walls))
     corners_up starts_up (corner_least p d scene.corners ahead some near) (start_least p d scene.walls)))

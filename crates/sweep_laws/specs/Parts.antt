@@ -4,13 +4,14 @@ use Rattle.std.specs.List.{list_any}
 use Rattle.std.specs.Ordering.{int_eq}
 use Rattle.std.specs.Prelude.{◌≡◌, Bool, false, ◌&&◌, ◌||◌, List, Option, Some, None, if◌then◌else◌, pos, int_lt}
 use Rattle.std.specs.Prelude.{int_le}
-use Rattle.plane_spec.specs.Fractions.{Fraction, is_before, whole}
+use Rattle.plane_spec.specs.Fractions.{Fraction, whole}
 use Rattle.plane_spec.specs.Vectors.{vector, turns_left, dot_of}
 use Rattle.plane_spec.specs.declared.Corner.{Corner}
 use Rattle.plane_spec.specs.declared.Point.{Point}
 use Rattle.plane_spec.specs.declared.Segment.{Segment}
 use Rattle.sight_spec.specs.Scene.{Scene}
 use Rattle.sight_spec.specs.Sight.{is_in_interior}
+use Rattle.sight_spec.specs.Stops.{nearer}
 use Rattle.front_laws.specs.Seen.{Seen, side_of, hit_of}
 use Rattle.sweep_laws.specs.Groups.{IsNearest, is_own}
 use Rattle.std.specs.Prelude.{ℕ, nat_lt, length}
@@ -63,12 +64,6 @@ is_up_to d (Some v) = int_le (dot_of d v) (dot_of d d)
 
 -- ---- how far a ray reaches
 
--- the earlier of the two, the first where neither is
-abbrev pub nearer_hit : Option Fraction → Option Fraction → Option Fraction
-nearer_hit None hit = hit
-nearer_hit (Some best) None = Some best
-nearer_hit (Some best) (Some hit) = if is_before hit best then Some hit else Some best
-
 -- where the ray meets the first blocker
 abbrev pub blocker_stop : Point → Option Seen → Option Fraction
 blocker_stop d None = None
@@ -86,5 +81,5 @@ start_stop begins = if begins then Some (whole (pos 0)) else None
 -- the first of these: what is first in the direction, the nearest corner ahead, and the start
 abbrev pub first_stop : Point → Option Seen → Option Point → Bool → Bool → Option Fraction
 first_stop d first ahead from_corner from_wall =
-    nearer_hit (blocker_stop d first) (nearer_hit (nearer_hit (corner_stop d ahead) (start_stop from_corner))
+    nearer (blocker_stop d first) (nearer (nearer (corner_stop d ahead) (start_stop from_corner))
     (start_stop from_wall))

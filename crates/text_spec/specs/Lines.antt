@@ -13,8 +13,8 @@ without_empty_last [] = []
 without_empty_last (part ∷ []) = if length part == 0 then [] else part ∷ []
 without_empty_last (part ∷ next ∷ parts) = part ∷ without_empty_last (next ∷ parts)
 
--- each line as it stands before its newline or before the end of the bytes; what ends right after a newline has no further
--- line
+-- each line as it stands before its newline or before the end of the bytes; what ends right after a newline has no
+-- further line
 abbrev pub lines_of : List ℕ → List (List ℕ)
 lines_of bytes = without_empty_last (slice_split is_newline bytes)
 

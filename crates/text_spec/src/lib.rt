@@ -1,4 +1,5 @@
-//! Lines, words, numbers and names as bytes: the definitions that readers of text cite, and the types that all crates share.
+//! Lines, words, numbers and names as bytes: the definitions that readers of text cite, and the types that all crates
+//! share.
 //!
 //! | item | what it is |
 //! |---|---|

@@ -10,7 +10,7 @@
 //!
 //! A law is a function without parameters and with an empty body, whose contract states it.
 //!
-//! | law | what it says | rests on |
+//! | law | what it says | breaks if .. changes |
 //! |---|---|---|
 //! | [`there_are_no_more_cells_than_needed`] | c is the least whole number whose square is at least the number of boxes | `root_above` |
 //! | [`each_box_is_inside_its_cell`] | strictly, whichever the number of cells | `trial_box` |

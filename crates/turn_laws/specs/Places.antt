@@ -1,4 +1,4 @@
--- Directions as numbers: their places on the circle.
+-- Directions as numbers: their places on the circle, of which each quarter turn has 2^40, that is 1099511627776.
 use Rattle.std.specs.Prelude.{ℕ, ◌+◌, ◌*◌, ◌/◌, ◌&&◌, if◌then◌else◌, pos, unsigned_abs, int_lt, int_le}
 use Rattle.plane_spec.specs.declared.Point.{Point}
 

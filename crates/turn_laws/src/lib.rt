@@ -31,7 +31,8 @@ ghost use Rattle.front_laws.specs.Seen.{Seen, spans};
 ghost use Rattle.turn_laws.specs.Places.{place_of};
 ghost use Rattle.turn_laws.specs.Turns.{GoesOnFrom, is_among, just_after};
 
-/// Of two directions whose components are at most 400000, one turns before the other exactly where its place is less.
+/// Of two directions whose components are at most `MAX_COMPONENT` in size, one turns before the other exactly where its
+/// place is less.
 pub fn places_keep_the_order_of_directions()
     ensures { (d e : Point) → IsDirection d → IsDirected d → IsDirection e → IsDirected e
         → turns_before d e ≡ nat_lt (place_of d) (place_of e) }

@@ -16,7 +16,7 @@ use Rattle.plane_spec.specs.Vectors.{vector, cross_of, dot_of, IsDirected}
 use Rattle.plane_spec.specs.declared.Corner.{Corner}
 use Rattle.plane_spec.specs.declared.Point.{Point}
 use Rattle.sight_spec.specs.Scene.{Scene, blockers_of_scene}
-use Rattle.sight_spec.specs.Stops.{stop_of}
+use Rattle.sight_spec.specs.Stops.{stop_of, nearer}
 use Rattle.int_laws.proofs.Ring.{times_minus, product_turned}
 use Rattle.int_laws.proofs.Signs.{positive_product}
 use Rattle.int_laws.proofs.Tests.{equal_tested, same_test, less_tested}
@@ -29,7 +29,7 @@ use Rattle.sweep_laws.specs.First.{seen_first}
 use Rattle.sweep_laws.proofs.Stops.{stop_is}
 use Rattle.sweep_laws.specs.First.{IsFront, IsFirst}
 use Rattle.sweep_laws.specs.Groups.{is_ahead, is_own}
-use Rattle.sweep_laws.specs.Parts.{blocker_stop, nearer_hit, start_stop, IsNearestOrNone, corner_stop, leaves_left}
+use Rattle.sweep_laws.specs.Parts.{blocker_stop, start_stop, IsNearestOrNone, corner_stop, leaves_left}
 use Rattle.sweep_laws.specs.Parts.{begins_blocked}
 use Rattle.view_laws.proofs.Answers.{ahead_along}
 use Rattle.view_laws.proofs.Lengths.{in_proportion, hit_before}
@@ -55,25 +55,25 @@ abbrev IsLater : Option Fraction → Type 0
 IsLater None = true ≡ true
 IsLater (Some h) = is_before (whole (pos 0)) h ≡ true
 
-at_once : (o : Option Fraction) → IsLater o → nearer_hit o (Some (whole (pos 0))) ≡ Some (whole (pos 0))
+at_once : (o : Option Fraction) → IsLater o → nearer o (Some (whole (pos 0))) ≡ Some (whole (pos 0))
 at_once None h = refl
 at_once (Some h) later = ap (λ t. cond t (Some (whole (pos 0))) (Some h)) later
 
-none_after : (o : Option Fraction) → nearer_hit o None ≡ o
+none_after : (o : Option Fraction) → nearer o None ≡ o
 none_after None = refl
 none_after (Some h) = refl
 
-zero_twice : nearer_hit (Some (whole (pos 0))) (Some (whole (pos 0))) ≡ Some (whole (pos 0))
+zero_twice : nearer (Some (whole (pos 0))) (Some (whole (pos 0))) ≡ Some (whole (pos 0))
 zero_twice = refl
 
 -- both starts count as one
 starts_together : (o : Option Fraction) (corner wall : Bool) → IsLater o
-    → nearer_hit (nearer_hit o (start_stop corner)) (start_stop wall) ≡ nearer_hit o (start_stop (wall || corner))
-starts_together o true true h = ap (λ t. nearer_hit t (Some (whole (pos 0)))) (at_once o h) ∙ zero_twice
+    → nearer (nearer o (start_stop corner)) (start_stop wall) ≡ nearer o (start_stop (wall || corner))
+starts_together o true true h = ap (λ t. nearer t (Some (whole (pos 0)))) (at_once o h) ∙ zero_twice
     ∙ sym (at_once o h)
-starts_together o true false h = none_after (nearer_hit o (Some (whole (pos 0))))
-starts_together o false true h = ap (λ t. nearer_hit t (Some (whole (pos 0)))) (none_after o)
-starts_together o false false h = none_after (nearer_hit o None)
+starts_together o true false h = none_after (nearer o (Some (whole (pos 0))))
+starts_together o false true h = ap (λ t. nearer t (Some (whole (pos 0)))) (none_after o)
+starts_together o false false h = none_after (nearer o None)
 
 -- ---- fractions of one value
 
@@ -118,11 +118,11 @@ record Stopper (p d : Point) (corners : List Corner) (line : Option Fraction) (f
   is : IsNearestOrNone p d (is_ahead p d) corners corner
   later : IsLater (corner_stop d corner)
   radial_later : IsLater (corner_by d far)
-  agrees : option_map reduced (nearer_hit line (corner_stop d corner))
-      ≡ option_map reduced (nearer_hit line (corner_by d far))
+  agrees : option_map reduced (nearer line (corner_stop d corner))
+      ≡ option_map reduced (nearer line (corner_by d far))
 
-by_line : (line : Option Fraction) (f g : Fraction) → IsSame f g → option_map reduced (nearer_hit line (Some f))
-    ≡ option_map reduced (nearer_hit line (Some g))
+by_line : (line : Option Fraction) (f g : Fraction) → IsSame f g → option_map reduced (nearer line (Some f))
+    ≡ option_map reduced (nearer line (Some g))
 by_line None f g s = ap Some (same_in_terms f g s)
 by_line (Some l) f g s = ap (λ t. option_map reduced (cond t (Some f) (Some l))) (same_before f g l s)
     ∙ pick (is_before g l)
@@ -131,7 +131,7 @@ by_line (Some l) f g s = ap (λ t. option_map reduced (cond t (Some f) (Some l))
     pick true = ap Some (same_in_terms f g s)
     pick false = refl
 
-stays : (l f : Fraction) → is_before l f ≡ true → nearer_hit (Some l) (Some f) ≡ Some l
+stays : (l f : Fraction) → is_before l f ≡ true → nearer (Some l) (Some f) ≡ Some l
 stays l f h = ap (λ t. cond t (Some f) (Some l)) (one_way l f h)
 
 -- a value that isn't less than one that is later is later
@@ -178,7 +178,7 @@ stopper_of p d corners first reach some spanned (unmet h e) = record {
   is = h;
   later = refl;
   radial_later = subst (λ t. IsLater (corner_by d t)) (sym e) refl;
-  agrees = ap (λ t. option_map reduced (nearer_hit (blocker_stop d (seen_first first)) (corner_by d t))) (sym e);
+  agrees = ap (λ t. option_map reduced (nearer (blocker_stop d (seen_first first)) (corner_by d t))) (sym e);
 }
 stopper_of p d corners first reach some spanned (there v n along e) = record {
   corner = Some v;
@@ -190,7 +190,7 @@ stopper_of p d corners first reach some spanned (there v n along e) = record {
       (in_proportion d v some along)));
   agrees = by_line (blocker_stop d (seen_first first)) (record { num = dot_of d v; den = dot_of d d })
       (record { num = pos (length_of v); den = pos (length_of d) }) (corner_same d v some along)
-      ∙ ap (λ t. option_map reduced (nearer_hit (blocker_stop d (seen_first first)) (corner_by d t))) (sym e);
+      ∙ ap (λ t. option_map reduced (nearer (blocker_stop d (seen_first first)) (corner_by d t))) (sym e);
 }
 stopper_of p d corners first reach some spanned (beyond v f n along e h far) =
     let l = hit_of d f.1 in
@@ -206,10 +206,10 @@ stopper_of p d corners first reach some spanned (beyond v f n along e h far) =
       is = n;
       later = zero_later (dot_of d v) (dot_of d d) along.ahead;
       radial_later = later_by (length_of v) reach up far;
-      agrees = ap (λ t. option_map reduced (nearer_hit t (Some c))) line ∙ ap (option_map reduced) (stays l c before)
+      agrees = ap (λ t. option_map reduced (nearer t (Some c))) line ∙ ap (option_map reduced) (stays l c before)
           ∙ ap (option_map reduced) (sym (stays_by l g reach (hit_up d f.1 (spanned f e)) same.up_too refl refl far
           (same_after l c g same before)))
-          ∙ ap (λ t. option_map reduced (nearer_hit t (corner_by d reach))) (sym line);
+          ∙ ap (λ t. option_map reduced (nearer t (corner_by d reach))) (sym line);
     }
   where
     later_by : (n : ℕ) (o : Option ℕ) → pos 0 <ℤ pos n → ((k : ℕ) → o ≡ Some k → n ≤ k) → IsLater (corner_by d o)
@@ -221,7 +221,7 @@ stopper_of p d corners first reach some spanned (beyond v f n along e h far) =
 
     stays_by : (l g : Fraction) (o : Option ℕ) → pos 0 <ℤ l.den → pos 0 <ℤ g.den → pos (length_of d) ≡ g.den → g.num
         ≡ pos (length_of v) → ((k : ℕ) → o ≡ Some k → length_of v ≤ k) → is_before l g ≡ true
-        → nearer_hit (Some l) (corner_by d o) ≡ Some l
+        → nearer (Some l) (corner_by d o) ≡ Some l
     stays_by l g None l_up g_up e i f h = refl
     stays_by l g (Some k) l_up g_up e i f h = stays l (record { num = pos k; den = pos (length_of d) })
         (later_on l g (record { num = pos k; den = pos (length_of d) }) l_up g_up e
@@ -250,17 +250,17 @@ stop_of_radial scene p d radial begins some starts t =
     let wall = list_any (leaves_left p d) scene.walls in
     let same : line ≡ hit_by d radial.front = sym (hit_same scene p d t.first) ∙ ap (hit_by d) (sym t.front) in
     stop_is scene p d t.first s.corner (dot_itself d some) t.is_first s.is
-    ∙ ap (λ o. option_map reduced (nearer_hit line o))
+    ∙ ap (λ o. option_map reduced (nearer line o))
     (starts_together (corner_stop d s.corner) corner wall s.later
-    ∙ ap (λ b. nearer_hit (corner_stop d s.corner) (start_stop b)) starts)
+    ∙ ap (λ b. nearer (corner_stop d s.corner) (start_stop b)) starts)
     ∙ by_start line (corner_stop d s.corner) (corner_by d radial.ahead) begins s.later s.radial_later s.agrees
-    ∙ ap (λ l. option_map reduced (nearer_hit l (nearer_hit (corner_by d radial.ahead) (start_stop begins)))) same
+    ∙ ap (λ l. option_map reduced (nearer l (nearer (corner_by d radial.ahead) (start_stop begins)))) same
   where
-    by_start : (l c o : Option Fraction) (b : Bool) → IsLater c → IsLater o → option_map reduced (nearer_hit l c)
-        ≡ option_map reduced (nearer_hit l o)
-        → option_map reduced (nearer_hit l (nearer_hit c (start_stop b)))
-        ≡ option_map reduced (nearer_hit l (nearer_hit o (start_stop b)))
-    by_start l c o true h k e = ap (λ t. option_map reduced (nearer_hit l t)) (at_once c h)
-        ∙ ap (λ t. option_map reduced (nearer_hit l t)) (sym (at_once o k))
-    by_start l c o false h k e = ap (λ t. option_map reduced (nearer_hit l t)) (none_after c) ∙ e
-        ∙ ap (λ t. option_map reduced (nearer_hit l t)) (sym (none_after o))
+    by_start : (l c o : Option Fraction) (b : Bool) → IsLater c → IsLater o → option_map reduced (nearer l c)
+        ≡ option_map reduced (nearer l o)
+        → option_map reduced (nearer l (nearer c (start_stop b)))
+        ≡ option_map reduced (nearer l (nearer o (start_stop b)))
+    by_start l c o true h k e = ap (λ t. option_map reduced (nearer l t)) (at_once c h)
+        ∙ ap (λ t. option_map reduced (nearer l t)) (sym (at_once o k))
+    by_start l c o false h k e = ap (λ t. option_map reduced (nearer l t)) (none_after c) ∙ e
+        ∙ ap (λ t. option_map reduced (nearer l t)) (sym (none_after o))

@@ -9,10 +9,11 @@ use Rattle.plane_spec.specs.Fractions.{Fraction}
 use Rattle.plane_spec.specs.Vectors.{cross_of, dot_of, is_upper, turns_left, vector, IsDirection, IsDirected}
 use Rattle.plane_spec.specs.declared.Point.{Point}
 use Rattle.sight_spec.specs.Scene.{Scene}
+use Rattle.sight_spec.specs.Stops.{nearer}
 use Rattle.front_laws.specs.Seen.{Seen, side_of}
 use Rattle.sweep_laws.specs.First.{IsFirst}
 use Rattle.sweep_laws.specs.Groups.{no_corner, is_ahead, is_behind}
-use Rattle.sweep_laws.specs.Parts.{begins_blocked, nearer_hit, start_stop}
+use Rattle.sweep_laws.specs.Parts.{begins_blocked, start_stop}
 use Rattle.turn_laws.specs.Places.{place_of}
 use Rattle.view_laws.specs.declared.view.Arc.{Arc}
 use Rattle.view_laws.specs.declared.view.Front.{Front}
@@ -71,17 +72,17 @@ abbrev pub IsSoFarOrNone : Point → (corners.Corner → Bool) → List corners.
 IsSoFarOrNone p test corners None = true ≡ true
 IsSoFarOrNone p test corners (Some far) = IsSoFar p test corners far
 
--- so far off, or farther
-abbrev pub is_from : Option ℕ → Point → Bool
-is_from None v = false
-is_from (Some far) v = not (nat_lt (length_of v) far)
+-- the distance is at most that of a point at v
+abbrev pub is_up_to_end_of : Option ℕ → Point → Bool
+is_up_to_end_of None v = false
+is_up_to_end_of (Some far) v = not (nat_lt (length_of v) far)
 
 -- the distance is that of a corner which passes the test, and each that does is no nearer, or behind what is first
 pub record IsReached (p : Point) (test : corners.Corner → Bool) (corners : List corners.Corner)
     (first : Option (ℕ × Seen)) (far : Option ℕ) : Type 0 where
   pub some : IsSoFarOrNone p test corners far
   pub all : (j : ℕ) → j < length corners → test (get_or corners j no_corner) ≡ true
-      → (is_from far (vector p (get_or corners j no_corner).here)
+      → (is_up_to_end_of far (vector p (get_or corners j no_corner).here)
       || is_past_first first (vector p (get_or corners j no_corner).here)) ≡ true
 
 -- what is said of direction d is so
@@ -151,11 +152,6 @@ abbrev pub is_before_end_of : Option ℕ → Point → Bool
 is_before_end_of None d = false
 is_before_end_of (Some far) d = nat_lt far (length_of d)
 
--- the distance is at most that of a point at d
-abbrev pub is_up_to_end_of : Option ℕ → Point → Bool
-is_up_to_end_of None d = false
-is_up_to_end_of (Some far) d = not (nat_lt (length_of d) far)
-
 -- the point at d is seen, by what is said of its direction
 unfoldable pub is_seen_by : Bool → Radial → Point → Bool
 is_seen_by begins radial d = not (begins || (is_hidden_by radial.front d
@@ -173,7 +169,7 @@ corner_by d (Some far) = Some (record { num = pos far; den = pos (length_of d) }
 
 -- where the ray in direction d is stopped
 unfoldable pub stop_by : Bool → Radial → Point → Option Fraction
-stop_by begins radial d = nearer_hit (hit_by d radial.front) (nearer_hit (corner_by d radial.ahead) (start_stop begins))
+stop_by begins radial d = nearer (hit_by d radial.front) (nearer (corner_by d radial.ahead) (start_stop begins))
 
 -- the number of what is first
 abbrev pub number_by : Option Front → Option ℕ

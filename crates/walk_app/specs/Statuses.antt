@@ -1,7 +1,8 @@
 -- The statuses: their numbers, and what each says on standard error.
 use Rattle.std.specs.Prelude.{ℕ, List, Option, Some, None, codes}
 use Rattle.report_spec.specs.declared.reason.Reason.{Reason}
-use Rattle.plan_file.specs.Said.{IsSaid, IsSilent, SaysWhy, message_by, plan_message_by}
+use Rattle.report_spec.specs.Messages.{message_by, plan_message_by}
+use Rattle.plan_file.specs.Said.{IsSaid, IsSilent, SaysWhy}
 use Rattle.walk_app.specs.declared.status.WalkStatus.{WalkStatus}
 use Rattle.walk_app.specs.declared.status.WalkStatus.TheVariants.{Done, BadWords, BadPlan, ReadFault, WriteFault, NoMemory, TooLong, NoOpen}
 

@@ -6,8 +6,8 @@
 //! | [`WalkSpec`] | how many walkers make how many steps, and the seed of their generators |
 //! | [`MAX_WALKERS`], [`MAX_WALK_STEPS`] | how many walkers and steps there may be |
 //!
-//! `specs/Walks.antt` says how a walker draws. Each has a generator of its own, whose stream is the walker's number, and
-//! begins at one of the starting points. Then it goes to a neighbour at each step:
+//! `specs/Walks.antt` says how a walker draws. Each has a generator of its own, whose stream is the walker's number,
+//! and begins at one of the starting points. Then it goes to a neighbour at each step:
 //!
 //! ```text
 //!   0 --- 1 --- 3      a walker on 1 has the neighbours 0 2 3, and its next draw d takes it to the one at place d mod 3;

@@ -1,7 +1,8 @@
 use Rattle.std.proofs.Common.{◌+◌, ◌∙◌, drop, sym, ap}
 use Rattle.std.specs.List.{filter_map}
 use Rattle.sight_spec.specs.Stops.{corner_hit}
-use Rattle.sight_core.specs.Hits.{nearer, min_from}
+use Rattle.sight_spec.specs.Stops.{nearer}
+use Rattle.sight_core.specs.Hits.{min_from}
 use Rattle.sight_core.proofs.Nearest.{least_from_more, least_from_all}
 use Rattle.sight_core.proofs.stops.nearest_corner.Goals as goal
 
