@@ -172,6 +172,7 @@ underway_at_start scene p arc kept before active walls is_arc d_in d_some a befo
       ∙ ap (λ t. is_open_at (from_place s) (to_place s) (start_place arc) && not t)
       (alone (to_place s == start_place arc) (start_place arc == start_place arc) (own_number (start_place arc))));
   ways = λ k d lt. absurd (omega arith);
+  to_corners = λ k d lt. absurd (omega arith);
   since = own (start_place arc);
 }
   where

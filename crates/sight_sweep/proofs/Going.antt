@@ -442,6 +442,7 @@ goes_on scene p arc kept shown before sectors events low high active w gap lt la
       holds = held_as_open scene p kept (start_place arc) high active (unlike (start_place arc) low high u.since lt)
           (record { held = r.held; known = u.holds.known });
       ways = u.ways;
+      to_corners = u.to_corners;
       since = up (start_place arc) low high u.since le;
     }
   where

@@ -38,6 +38,7 @@ use Rattle.round_laws.proofs.Endings.{along_some}
 use Rattle.round_laws.proofs.Sectors.{sector_added, no_sector_added}
 use Rattle.sight_sweep.specs.declared.blocker.Blocker.{Blocker}
 use Rattle.sight_sweep.specs.Actives.{seen, front, numbered, first_of, IsOf, IsActive, SpansAll}
+use Rattle.sight_sweep.specs.Ways.{IsToCorner}
 use Rattle.sight_sweep.specs.Events.{way_at, corner_of, place_at}
 use Rattle.sight_sweep.specs.Rounds.{is_held_at, IsUnderway, ends_among, begins_among, IsGroup, leads_ahead}
 use Rattle.sight_sweep.specs.Rounds.{leads_behind, far_of, lesser_of, least_from, is_past}
@@ -444,10 +445,11 @@ pub passed_with_sector : (scene : Scene) (p : Point) (arc : Arc) (kept shown : �
     → s.on ≡ option_map front (first_of at) → s.after ≡ option_map front (first_of after) → place_of s.way ≡ s.place
     → s.ahead ≡ least_from (leads_ahead p scene.corners) (far_of p scene.corners) None group
     → s.behind ≡ least_from (leads_behind p scene.corners) (far_of p scene.corners) None group
+    → IsToCorner scene p s
     → IsUnderway scene p arc kept start before (sectors ++ s ∷ []) (s.place + 1) after
 passed_with_sector scene p arc kept shown start before sectors s group active at after walls ways left g u held_at
     held_after on_is
-    after_is way_is ahead_is behind_is = record {
+    after_is way_is ahead_is behind_is to_corner = record {
       radials = (sector_added scene p arc kept before sectors s (map numbered active) (map numbered at)
           (map numbered after) walls left.covered u.radials held_at.held held_after.held
           (on_is ∙ first_front scene p at held_at.known) (after_is ∙ first_front scene p after held_after.known)
@@ -465,6 +467,7 @@ passed_with_sector scene p arc kept shown start before sectors s group active at
           (left.past d d_in d_some within) (behind_kind p d scene.corners d_some)))).radials;
       holds = held_as_open scene p kept start (s.place + 1) after (later start s.place u.since) held_after;
       ways = All-push (λ t. place_of t.way ≡ t.place) sectors s u.ways way_is;
+      to_corners = All-push (IsToCorner scene p) sectors s u.to_corners to_corner;
       since = more start s.place u.since;
     }
   where
@@ -498,6 +501,7 @@ passed_without_sector scene p arc kept shown start place before sectors group ac
           (left.past d d_in d_some within) past)).radials;
       holds = held_as_open scene p kept start (place + 1) after (later start place u.since) held_after;
       ways = u.ways;
+      to_corners = u.to_corners;
       since = more start place u.since;
     }
   where
@@ -594,4 +598,10 @@ pass_telling scene p arc kept shown start place before sectors s group active at
     (subst (λ n. IsActive scene p kept (λ m t. is_spanned_at (from_place t) (to_place t) n) at) (sym own) held_at)
     (subst (λ n. IsActive scene p kept (λ m t. is_open_at (from_place t) (to_place t) (n + 1)) after)
     (sym own) held_after)
-    tells.on tells.next (ap place_of tells.way ∙ sym e.place ∙ sym tells.place) tells.ahead tells.behind)
+    tells.on tells.next (ap place_of tells.way ∙ sym e.place ∙ sym tells.place) tells.ahead tells.behind
+    (record {
+      at = corner_of (get_or group 0 0);
+      within = e.within;
+      way = tells.way;
+      directed = subst IsDirected (sym tells.way) e.directed;
+    }))

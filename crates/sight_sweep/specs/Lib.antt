@@ -1,6 +1,7 @@
 pub mod Steps
 pub mod Actives
 pub mod Events
+pub mod Ways
 pub mod Tables
 pub mod Rounds
 pub mod LeftOut

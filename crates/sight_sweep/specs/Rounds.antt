@@ -21,6 +21,7 @@ use Rattle.sight_sweep.specs.declared.blocker.Blocker.{Blocker}
 use Rattle.sight_sweep.specs.Actives.{seen, numbered, IsActive}
 use Rattle.sight_sweep.specs.Arcs.{start_place, end_place}
 use Rattle.sight_sweep.specs.Events.{way_at, corner_of, place_at, IsEvent}
+use Rattle.sight_sweep.specs.Ways.{IsToCorner}
 
 -- open just before the place; at the start what ends there isn't with it
 abbrev pub is_held_at : ℕ → ℕ → ℕ → ℕ → Bool
@@ -32,6 +33,7 @@ pub record IsUnderway (scene : Scene) (p : Point) (arc : Arc) (kept : ℕ → Bo
   pub radials : AreRadialsBelow scene p arc before sectors place (map numbered active)
   pub holds : IsActive scene p kept (λ n s. is_held_at start (from_place s) (to_place s) place) active
   pub ways : All (λ s. place_of s.way ≡ s.place) sectors
+  pub to_corners : All (IsToCorner scene p) sectors
   pub since : start ≤ place
 
 -- where the loop stands: all below a place is told, and the next group begins at `from`

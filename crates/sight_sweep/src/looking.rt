@@ -1,6 +1,6 @@
 //! The view from a station.
 
-ghost use Rattle.std.specs.Prelude.{◌≡◌, ◌<◌, ◌+◌, IfOk, length};
+ghost use Rattle.std.specs.Prelude.{◌≡◌, ◌<◌, ◌+◌, All, IfOk, length};
 ghost use Rattle.sight_spec.specs.Scene.{blockers_of_scene};
 ghost use Rattle.plane_spec.specs.Vectors.{InRange, IsDirection, IsDirected};
 ghost use Rattle.front_laws.specs.Seen as order;
@@ -13,6 +13,7 @@ ghost use Rattle.sight_sweep.specs.Rounds as words;
 ghost use Rattle.sight_sweep.specs.Rounds.{spanned_so_far};
 ghost use Rattle.sight_sweep.specs.Stations.{IsStation};
 ghost use Rattle.sight_sweep.specs.Steps.{one_more};
+ghost use Rattle.sight_sweep.specs.Ways.{IsToCorner};
 
 use crate::active::put_in;
 use crate::arcs::start_of;
@@ -109,6 +110,7 @@ fn view_from(alloc: Global, table: &SceneTable, p: Point, arc: Arc) -> Result<Vi
     requires arc { IsArc arc }
     ensures view { IfOk result (λ view. IsViewOf table.now p arc view) }
     ensures under { IfOk result (λ view. IsGroundOf table.now p view.ground) }
+    ensures corners { IfOk result (λ view. All (IsToCorner table.now p) view.sectors.items) }
 {
     let left = what_to_look_at(alloc, table, p, arc)?;
     let events = events_of(alloc, table, &left.shown, p, arc)?;
@@ -145,6 +147,7 @@ pub fn look(
     requires arc { IsArc arc }
     ensures view { IfOk result (λ view. IsViewOf table.now p arc view) }
     ensures under { IfOk result (λ view. IsGroundOf table.now p view.ground) }
+    ensures corners { IfOk result (λ view. All (IsToCorner table.now p) view.sectors.items) }
     ensures counted { steps.new ≡ one_more steps.old }
 {
     steps.count_one();

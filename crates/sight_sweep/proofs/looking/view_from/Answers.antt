@@ -60,4 +60,5 @@ returns c =
           }) c.go_round.new.active.items c.requires.arc ended
           (λ d d_in d_some. ground_tells scene p d c.ground_of-under.result of c.ground_of-under.ensures);
       under = c.ground_of-under.ensures;
+      corners = ended.to_corners;
     }
