@@ -1,11 +1,13 @@
 -- What a view tells of one direction.
-use Rattle.std.specs.Prelude.{ℕ, pos, ◌<ℤ◌, ◌<◌, ◌≤◌, List, length, IfSome}
+use Rattle.std.specs.Prelude.{ℕ, pos, ◌≡◌, ◌<ℤ◌, ◌<◌, ◌≤◌, List, length, IfSome}
 use Rattle.std.proofs.Common.{get_or}
 use Rattle.plane_spec.specs.declared.Point.{Point}
 use Rattle.plane_spec.specs.Vectors.{cross_of, IsDirection, IsWithin}
 use Rattle.view_laws.specs.declared.view.Front.{Front}
 use Rattle.view_laws.specs.declared.view.Sector.{Sector}
-use Rattle.view_laws.specs.Views.{Radial}
+use Rattle.view_laws.specs.declared.view.View.{View}
+use Rattle.view_laws.specs.Views.{Radial, radial_between, radial_by}
+use Rattle.sight_sweep.specs.declared.row.Gap.{Gap}
 use Rattle.sight_sweep.specs.declared.told.Told.{Told}
 
 -- as it is defined
@@ -32,3 +34,13 @@ pub record IsCount (sectors : List Sector) (place count : ℕ) : Type 0 where
   pub within : count ≤ length sectors
   pub reached : (k : ℕ) (s : Sector) → k < count → (get_or sectors k s).place ≤ place
   pub beyond : (k : ℕ) (s : Sector) → count ≤ k → k < length sectors → place < (get_or sectors k s).place
+
+-- the place is one of a direction of the gap
+pub record IsIn (gap : Gap) (place : ℕ) : Type 0 where
+  pub from : gap.from ≤ place
+  pub upto : place < gap.upto
+
+-- in each direction of the gap the view tells of what is first, and of no corner
+abbrev pub IsGapOf : View → Gap → Type 0
+IsGapOf view gap =
+    (place : ℕ) → IsIn gap place → radial_by view.before view.sectors.items place ≡ radial_between gap.front

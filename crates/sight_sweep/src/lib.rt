@@ -7,7 +7,8 @@
 //! | [`look`] | the view from a station |
 //! | [`Target`], [`Answer`] | a point or a ray that is asked for, and what is answered |
 //! | [`sweep`] | answers all targets from one point |
-//! | [`sight_by`], [`Sighting`] | whether a view sees a point, asked of many points in turn |
+//! | [`sight_by`], [`Sighting`] | whether a view sees a point |
+//! | [`sight_near`], [`Gap`], [`first_gap`] | the same, asked of many points in turn |
 //! | [`Bearing`], [`bearing_between`] | the direction to such a point with its place, made beforehand |
 //! | [`is_led_into`] | whether a direction leads from what the station stands on into what is blocked |
 //! | [`place_of`] | the place of a direction on the circle, as a number |
@@ -80,7 +81,7 @@ pub use count::Steps;
 pub use looking::look;
 pub use places::place_of;
 pub use reach::is_led_into;
-pub use row::{Sighting, sight_by};
+pub use row::{Gap, Sighting, first_gap, sight_by, sight_near};
 pub use shared::types_are_shared;
 pub use sight_spec::Target;
 pub use table::{SceneTable, table_of};

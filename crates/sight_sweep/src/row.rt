@@ -10,14 +10,14 @@ ghost use Rattle.view_laws.specs.declared.view.Sector.{Sector};
 ghost use Rattle.view_laws.specs.Views as views;
 ghost use Rattle.view_laws.specs.Views.{AreInOrder, is_in_arc, radial_by};
 ghost use Rattle.sight_sweep.specs.Answers.{IsOther, IsSeenFrom};
-ghost use Rattle.sight_sweep.specs.Told.{IsCount, IsTold, radial};
+ghost use Rattle.sight_sweep.specs.Told.{IsCount, IsGapOf, IsIn, IsTold, radial};
 ghost use Rattle.sight_sweep.specs.declared.told.Told.{Told};
 
 use crate::bearing::{Bearing, place_by, way_between};
 use crate::reach::{count_up_to, is_led_into, is_seen_by, told_between, told_by};
 use crate::table::SceneTable;
 use plane_spec::Point;
-use view_laws::{Arc, Sector, View};
+use view_laws::{Arc, Front, Sector, View};
 
 /// Whether the sector of the number, if there is one, has a place up to this one.
 fn is_reached(sectors: &[Sector], number: usize, place: u64) -> bool
@@ -132,4 +132,116 @@ pub fn sight_by(
         is_seen: is_seen_after(view, place, count, begins, d),
         near: count,
     }
+}
+
+/// Directions between two neighbouring sectors of a view, before the first or after the last: one wall, or none, is seen
+/// first in all of them.
+#[derive(Clone, Copy, Debug)]
+pub struct Gap {
+    /// The first place that may be one of a direction of the gap.
+    pub from: u64,
+    /// The first place after all of these.
+    pub upto: u64,
+    /// What is seen first in each of the directions.
+    pub front: Option<Front>,
+    /// How many sectors come before the gap.
+    pub past: usize,
+}
+
+/// The place of the sector of the number, or one past all where there is no such sector.
+fn place_of_sector(sectors: &[Sector], number: usize) -> u64
+    ensures { number < length sectors.now → (s : Sector) → result ≡ (get_or sectors.now number s).place }
+{
+    match sectors.get(number) {
+        None => u64::MAX,
+        Some(sector) => sector.place,
+    }
+}
+
+/// The gap after so many sectors.
+fn gap_after(view: &View, count: usize) -> Gap
+    requires order { AreInOrder view.now.sectors.items }
+    requires within { count ≤ length view.now.sectors.items }
+    ensures { IsGapOf view.now result }
+{
+    let upto = place_of_sector(&view.sectors, count);
+    if count == 0 {
+        return Gap {
+            from: 0,
+            upto,
+            front: view.before,
+            past: 0,
+        };
+    }
+    let sector = &view.sectors[count - 1];
+    Gap {
+        from: sector.place.saturating_add(1),
+        upto,
+        front: sector.after,
+        past: count,
+    }
+}
+
+/// The gap before the first sector of a view.
+pub fn first_gap(view: &View) -> Gap
+    requires order { AreInOrder view.now.sectors.items }
+    ensures { IsGapOf view.now result }
+{
+    gap_after(view, 0)
+}
+
+/// Whether the place is that of a direction of the gap.
+fn is_in(gap: &Gap, place: u64) -> bool
+    ensures { result ≡ true → IsIn gap.now place }
+{
+    gap.from <= place && place < gap.upto
+}
+
+/// Whether the point at `d` is seen, where the gap is one of directions with that of `d`.
+fn is_seen_in(view: &View, place: u64, gap: &Gap, begins: bool, d: Point) -> bool
+    requires gap { IsGapOf view.now gap.now }
+    requires inside { IsIn gap.now place }
+    requires d_in { IsDirection d }
+    requires told_in { (told : Told) → radial told ≡ radial_by view.now.before view.now.sectors.items place
+        → IsTold d told }
+    ensures { result ≡ views.is_seen_by begins (radial_by view.now.before view.now.sectors.items place) d }
+{
+    let _ = view;
+    let _ = place;
+    is_seen_by(begins, told_between(gap.front), d)
+}
+
+/// What a view from `p` tells of a point in its arc: whether it is seen. The answer doesn't hang on the bearing nor on
+/// the gap, but comes sooner where the bearing is that of the point's direction, and the gap the one that was left by
+/// the answer for a point beside it. The gap that it leaves is that of the point, if a sector doesn't have its
+/// direction.
+///
+/// Cost: constant where both are so, and otherwise a division and a search in the sectors.
+pub fn sight_near(
+    table: &SceneTable,
+    p: Point,
+    arc: Arc,
+    view: &View,
+    q: Point,
+    bearing: Option<Bearing>,
+    gap: &mut Gap,
+) -> bool
+    requires p_in { InRange p }
+    requires of_plan { IsOfSoundPlan table.now }
+    requires view { IsSeenFrom table.now p arc view.now }
+    requires other { IsOther p q }
+    requires in_arc { is_in_arc arc (vector p q) ≡ true }
+    requires gap { IsGapOf view.now gap.old }
+    ensures seen { result ≡ are_in_sight table.now p q }
+    ensures gap { IsGapOf view.now gap.new }
+{
+    let d = way_between(p, q);
+    let place = place_by(bearing, d);
+    let begins = is_led_into(view.ground, d);
+    if is_in(gap, place) {
+        return is_seen_in(view, place, gap, begins, d);
+    }
+    let count = count_near(&view.sectors, place, gap.past);
+    *gap = gap_after(view, count);
+    is_seen_after(view, place, count, begins, d)
 }

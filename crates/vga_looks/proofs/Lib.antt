@@ -1,3 +1,4 @@
 mod Later
 mod ClosedRows
 mod Rows
+mod Turning

@@ -1,9 +1,9 @@
 -- The points of a grid as looks need them, and which of them are seen from one.
-use Rattle.std.specs.Prelude.{ℕ, pos, Bool, ◌&&◌, nat_lt, List, map, length}
+use Rattle.std.specs.Prelude.{ℕ, pos, ◌<◌, Bool, ◌&&◌, nat_lt, List, map, length}
 use Rattle.std.specs.List.{range_with_len}
 use Rattle.plane_spec.specs.declared.Point.{Point}
-use Rattle.plane_spec.specs.Vectors.{point}
-use Rattle.plan_spec.specs.Grid.{grid_points}
+use Rattle.plane_spec.specs.Vectors.{point, vector}
+use Rattle.plan_spec.specs.Grid.{grid_points, point_of_number}
 use Rattle.plan_spec.specs.Plan.{Plan}
 use Rattle.sight_spec.specs.Visibility.{visibility_graph}
 use Rattle.vga_grid.specs.Openness.{openness_of}
@@ -31,3 +31,11 @@ seen_later plan i count = map (is_seen_later plan i) (range_with_len 0 count)
 -- what stands for a point that there isn't
 abbrev pub nowhere : Point
 nowhere = point (pos 0) (pos 0)
+
+-- a point of the grid of a greater number
+abbrev pub IsLaterIn : Plan → ℕ → ℕ → Type 0
+IsLaterIn plan i j = (i < j) × (j < length (grid_points plan.grid))
+
+-- the way from one point of the grid to another
+abbrev pub way_between : Plan → ℕ → ℕ → Point
+way_between plan i j = vector (point_of_number plan.grid i) (point_of_number plan.grid j)

@@ -4,6 +4,7 @@
 //! |---|---|
 //! | [`graph_by_looks`] | the visibility graph of a plan |
 //! | [`later_in_sight`] | the later points of the grid that one point sees, all by one look |
+//! | [`some_in_sight`] | whether it sees each of some later points, by one look between the outermost directions to them |
 //! | [`GridTable`], [`grid_table_of`] | the points of a grid with what looks at them need: made once, used for each point |
 //! | [`later_points_are_above`] | a point of the grid sees those of greater numbers within one half turn |
 //!
@@ -14,6 +15,7 @@
 //! ```
 #![tactic(auto)]
 
+mod arcs;
 mod grid_table;
 mod laws;
 mod looks;
@@ -22,4 +24,4 @@ mod tests;
 
 pub use grid_table::{GridTable, grid_table_of};
 pub use laws::later_points_are_above;
-pub use looks::{graph_by_looks, later_in_sight};
+pub use looks::{graph_by_looks, later_in_sight, some_in_sight};

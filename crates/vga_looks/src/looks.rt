@@ -1,55 +1,58 @@
 //! The visibility graph by looks.
 
-ghost use Rattle.std.specs.Prelude.{◌≡◌, ◌<◌, IfOk, false, length, slice_index_or, true};
+ghost use Rattle.std.specs.Prelude.{◌≡◌, ◌<◌, All, IfOk, false, length, map, slice_index_or, true};
 ghost use Rattle.plan_spec.specs.Accepted.{is_sound};
 ghost use Rattle.plan_spec.specs.Grid.{grid_points};
 ghost use Rattle.sight_spec.specs.Scene.{scene_of};
 ghost use Rattle.sight_spec.specs.Visibility.{visibility_graph};
 ghost use Rattle.sight_sweep.specs.Answers.{IsSeenFrom};
 ghost use Rattle.sight_sweep.specs.Steps.{one_more};
+ghost use Rattle.sight_sweep.specs.Told.{IsGapOf};
+ghost use Rattle.view_laws.specs.Views.{is_in_arc};
 ghost use Rattle.vga_grid.specs.Rows.{graph_of};
 ghost use Rattle.vga_looks.specs.Tables as tables;
-ghost use Rattle.vga_looks.specs.Tables.{is_seen_later, nowhere, seen_later};
+ghost use Rattle.vga_looks.specs.Tables.{IsLaterIn, is_seen_later, nowhere, seen_later, way_between};
 ghost use Rattle.std.proofs.Common.{get_or};
 
+use crate::arcs::arc_to;
 use crate::grid_table::{GridTable, grid_table_of};
 use plan_check::Plan;
 use sight_core::Scene;
-use sight_sweep::{Arc, SceneTable, Sighting, Steps, View, look, sight_by, table_of};
+use sight_sweep::{Arc, Gap, SceneTable, Steps, View, first_gap, look, sight_near, table_of};
 use std::alloc::Global;
 use text_spec::NoMemory;
 use vga_grid::{BitGraph, Grid};
 
 /// Whether the later point of the number `j` is open and seen from the open point of the number `i`, by the view from
-/// there. `near` is what was answered for the point before.
+/// there. The gap is that of the point asked before, and then that of this one.
 fn sees_later(
     plan: &Plan,
     table: &SceneTable,
     grid: &GridTable,
+    arc: Arc,
     view: &View,
     i: u32,
     j: u32,
-    near: usize,
-) -> Sighting
+    gap: &mut Gap,
+) -> bool
     requires scene { table.now ≡ scene_of plan.now }
     requires grid { grid.now ≡ tables.grid_table_of plan.now }
     requires sound { is_sound plan.now ≡ true }
-    requires later { i < j }
-    requires j_in { j < length (grid_points plan.now.grid) }
+    requires later { IsLaterIn plan.now i j }
     requires looker_open { slice_index_or grid.now.are_open i false ≡ true }
-    requires view { IsSeenFrom table.now (get_or grid.now.points i nowhere) Arc.Later view.now }
-    ensures { result.is_seen ≡ is_seen_later plan.now i j }
+    requires view { IsSeenFrom table.now (get_or grid.now.points i nowhere) arc view.now }
+    requires in_arc { is_in_arc arc (way_between plan.now i j) ≡ true }
+    requires gap { IsGapOf view.now gap.old }
+    ensures seen { result ≡ is_seen_later plan.now i j }
+    ensures gap { IsGapOf view.now gap.new }
 {
     if !grid.is_open(j) {
-        return Sighting {
-            is_seen: false,
-            near,
-        };
+        return false;
     }
     let here = grid.point(i);
     let there = grid.point(j);
     let bearing = grid.bearing(i, j, there.x < here.x);
-    sight_by(table, here, Arc::Later, view, there, bearing, near)
+    sight_near(table, here, arc, view, there, bearing, gap)
 }
 
 /// Of each point of a plan's grid, whether it is a later one than the open point of the number and seen from it: one
@@ -78,13 +81,46 @@ pub fn later_in_sight(
     for _earlier in 0..i + 1 {
         row.push(false)?;
     }
-    let mut near = 0;
+    let mut gap = first_gap(&view);
     for j in i + 1..count {
-        let sighting = sees_later(plan, table, grid, &view, i, j, near);
-        near = sighting.near;
-        row.push(sighting.is_seen)?;
+        let is_seen = sees_later(plan, table, grid, Arc::Later, &view, i, j, &mut gap);
+        row.push(is_seen)?;
     }
     Ok(row)
+}
+
+/// Of some later points of a plan's grid, whether each is open and seen from the open point of the number: one look for
+/// all, between the outermost directions to them. The table is that of the plan's scene, and the grid's that of its
+/// grid. Counts one sweep, whatever it answers.
+///
+/// Cost: a look, and for each of the points a constant where those beside each other stand between the same sectors.
+pub fn some_in_sight(
+    alloc: Global,
+    plan: &Plan,
+    table: &SceneTable,
+    grid: &GridTable,
+    i: u32,
+    numbers: &[u32],
+    steps: &mut Steps,
+) -> Result<Vec<bool>, NoMemory>
+    requires scene { table.now ≡ scene_of plan.now }
+    requires grid { grid.now ≡ tables.grid_table_of plan.now }
+    requires within { i < length (grid_points plan.now.grid) }
+    requires looker_open { slice_index_or grid.now.are_open i false ≡ true }
+    requires later { All (IsLaterIn plan.now i) numbers.now }
+    ensures seen { IfOk result (λ seen. seen.items ≡ map (is_seen_later plan.now i) numbers.now) }
+    ensures counted { steps.new ≡ one_more steps.old }
+{
+    let _sound = Grid::of(plan);
+    let arc = arc_to(plan, grid, i, numbers);
+    let view = look(alloc, table, grid.point(i), arc, steps)?;
+    let mut seen = Vec::with_capacity(alloc, numbers.len())?;
+    let mut gap = first_gap(&view);
+    for k in 0..numbers.len() {
+        let is_seen = sees_later(plan, table, grid, arc, &view, i, numbers[k], &mut gap);
+        seen.push(is_seen)?;
+    }
+    Ok(seen)
 }
 
 /// The visibility graph of a plan: its nodes are the points of the grid, and it joins those that are open and see each
