@@ -1,4 +1,5 @@
 -- The measures that come from what a node reaches.
+use Rattle.std.specs.Prelude.{◌≡◌}
 use Rattle.graph_spec.specs.Graphs.{Measures, mean_depth, relative_asymmetry}
 use Rattle.step_depth.specs.declared.reach.Reach.{Reach}
 
@@ -12,3 +13,7 @@ measured r =
       mean = mean_depth r.reached r.total;
       asymmetry = relative_asymmetry r.reached r.total;
     }
+
+-- they are those of some node: the fractions are those of its total and of how many nodes it reaches
+abbrev pub IsMeasured : Measures → Type 0
+IsMeasured m = m ≡ measured (record { connectivity = m.connectivity; reached = m.reached; total = m.total })

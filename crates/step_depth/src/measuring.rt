@@ -1,16 +1,20 @@
 //! What is measured at the nodes of a graph.
 
-ghost use Rattle.std.specs.Prelude.{◌≡◌, ℕ, ◌+◌, ◌-◌, ◌*◌, ◌<◌, ◌≤◌, pos, ◌-ℤ◌, ◌*ℤ◌, length, IfOk, map};
+ghost use Rattle.std.specs.Prelude.{◌≡◌, ℕ, ◌+◌, ◌-◌, ◌*◌, ◌<◌, ◌≤◌, pos, ◌-ℤ◌, ◌*ℤ◌, length, All, IfOk, map};
 ghost use Rattle.plane_spec.specs.Fractions.{reduced};
 ghost use Rattle.plane_spec.specs.Vectors.{IsWithin};
 ghost use Rattle.graph_spec.specs.Graphs.{mean_depth, relative_asymmetry};
-ghost use Rattle.step_depth.specs.Measured.{measured};
+ghost use Rattle.step_depth.specs.Measured.{IsMeasured, measured};
 
 use crate::reach::Reach;
 use exact_geom::Frac;
 use std::alloc::Global;
 use std::marker::Model;
 use text_spec::NoMemory;
+
+/// So many measures are remembered for their fractions: in a dense graph most nodes have one of a few totals, and a
+/// fraction in lowest terms takes as long as a good part of the search from its node.
+const REMEMBERED: u64 = 256;
 
 /// What is measured at a node.
 #[derive(Clone, Copy, Debug)]
@@ -107,13 +111,48 @@ fn measure_of(reach: Reach) -> Measure
     }
 }
 
+/// A measure of no node, of which it is true.
+fn of_no_node() -> Measure
+    ensures { IsMeasured result }
+{
+    measure_of(Reach {
+        connectivity: 0,
+        reached: 0,
+        total: 0,
+    })
+}
+
+/// What is measured at a node that reaches so much. The fractions of the measure that was remembered last for such a total
+/// are taken over, if that was of as many nodes.
+fn measure_by(remembered: &mut [Measure], reach: Reach) -> Measure
+    ensures value { All IsMeasured remembered.old → result ≡ measured reach }
+    ensures remembered { All IsMeasured remembered.old → All IsMeasured remembered.new }
+{
+    let at = (reach.total % REMEMBERED) as usize;
+    if remembered.len() <= at {
+        return measure_of(reach);
+    }
+    let near = remembered[at];
+    if near.reached == reach.reached && near.total == reach.total {
+        return Measure {
+            connectivity: reach.connectivity,
+            ..near
+        };
+    }
+    let measure = measure_of(reach);
+    remembered[at] = measure;
+    measure
+}
+
 /// What is measured at nodes that reach so much, one after another.
 pub(crate) fn measure_each(alloc: Global, reaches: &[Reach]) -> Result<Vec<Measure>, NoMemory>
     ensures { IfOk result (λ ms. ms.items ≡ map measured reaches.now) }
 {
+    let mut remembered = vec![in alloc; of_no_node(); REMEMBERED as usize]?;
     let mut measures = Vec::new(alloc);
     for reach in reaches {
-        measures.push(measure_of(*reach))?;
+        let measure = measure_by(&mut remembered, *reach);
+        measures.push(measure)?;
     }
     Ok(measures)
 }
