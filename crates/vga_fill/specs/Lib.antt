@@ -5,5 +5,6 @@ pub mod Graphs
 pub mod DoneRows
 pub mod Seats
 pub mod Sights
+pub mod DirtyNumbers
 pub mod Runs
 pub mod Workers

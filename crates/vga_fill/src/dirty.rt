@@ -1,18 +1,16 @@
-//! Which pairs of a row an edit may have changed.
+//! Which pairs of grid points an edit may have changed.
 
 ghost use Rattle.std.specs.Prelude.{◌≡◌, ◌<◌, IfSome, length};
 ghost use Rattle.plan_spec.specs.Grid.{grid_points, point_of_number};
 ghost use Rattle.plan_spec.specs.Ranges.{AreBoxesInRange, IsBoxInRange};
 ghost use Rattle.plane_spec.specs.Vectors.{InRange};
 ghost use Rattle.sight_spec.specs.Dirty as dirty;
+ghost use Rattle.vga_fill.specs.Sights.{is_dirty};
 
-use crate::runs::first_dirty;
+use crate::sights::Sights;
 use exact_geom::meets_box;
-use plan_check::Plan;
 use plan_spec::Changed;
 use plane_spec::{PlanBox, Point};
-use vga_grid::Grid;
-use vga_looks::later_points_are_above;
 
 /// Whether the segment meets the box, where there is one.
 fn meets_if_there(p: Point, q: Point, area: Option<PlanBox>) -> bool
@@ -38,26 +36,21 @@ fn is_dirty_pair(boxes: Changed, p: Point, q: Point) -> bool
     meets_if_there(p, q, boxes.first) || meets_if_there(p, q, boxes.second)
 }
 
-/// Whether the pair of two grid points is dirty.
-pub(crate) fn is_dirty(grid: &Grid, boxes: Changed, i: u32, j: u32) -> bool
-    requires boxes_in { AreBoxesInRange boxes }
-    requires i_in { i < length (grid_points grid.now) }
-    requires j_in { j < length (grid_points grid.now) }
-    ensures { result ≡ dirty.is_dirty_pair boxes (point_of_number grid.now i) (point_of_number grid.now j) }
+/// The point of the number.
+pub(crate) fn place(sights: &Sights, i: u32) -> Point
+    requires { i < length (grid_points sights.now.plan.value.grid) }
+    ensures place { result ≡ point_of_number sights.now.plan.value.grid i }
+    ensures in_range { InRange result }
 {
-    is_dirty_pair(boxes, grid.place(i), grid.place(j))
+    sights.points.point(i)
 }
 
-/// Whether a pair of the row's point with a later one is dirty.
-///
-/// Cost: constant where both boxes lie below the row's point; else some steps for each line of the grid.
-pub(crate) fn is_dirty_row(plan: &Plan, boxes: Changed, row: u32) -> bool
+/// Whether the pair of two grid points is dirty.
+pub(crate) fn is_dirty_at(sights: &Sights, boxes: Changed, i: u32, j: u32) -> bool
     requires boxes_in { AreBoxesInRange boxes }
-    requires row_in { row < length (grid_points plan.now.grid) }
-    ensures { result ≡ dirty.is_dirty_row boxes (grid_points plan.now.grid) row }
+    requires i_in { i < length (grid_points sights.now.plan.value.grid) }
+    requires j_in { j < length (grid_points sights.now.plan.value.grid) }
+    ensures { result ≡ is_dirty sights.now.plan.value boxes i j }
 {
-    later_points_are_above();
-    let grid = Grid::of(plan);
-    let count = grid.count();
-    first_dirty(&grid, boxes, row, row + 1, count).is_some()
+    is_dirty_pair(boxes, place(sights, i), place(sights, j))
 }

@@ -1,11 +1,13 @@
 //! What is seen from the point of a row.
 
-ghost use Rattle.std.specs.Prelude.{◌≡◌, ◌<◌, IfOk, false, length, slice_index_or, if◌then◌else◌};
+ghost use Rattle.std.specs.Prelude.{◌≡◌, ◌<◌, All, IfOk, false, length, slice_index_or, if◌then◌else◌};
 ghost use Rattle.plan_spec.specs.Grid.{grid_points};
 ghost use Rattle.sight_spec.specs.Scene.{scene_of};
 ghost use Rattle.sight_sweep.specs.Steps.{one_more};
 ghost use Rattle.vga_grid.specs.Openness.{is_number_open};
+ghost use Rattle.vga_looks.specs.Tables.{IsLaterIn};
 ghost use Rattle.vga_fill.specs.Graphs.{is_edge_of};
+ghost use Rattle.vga_fill.specs.DirtyNumbers.{AreSeen};
 ghost use Rattle.vga_fill.specs.Sights.{IsLook};
 
 use crate::sights::Sights;
@@ -16,7 +18,7 @@ use std::alloc::Global;
 use std::snapshot::Snapshot;
 use text_spec::NoMemory;
 use vga_grid::Grid;
-use vga_looks::{grid_table_of, later_in_sight};
+use vga_looks::{grid_table_of, later_in_sight, some_in_sight};
 
 /// Makes a plan ready for the questions of all rows. The scene is the plan's.
 ///
@@ -55,6 +57,36 @@ pub(crate) fn look_from(
     later_in_sight(alloc, plan, &sights.table, &sights.points, row, steps)
 }
 
+/// Looks from the point of the row at some of greater numbers: of each whether it is seen, and nothing where the point of
+/// the row is closed. Counts a sweep exactly where it is open.
+pub(crate) fn look_at(
+    alloc: Global,
+    plan: &Plan,
+    sights: &Sights,
+    row: u32,
+    numbers: &[u32],
+    steps: &mut Steps,
+) -> Result<Vec<bool>, NoMemory>
+    requires same { plan.now ≡ sights.now.plan.value }
+    requires within { row < length (grid_points plan.now.grid) }
+    requires later { All (IsLaterIn plan.now row) numbers.now }
+    ensures look { IfOk result (λ seen. AreSeen plan.now row numbers.now seen.items) }
+    ensures counted { steps.new ≡ if is_number_open plan.now row then one_more steps.old else steps.old }
+{
+    if !sights.points.is_open(row) {
+        return Ok(Vec::new(alloc));
+    }
+    some_in_sight(
+        alloc,
+        plan,
+        &sights.table,
+        &sights.points,
+        row,
+        numbers,
+        steps,
+    )
+}
+
 /// Whether the point of the row and a later one are open and see each other, by the look from the first.
 pub(crate) fn is_edge(plan: &Plan, row: u32, seen: &[bool], j: u32) -> bool
     requires order { row < j }
@@ -63,14 +95,14 @@ pub(crate) fn is_edge(plan: &Plan, row: u32, seen: &[bool], j: u32) -> bool
     ensures { result ≡ is_edge_of plan.now row j }
 {
     let _ = plan;
-    seen_at(seen, j)
+    seen_at(seen, j as usize)
 }
 
-/// What the look answered for the point of the number, or false where it answered nothing.
-fn seen_at(seen: &[bool], j: u32) -> bool
-    ensures { result ≡ slice_index_or seen.now j false }
+/// What a look answered at this place, or false where it answered nothing.
+pub(crate) fn seen_at(seen: &[bool], k: usize) -> bool
+    ensures { result ≡ slice_index_or seen.now k false }
 {
-    match seen.get(j as usize) {
+    match seen.get(k) {
         Some(is_seen) => *is_seen,
         None => false,
     }

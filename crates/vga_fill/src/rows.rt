@@ -9,16 +9,17 @@ ghost use Rattle.sight_spec.specs.Visibility.{visibility_graph};
 ghost use Rattle.sight_sweep.specs.Steps.{one_more};
 ghost use Rattle.vga_grid.specs.Openness.{is_number_open};
 ghost use Rattle.vga_grid.specs.Rows.{graph_of};
+ghost use Rattle.vga_fill.specs.DirtyNumbers.{AreDirtyBelow, AreSeen};
 ghost use Rattle.vga_fill.specs.DoneRows.{IsDone};
 ghost use Rattle.vga_fill.specs.Graphs.{is_to_join, was_joined};
 ghost use Rattle.vga_fill.specs.Seats.{IsSeatOf, count_of, held_by, task_of, view_of};
 ghost use Rattle.vga_fill.specs.Sights.{AreBoxesOf, IsJobOf, IsLook};
 ghost use Rattle.vga_fill.specs.Views.{GoesOn};
 
-use crate::dirty::{is_dirty, is_dirty_row};
 use crate::fill::Fill;
 use crate::job::Job;
-use crate::looks::{is_edge, look_from, sights_of};
+use crate::looks::{is_edge, look_at, look_from, seen_at, sights_of};
+use crate::runs::dirty_numbers;
 use crate::seat::FillSeat;
 use crate::sights::Sights;
 use plan_check::Plan;
@@ -27,7 +28,6 @@ use sight_core::Scene;
 use sight_sweep::Steps;
 use std::alloc::Global;
 use text_spec::NoMemory;
-use vga_grid::Grid;
 
 /// Writes the edges of the row. The old graph has none.
 fn write_edges(fill: &Fill, seat: &mut FillSeat, row: u32, plan: &Plan, seen: &[bool])
@@ -50,13 +50,14 @@ fn write_edges(fill: &Fill, seat: &mut FillSeat, row: u32, plan: &Plan, seen: &[
     }
 }
 
-/// Writes the dirty pairs of the row, as edges or not.
+/// Writes the row's dirty pairs, as edges or not. The numbers are those of all of them, and a look answered of each.
 fn write_dirty(
     fill: &Fill,
     seat: &mut FillSeat,
     row: u32,
     plan: &Plan,
     boxes: Changed,
+    numbers: &[u32],
     seen: &[bool],
 )
     requires of { IsSeatOf fill.now seat.old }
@@ -64,31 +65,30 @@ fn write_dirty(
     requires within { row < count_of fill.now }
     requires plan { plan.now ≡ (task_of fill.now).after.value }
     requires boxes { AreBoxesOf (task_of fill.now) boxes }
-    requires look { IsLook plan.now row seen.now }
+    requires numbers { AreDirtyBelow plan.now boxes row (count_of fill.now) numbers.now }
+    requires look { AreSeen plan.now row numbers.now seen.now }
     ensures of { IsSeatOf fill.now seat.new }
     ensures held { held_by seat.new ≡ Some row }
     ensures more { GoesOn (view_of seat.old) (view_of seat.new) }
     ensures done { IsDone (was_joined (task_of fill.now)) (is_to_join (task_of fill.now)) (count_of fill.now)
         (view_of seat.new) row }
 {
-    let grid = Grid::of(plan);
-    for j in row + 1..fill.count {
-        if is_dirty(&grid, boxes, row, j) {
-            let joined = is_edge(plan, row, seen, j);
-            fill.write_pair(seat, row, j, joined);
-        }
+    let _ = plan;
+    let _ = boxes;
+    for k in 0..numbers.len() {
+        let joined = seen_at(seen, k);
+        fill.write_pair(seat, row, numbers[k], joined);
     }
 }
 
-/// Looks from the point of the row, writes what may have changed, and ends the holding of the row.
-fn ask_row(
+/// Looks from the point of the row, writes its edges, and ends the holding of the row. The old graph has no edges.
+fn fill_whole_row(
     alloc: Global,
     fill: &Fill,
     seat: &mut FillSeat,
     row: u32,
     plan: &Plan,
     sights: &Sights,
-    job: Job,
     steps: &mut Steps,
 ) -> Result<(), NoMemory>
     requires of { IsSeatOf fill.now seat.old }
@@ -96,24 +96,57 @@ fn ask_row(
     requires within { row < count_of fill.now }
     requires plan { plan.now ≡ (task_of fill.now).after.value }
     requires same { plan.now ≡ sights.now.plan.value }
-    requires job { IsJobOf (task_of fill.now) job }
+    requires empty { (i j : ℕ) → was_joined (task_of fill.now) i j ≡ false }
     ensures of { IsSeatOf fill.now seat.new }
     ensures row { IfOk result (λ u. held_by seat.new ≡ None) }
-    ensures still_held { IfErr result (λ e. held_by seat.new ≡ Some row) }
     ensures more { GoesOn (view_of seat.old) (view_of seat.new) }
-    ensures counted { steps.new
-        ≡ if is_number_open (task_of fill.now).after.value row then one_more steps.old else steps.old }
 {
     let seen = look_from(alloc, plan, sights, row, steps)?;
-    match job {
-        Job::All => write_edges(fill, seat, row, plan, &seen),
-        Job::Dirty(boxes) => write_dirty(fill, seat, row, plan, boxes, &seen),
-    }
+    write_edges(fill, seat, row, plan, &seen);
     fill.finish(seat);
     Ok(())
 }
 
-/// Finishes a row that the seat holds. A row without a dirty pair is left as it was.
+/// Looks from the point of the row at those that make a dirty pair with it, writes these pairs, and ends the holding of
+/// the row. A row without a dirty pair is left as it was.
+fn mend_row(
+    alloc: Global,
+    fill: &Fill,
+    seat: &mut FillSeat,
+    row: u32,
+    plan: &Plan,
+    sights: &Sights,
+    boxes: Changed,
+    steps: &mut Steps,
+) -> Result<(), NoMemory>
+    requires of { IsSeatOf fill.now seat.old }
+    requires held { held_by seat.old ≡ Some row }
+    requires within { row < count_of fill.now }
+    requires plan { plan.now ≡ (task_of fill.now).after.value }
+    requires same { plan.now ≡ sights.now.plan.value }
+    requires boxes { AreBoxesOf (task_of fill.now) boxes }
+    ensures of { IsSeatOf fill.now seat.new }
+    ensures row { IfOk result (λ u. held_by seat.new ≡ None) }
+    ensures still_held { IfErr result (λ e. held_by seat.new ≡ Some row) }
+    ensures more { GoesOn (view_of seat.old) (view_of seat.new) }
+    ensures counted { IfOk result (λ u. steps.new
+        ≡ if dirty.is_dirty_row boxes (grid_points plan.now.grid) row && is_number_open plan.now row
+        then one_more steps.old else steps.old) }
+    ensures at_most { (steps.new ≡ steps.old) ⊎ (steps.new ≡ one_more steps.old) }
+    ensures none { dirty.is_dirty_row boxes (grid_points plan.now.grid) row ≡ false → steps.new ≡ steps.old }
+{
+    let numbers = dirty_numbers(alloc, sights, boxes, row, fill.count)?;
+    if numbers.is_empty() {
+        fill.finish(seat);
+        return Ok(());
+    }
+    let seen = look_at(alloc, plan, sights, row, &numbers, steps)?;
+    write_dirty(fill, seat, row, plan, boxes, &numbers, &seen);
+    fill.finish(seat);
+    Ok(())
+}
+
+/// Finishes a row that the seat holds.
 pub(crate) fn work_row(
     alloc: Global,
     fill: &Fill,
@@ -134,13 +167,10 @@ pub(crate) fn work_row(
     ensures row { IfOk result (λ u. held_by seat.new ≡ None) }
     ensures more { GoesOn (view_of seat.old) (view_of seat.new) }
 {
-    if let Job::Dirty(boxes) = job {
-        if !is_dirty_row(plan, boxes, row) {
-            fill.finish(seat);
-            return Ok(());
-        }
+    match job {
+        Job::All => fill_whole_row(alloc, fill, seat, row, plan, sights, steps),
+        Job::Dirty(boxes) => mend_row(alloc, fill, seat, row, plan, sights, boxes, steps),
     }
-    ask_row(alloc, fill, seat, row, plan, sights, job, steps)
 }
 
 /// Finishes a row that the seat holds, after the edit that makes `after` of `before` and has these boxes: asks the
@@ -150,8 +180,8 @@ pub(crate) fn work_row(
 /// Counts one sweep where such a pair is there and the row's point is open, and else none. Without memory the row is
 /// still held, what was written is new, and at most one sweep was counted.
 ///
-/// Cost: constant where both boxes lie below the row's point, else some steps for each line of the grid; where a pair
-/// is dirty, that of making the plan ready, of a look, and of a test of each pair with the boxes.
+/// Cost: that of making the plan ready, of the tests of pairs with the boxes, and, where one is dirty, of a look between
+/// the outermost directions to the points of dirty pairs. `refill` makes the plan ready once for all rows.
 pub fn fill_row(
     alloc: Global,
     fill: &Fill,
@@ -181,19 +211,6 @@ pub fn fill_row(
     ensures none { dirty.is_dirty_row boxes (grid_points after.now.grid) row ≡ false → steps.new ≡ steps.old }
 {
     let _ = before;
-    if !is_dirty_row(after, boxes, row) {
-        fill.finish(seat);
-        return Ok(());
-    }
     let sights = sights_of(alloc, after, scene)?;
-    ask_row(
-        alloc,
-        fill,
-        seat,
-        row,
-        after,
-        &sights,
-        Job::Dirty(boxes),
-        steps,
-    )
+    mend_row(alloc, fill, seat, row, after, &sights, boxes, steps)
 }

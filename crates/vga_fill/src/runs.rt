@@ -1,16 +1,20 @@
-//! Runs of grid points that an edit's boxes are far from.
+//! The dirty pairs of a row, and runs of grid points that an edit's boxes are far from.
 
-ghost use Rattle.std.specs.Prelude.{◌≡◌, ◌<◌, ◌≤◌, ℕ, false, IfNone, IfSome, int_le, int_lt, length, true};
-ghost use Rattle.plan_spec.specs.Grid.{grid_points, point_of_number};
+ghost use Rattle.std.specs.Prelude.{◌≡◌, ◌<◌, ◌≤◌, ℕ, false, IfOk, int_le, int_lt, length, true};
+ghost use Rattle.plan_spec.specs.Grid.{grid_points};
 ghost use Rattle.plan_spec.specs.Ranges.{AreBoxesInRange};
-ghost use Rattle.sight_spec.specs.Dirty as dirty;
 ghost use Rattle.vga_fill.specs.Runs as runs;
 ghost use Rattle.vga_fill.specs.Runs.{Rises};
+ghost use Rattle.vga_fill.specs.DirtyNumbers.{AreDirtyBelow};
+ghost use Rattle.vga_fill.specs.Sights.{is_dirty};
 
-use crate::dirty::is_dirty;
+use crate::dirty::{is_dirty_at, place};
+use crate::sights::Sights;
 use plan_spec::Changed;
 use plane_spec::{PlanBox, Point};
-use vga_grid::Grid;
+use std::alloc::Global;
+use text_spec::NoMemory;
+use vga_looks::later_points_are_above;
 
 /// How many points of a run are asked one by one.
 const SHORT: u32 = 16;
@@ -78,58 +82,92 @@ fn is_beside_both(boxes: Changed, p: Point, first: Point, last: Point) -> bool
 
 /// Whether the boxes are seen to miss the segments from the row's point to those from number `from` to `last`, by where
 /// the first and the last of these stand.
-fn misses_run(grid: &Grid, boxes: Changed, row: u32, from: u32, last: u32) -> bool
-    requires rises { Rises grid.now }
+fn misses_run(sights: &Sights, boxes: Changed, row: u32, from: u32, last: u32) -> bool
+    requires rises { Rises sights.now.plan.value.grid }
     requires later { row < from }
     requires order { from ≤ last }
-    requires within { last < length (grid_points grid.now) }
-    ensures { result ≡ true → (j : ℕ) → from ≤ j → j ≤ last
-        → dirty.is_dirty_pair boxes (point_of_number grid.now row) (point_of_number grid.now j) ≡ false }
+    requires within { last < length (grid_points sights.now.plan.value.grid) }
+    ensures { result ≡ true → (j : ℕ) → from ≤ j → j ≤ last → is_dirty sights.now.plan.value boxes row j ≡ false }
 {
-    is_beside_both(boxes, grid.place(row), grid.place(from), grid.place(last))
+    is_beside_both(
+        boxes,
+        place(sights, row),
+        place(sights, from),
+        place(sights, last),
+    )
 }
 
-/// The first number from `from` up to `to`, not with it, whose point makes a dirty pair with that of the row.
-fn first_dirty_one_by_one(grid: &Grid, boxes: Changed, row: u32, from: u32, to: u32) -> Option<u32>
-    requires boxes_in { AreBoxesInRange boxes }
-    requires row_in { row < length (grid_points grid.now) }
-    requires within { to ≤ length (grid_points grid.now) }
-    ensures found { IfSome result (λ j. (from ≤ j) × (j < to)
-        × (dirty.is_dirty_pair boxes (point_of_number grid.now row) (point_of_number grid.now j) ≡ true)) }
-    ensures none { IfNone result ((j : ℕ) → from ≤ j → j < to
-        → dirty.is_dirty_pair boxes (point_of_number grid.now row) (point_of_number grid.now j) ≡ false) }
-{
-    for j in from..to {
-        if is_dirty(grid, boxes, row, j) {
-            return Some(j);
-        }
-    }
-    None
-}
-
-/// A number from `from` up to `to`, not with it, whose point makes a dirty pair with that of the row. Halves that the
-/// boxes miss aren't gone through.
-pub(crate) fn first_dirty(grid: &Grid, boxes: Changed, row: u32, from: u32, to: u32) -> Option<u32>
-    requires rises { Rises grid.now }
+/// Adds to the row's dirty numbers below `from` those from there up to `to`, not with it. They are asked one by one.
+fn add_dirty_one_by_one(
+    sights: &Sights,
+    boxes: Changed,
+    row: u32,
+    from: u32,
+    to: u32,
+    numbers: &mut Vec<u32>,
+) -> Result<(), NoMemory>
     requires boxes_in { AreBoxesInRange boxes }
     requires later { row < from }
-    requires within { to ≤ length (grid_points grid.now) }
-    requires row_in { row < length (grid_points grid.now) }
-    ensures found { IfSome result (λ j. (from ≤ j) × (j < to)
-        × (dirty.is_dirty_pair boxes (point_of_number grid.now row) (point_of_number grid.now j) ≡ true)) }
-    ensures none { IfNone result ((j : ℕ) → from ≤ j → j < to
-        → dirty.is_dirty_pair boxes (point_of_number grid.now row) (point_of_number grid.now j) ≡ false) }
+    requires order { from ≤ to }
+    requires within { to ≤ length (grid_points sights.now.plan.value.grid) }
+    requires so_far { AreDirtyBelow sights.now.plan.value boxes row from numbers.old.items }
+    ensures { IfOk result (λ u. AreDirtyBelow sights.now.plan.value boxes row to numbers.new.items) }
 {
-    if to <= from || misses_run(grid, boxes, row, from, to - 1) {
-        return None;
+    for j in from..to {
+        if is_dirty_at(sights, boxes, row, j) {
+            numbers.push(j)?;
+        }
+    }
+    Ok(())
+}
+
+/// Adds to the row's dirty numbers below `from` those from there up to `to`, not with it. Halves that the boxes miss
+/// aren't gone through.
+fn add_dirty(
+    sights: &Sights,
+    boxes: Changed,
+    row: u32,
+    from: u32,
+    to: u32,
+    numbers: &mut Vec<u32>,
+) -> Result<(), NoMemory>
+    requires rises { Rises sights.now.plan.value.grid }
+    requires boxes_in { AreBoxesInRange boxes }
+    requires later { row < from }
+    requires order { from ≤ to }
+    requires within { to ≤ length (grid_points sights.now.plan.value.grid) }
+    requires so_far { AreDirtyBelow sights.now.plan.value boxes row from numbers.old.items }
+    ensures { IfOk result (λ u. AreDirtyBelow sights.now.plan.value boxes row to numbers.new.items) }
+{
+    if from == to || misses_run(sights, boxes, row, from, to - 1) {
+        return Ok(());
     }
     if to - from <= SHORT {
-        return first_dirty_one_by_one(grid, boxes, row, from, to);
+        return add_dirty_one_by_one(sights, boxes, row, from, to, numbers);
     }
     let middle = from + (to - from) / 2;
-    let found = first_dirty(grid, boxes, row, from, middle);
-    if found.is_some() {
-        return found;
-    }
-    first_dirty(grid, boxes, row, middle, to)
+    add_dirty(sights, boxes, row, from, middle, numbers)?;
+    add_dirty(sights, boxes, row, middle, to, numbers)
+}
+
+/// The numbers of all later points that make a dirty pair with that of the row.
+///
+/// Cost: constant where both boxes lie below the row's point; else some steps for each line of the grid, and one for
+/// each point of a line that a box isn't seen to miss.
+pub(crate) fn dirty_numbers(
+    alloc: Global,
+    sights: &Sights,
+    boxes: Changed,
+    row: u32,
+    count: u32,
+) -> Result<Vec<u32>, NoMemory>
+    requires boxes_in { AreBoxesInRange boxes }
+    requires count { count ≡ length (grid_points sights.now.plan.value.grid) }
+    requires row_in { row < count }
+    ensures { IfOk result (λ numbers. AreDirtyBelow sights.now.plan.value boxes row count numbers.items) }
+{
+    later_points_are_above();
+    let mut numbers = Vec::new(alloc);
+    add_dirty(sights, boxes, row, row + 1, count, &mut numbers)?;
+    Ok(numbers)
 }

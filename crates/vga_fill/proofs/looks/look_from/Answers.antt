@@ -1,19 +1,13 @@
 use Rattle.std.proofs.Common.{refl, sym, ap, subst, ◌≡◌, ◌∙◌, length, true, false}
 use Rattle.std.proofs.lemmas.Result.{IfOk-weaker}
 use Rattle.plan_spec.specs.Grid.{grid_points}
-use Rattle.plan_spec.specs.Plan.{Plan}
 use Rattle.sight_spec.specs.Scene.{scene_of}
-use Rattle.vga_looks.specs.Tables.{OpenPoints, grid_table_of}
-use Rattle.vga_grid.specs.Openness.{is_number_open, openness_of}
+use Rattle.vga_looks.specs.Tables.{grid_table_of}
+use Rattle.vga_grid.specs.Openness.{is_number_open}
 use Rattle.vga_grid.proofs.Covered.{flag_count}
 use Rattle.vga_fill.specs.Sights.{IsLook}
-use Rattle.vga_fill.proofs.Asked.{flag_is, closed_look, seen_look}
+use Rattle.vga_fill.proofs.Asked.{open_flags, flag_is, closed_look, seen_look}
 use Rattle.vga_fill.proofs.looks.look_from.Goals as goal
-
--- the points that were made ready are those of the plan
-open_flags : (plan : Plan) (points : OpenPoints) (other : Plan) → plan ≡ other → points ≡ grid_table_of other
-    → points.are_open ≡ openness_of plan (length (grid_points plan.grid))
-open_flags plan points other same is = ap (λ g. g.are_open) (is ∙ ap grid_table_of (sym same))
 
 pub is_open-requires : goal.is_open-requires
 is_open-requires c =
